@@ -2,11 +2,12 @@
 
 ghost use Rattle.std.specs.Prelude.{◌≡◌, IfOk};
 
+use crate::list::List;
 use crate::mem::Mem;
 use std::alloc::Global;
 use std::marker::Model;
 
-/// Bytes that a key keeps: a user ID's text, a hash, capabilities or a scope.
+/// Bytes that are kept: a user ID's text, a hash, capabilities, a scope or a word of a command.
 #[derive(Clone, Debug, Drop)]
 pub struct Text {
     bytes: Vec<u8>,
@@ -35,3 +36,6 @@ impl Text {
         &self.bytes
     }
 }
+
+/// The words of a command.
+pub type Words = List<Text>;

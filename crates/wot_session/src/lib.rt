@@ -1,0 +1,6 @@
+//! A session of `wot`: lines of the input are read, answered and told.
+#![tactic(auto)]
+
+mod answer;
+
+pub use answer::{Answer, answer};

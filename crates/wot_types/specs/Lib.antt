@@ -1,0 +1,9 @@
+pub mod Command
+pub mod Fingerprint
+pub mod FprBytes
+pub mod Lines
+pub mod Ownertrust
+pub mod Session
+pub mod State
+pub mod Step
+pub mod Trust

@@ -1,0 +1,22 @@
+-- Trust values, their numbers in an ownertrust export (GnuPG) and their letters in a listing (doc/DETAILS).
+use Rattle.std.specs.Prelude.{ℕ, ◌==◌, if◌then◌else◌, Option, Some, None}
+use Rattle.wot_types.specs.declared.trust.Trust.{Trust}
+use Rattle.wot_types.specs.declared.trust.Trust.TheVariants.{Unknown, Undefined, Never, Marginal, Full, Ultimate}
+
+abbrev pub trust_number : Trust → ℕ
+trust_number Unknown = 0
+trust_number Undefined = 2
+trust_number Never = 3
+trust_number Marginal = 4
+trust_number Full = 5
+trust_number Ultimate = 6
+
+-- no trust value has the number 1, or one above 6
+abbrev pub trust_of_number : ℕ → Option Trust
+trust_of_number n =
+    if n == 0 then Some Unknown else
+    if n == 2 then Some Undefined else
+    if n == 3 then Some Never else
+    if n == 4 then Some Marginal else
+    if n == 5 then Some Full else
+    if n == 6 then Some Ultimate else None
