@@ -3,4 +3,4 @@
 
 mod answer;
 
-pub use answer::{Answer, answer};
+pub use answer::{Answer, answer_line};
