@@ -7,3 +7,12 @@ pub mod Session
 pub mod State
 pub mod Step
 pub mod Trust
+pub mod Fields
+pub mod Numbers
+pub mod Dates
+pub mod Quotes
+pub mod Records
+pub mod Runs
+pub mod NotBuilt
+pub mod Listing
+pub mod WellFormed
