@@ -1,0 +1,5 @@
+//! Whole sessions over a site in memory: what no clause says, above all that a run finds the memory it needs.
+#![tactic(auto)]
+
+#[cfg(test)]
+mod sessions;
