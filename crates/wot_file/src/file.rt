@@ -93,3 +93,75 @@ impl<I: Read, O: Write> Site for FileSite<I, O> {
 fn is_interrupted(e: &io::Error) -> bool {
     e.kind() == ErrorKind::Interrupted
 }
+
+#[cfg(test)]
+mod tests {
+    use super::*;
+    use std::test::Fail;
+
+    // Answers its calls in turn: a byte, an interruption, a byte, a fault, a byte, and then nothing.
+    #[derive(Drop)]
+    struct Stream {
+        calls: u32,
+    }
+
+    impl Stream {
+        fn answer(&mut self, len: usize) -> io::Result<usize>
+            ensures { IfOk result (λ n. n ≤ len) }
+        {
+            self.calls = self.calls.saturating_add(1);
+            match self.calls {
+                2 => Err(io::Error::from(ErrorKind::Interrupted)),
+                4 => Err(io::Error::from(ErrorKind::BrokenPipe)),
+                1 | 3 | 5 => Ok(len.min(1)),
+                _ => Ok(0),
+            }
+        }
+    }
+
+    impl Read for Stream {
+        fn read(&mut self, buf: &mut [u8]) -> io::Result<usize> {
+            let n = self.answer(buf.len())?;
+            if n > 0 {
+                buf[0] = b'a';
+            }
+            Ok(n)
+        }
+    }
+
+    impl Write for Stream {
+        fn write(&mut self, buf: &[u8]) -> io::Result<usize> {
+            self.answer(buf.len())
+        }
+
+        fn flush(&mut self) -> io::Result<()> {
+            Ok(())
+        }
+    }
+
+    #[test]
+    fn faults_are_counted(rt: HostRuntime) -> Result<(), Fail> {
+        let mut site = FileSite::new(Stream { calls: 0 }, Stream { calls: 0 });
+        let mut buf = [0u8; 4];
+        // What each call answers, and how many faults were counted by then.
+        let answers = [(Ok(1), 0), (Ok(1), 1), (Err(Failed), 2), (Ok(1), 2)];
+        for (answer, faults) in answers {
+            assert_eq!(rt; site.take(&mut buf), answer);
+            assert_eq!(rt; site.take_faults, faults);
+            assert_eq!(rt; site.tell(b"ok\n"), answer);
+            assert_eq!(rt; site.tell_faults, faults);
+        }
+        assert_eq!(rt; buf, [b'a', 0, 0, 0]);
+        // The end of the input is no fault; a write of nothing is one.
+        assert_eq!(rt; site.take(&mut buf), Ok(0));
+        assert_eq!(rt; site.tell(b"ok\n"), Err(Failed));
+        assert_eq!(rt; (site.take_faults, site.tell_faults), (2, 3));
+        Ok(())
+    }
+
+    #[test]
+    fn stands_over_the_system(rt: HostRuntime) {
+        let mut site = FileSite::new(rt.reader(), io::writer(&rt));
+        assert_eq!(rt; site.tell(b""), Ok(0));
+    }
+}
