@@ -1,5 +1,4 @@
 -- What a site over real streams shows: the streams and the counts.
-use Rattle.std.specs.Prelude.{ℕ}
 use Rattle.wot_site.specs.Seen.{Faults}
 use Rattle.wot_file.specs.declared.file.FileSite.{FileSite}
 

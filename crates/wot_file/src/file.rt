@@ -1,6 +1,6 @@
 //! A site over a reader and a writer of the system.
 
-ghost use Rattle.std.specs.Prelude.{◌≡◌, ◌<◌, ◌≤◌, length, None, IfOk, OnErr};
+ghost use Rattle.std.specs.Prelude.{◌≡◌, ◌<◌, ◌≤◌, length, None, IfOk};
 ghost use Rattle.std.specs.Io.KnownBytes.{ReadConsumes, WriteAppends};
 ghost use Rattle.wot_site.specs.Site.{HasCause, take_faults, tell_faults};
 ghost use Rattle.wot_file.specs.FileSite.{input_of, output_of, faults_of};

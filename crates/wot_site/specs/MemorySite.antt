@@ -1,5 +1,5 @@
 -- What a site in memory shows: what it has seen, and which of its calls are planned to fail.
-use Rattle.std.specs.Prelude.{ℕ, ◌≡◌, ◌≢◌, ◌+◌, ◌-◌, ◌^◌, List, drop, min, Option, Some, None}
+use Rattle.std.specs.Prelude.{ℕ, ◌≡◌, ◌≢◌, ◌+◌, ◌-◌, ◌^◌, List, drop, min, Option}
 use Rattle.std.specs.List.{Contains}
 use Rattle.wot_site.specs.Seen.{Seen, Faults}
 use Rattle.wot_site.specs.declared.memory.CallKind.{CallKind}

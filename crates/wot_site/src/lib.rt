@@ -21,12 +21,7 @@ mod tests {
 
     fn start(alloc: Global) -> Result<MemorySite, Fail> {
         let input = Vec::from_slice(alloc, INPUT)?;
-        Ok(MemorySite::new(
-            alloc,
-            input,
-            Vec::new(alloc),
-            Vec::new(alloc),
-        )?)
+        Ok(MemorySite::new(alloc, input, Vec::new(alloc), Vec::new(alloc))?)
     }
 
     #[test]
@@ -53,7 +48,11 @@ mod tests {
 
     #[test]
     fn planned_calls_fail(rt: HostRuntime) -> Result<(), Fail> {
-        let plan = vec![in rt.alloc(); (CallKind::Take, 2), (CallKind::Tell, 1), (CallKind::Tell, 3)]?;
+        let plan = vec![in rt.alloc();
+            (CallKind::Take, 2),
+            (CallKind::Tell, 1),
+            (CallKind::Tell, 3),
+        ]?;
         let mut site = start(rt.alloc())?.with_failures(plan);
         let mut buf = [0u8; 6];
         assert_eq!(rt; site.take(&mut buf), Ok(6));

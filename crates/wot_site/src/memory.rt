@@ -1,6 +1,6 @@
 //! A site in memory, whose calls fail where they are planned to.
 
-ghost use Rattle.std.specs.Prelude.{◌≡◌, ◌⊎◌, ◌↔◌, ◌<◌, ◌≤◌, ◌+◌, [], length, take, drop, min, vec_len, Some, None, IsTrue, IfOk, OnOk, OnErr, IsErr};
+ghost use Rattle.std.specs.Prelude.{◌≡◌, ◌⊎◌, ◌↔◌, ◌<◌, ◌≤◌, [], length, min, vec_len, Some, None, IsTrue, IfOk, OnOk, OnErr, IsErr};
 ghost use Rattle.std.specs.Option.{ForSome};
 ghost use Rattle.std.specs.List.{Contains};
 
@@ -16,7 +16,7 @@ pub enum CallKind {
     Tell,
 }
 
-/// A site that tells all that it sees and does. Its counts stay at 2^64 - 1.
+/// A site that tells all that it sees and does. A count of it that comes to 2^64 - 1 stays there.
 #[derive(Drop)]
 pub struct MemorySite {
     input: Vec<u8>,
@@ -40,7 +40,7 @@ pub struct MemorySite {
 }
 
 impl MemorySite {
-    ghost use Rattle.wot_site.specs.MemorySite.{seen_of, faults_of, starved_of, plan_of, cut_of, calls_of, sides_of, IsPlanned, SameRun};
+    ghost use Rattle.wot_site.specs.MemorySite.{seen_of, starved_of, plan_of, cut_of, calls_of, sides_of, IsPlanned, SameRun};
 
     /// A site over this input, with nothing told, no call planned to fail and no cut.
     pub fn new(

@@ -1,6 +1,6 @@
 //! The calls of the outside, and what each tells of itself.
 
-ghost use Rattle.std.specs.Prelude.{◌≡◌, ◌<◌, ◌≤◌, Option, length, IfOk, OnErr};
+ghost use Rattle.std.specs.Prelude.{◌<◌, ◌≤◌, Option, length, IfOk, OnErr};
 ghost use Rattle.wot_site.specs.Seen.{Seen, Faults, Honestly};
 ghost use Rattle.wot_site.specs.Site.{Takes, TakesNothing, Tells, Stays, HasCause, take_faults, tell_faults};
 
@@ -15,6 +15,7 @@ pub struct Asked {
 #[derive(Clone, Copy, Debug, PartialEq, Eq)]
 pub struct Failed;
 
+/// The input and the output of the program as one object, so that what was read and what was told have one order.
 pub trait Site {
     /// What an honest site tells of itself. A site that is not honest tells nothing.
     ghost seen: { Self → Option Seen };
