@@ -8,7 +8,7 @@ ghost use Rattle.wot_session.specs.Answer.{IsOutcome, IsReply};
 
 use crate::head::read_head;
 use crate::print;
-use crate::words::{is_blank, is_comment, read_words, without_return};
+use crate::words::{has_no_command, read_words, without_return};
 use std::alloc::Global;
 use wot_types::{Edit, Fpr, Head, Mem, Ownertrust, Query, Refusal, State, Trust, Trusts};
 
@@ -38,7 +38,7 @@ fn answer_whole(alloc: Global, state: &mut State, line: &[u8]) -> Result<Answer,
     ensures ok { IfOk result (λ a. IsOutcome a state.new (line_outcome state.old line.now)) }
     ensures err { OnErr result (state.new ≡ state.old) }
 {
-    if is_blank(line) || is_comment(line) {
+    if has_no_command(line) {
         return Ok(skip(alloc));
     }
     let words = read_words(alloc, line)?;
@@ -55,19 +55,33 @@ fn answer_edit(alloc: Global, state: &mut State, edit: Edit) -> Result<Answer, M
     ensures err { OnErr result (state.new ≡ state.old) }
 {
     let answer = accept(Vec::new(alloc))?;
-    match edit {
-        Edit::Set(fpr, trust) => set_trust(&mut state.trusts, fpr, trust)?,
-    }
+    apply(state, edit)?;
     Ok(answer)
 }
 
 fn answer_query(alloc: Global, state: &State, query: Query) -> Result<Answer, Mem>
     ensures { IfOk result (λ a. IsOutcome a state.now (accept (answer_to state.now query) state.now)) }
 {
-    let text = match query {
-        Query::Export => print::export(alloc, &state.trusts)?,
-    };
-    accept(text)
+    accept(query_text(alloc, state, query)?)
+}
+
+/// Makes an edit. Want of memory changes nothing.
+fn apply(state: &mut State, edit: Edit) -> Result<(), Mem>
+    ensures ok { OnOk result (state.new ≡ edited state.old edit) }
+    ensures err { OnErr result (state.new ≡ state.old) }
+{
+    match edit {
+        Edit::Set(fpr, trust) => set_trust(&mut state.trusts, fpr, trust),
+    }
+}
+
+/// The reply to a query before its last line.
+fn query_text(alloc: Global, state: &State, query: Query) -> Result<Vec<u8>, Mem>
+    ensures { IfOk result (λ text. text.items ≡ answer_to state.now query) }
+{
+    match query {
+        Query::Export => print::export(alloc, &state.trusts),
+    }
 }
 
 /// Sets the ownertrust of a fingerprint and keeps its disabled flag.

@@ -1,6 +1,6 @@
 //! The words of a line, and the lines that have none.
 
-ghost use Rattle.std.specs.Prelude.{◌≡◌, IfOk};
+ghost use Rattle.std.specs.Prelude.{◌≡◌, ◌||◌, IfOk};
 ghost use Rattle.wot_types.specs.Lines.{is_blank, is_comment, without_return, words_of};
 
 use std::alloc::Global;
@@ -13,15 +13,22 @@ pub fn without_return(line: &[u8]) -> &[u8]
     line.strip_suffix(b"\r").unwrap_or(line)
 }
 
+/// Whether a line is skipped: it is blank or a comment.
+pub fn has_no_command(line: &[u8]) -> bool
+    ensures { result ≡ (is_blank line.now || is_comment line.now) }
+{
+    is_blank(line) || is_comment(line)
+}
+
 /// Whether a line holds spaces alone.
-pub fn is_blank(line: &[u8]) -> bool
+fn is_blank(line: &[u8]) -> bool
     ensures { result ≡ is_blank line.now }
 {
     line.iter().all(|b| *b == b' ')
 }
 
 /// Whether the first byte of a line is `#`.
-pub fn is_comment(line: &[u8]) -> bool
+fn is_comment(line: &[u8]) -> bool
     ensures { result ≡ is_comment line.now }
 {
     matches!(line, [b'#', ..])
