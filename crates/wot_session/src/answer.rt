@@ -6,6 +6,9 @@ ghost use Rattle.wot_types.specs.Ownertrust.{with_trust};
 ghost use Rattle.wot_types.specs.Step.{accept, answer_to, edited, line_outcome, outcome, refuse, skip};
 ghost use Rattle.wot_session.specs.Answer.{IsOutcome, IsReply};
 
+#[cfg(test)]
+mod tests;
+
 use crate::head::read_head;
 use crate::print;
 use crate::words::{has_no_command, read_words, without_return};
