@@ -2,5 +2,8 @@
 #![tactic(auto)]
 
 mod answer;
+mod head;
+mod print;
+mod words;
 
 pub use answer::{Answer, answer_line};

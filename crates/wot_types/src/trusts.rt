@@ -9,6 +9,7 @@ use crate::fpr::Fpr;
 use crate::mem::Mem;
 use std::alloc::Global;
 use std::collections::BTreeMap;
+use std::collections::btree_map::Iter;
 use std::marker::Model;
 
 /// The ownertrust of each fingerprint that has some, in rising order of (length, bytes).
@@ -46,6 +47,13 @@ impl Trusts {
         ensures { result ≡ map.get self.now fpr.now }
     {
         self.kept.get(fpr).copied()
+    }
+
+    /// The entries in rising order of their fingerprints.
+    pub fn iter(&self) -> Iter<'_, Fpr, Ownertrust>
+        ensures { result ≡ map.entries self.now }
+    {
+        self.kept.iter()
     }
 
     /// Sets what is kept of a fingerprint; what is unknown and not disabled isn't kept. Want of memory changes nothing.

@@ -1,0 +1,107 @@
+//! What a command's words ask for.
+
+ghost use Rattle.std.specs.Prelude.{◌≡◌, ◌<◌, [], ◌∷◌};
+ghost use Rattle.wot_types.specs.Command.{command_named, command_of, is_fingerprint, is_letter, set_of, trust_of_letter, with_arguments};
+ghost use Rattle.wot_types.specs.Fingerprint.{fingerprint};
+ghost use Rattle.wot_session.specs.Arguments.{argument_at, none_at};
+
+use hex::FromHex;
+use wot_types::{Edit, Fpr, Head, Query, Refusal, Text, Trust, Words};
+
+/// The command that these words ask for, or the first reason to refuse them.
+pub fn read_head(words: &Words) -> Result<Head, Refusal>
+    ensures { result ≡ command_of words.now }
+{
+    match words.as_slice() {
+        [] => Err(Refusal::UnknownCommand),
+        [name, arguments @ ..] => read_command(name.as_bytes(), arguments),
+    }
+}
+
+fn read_command(name: &[u8], arguments: &[Text]) -> Result<Head, Refusal>
+    ensures { result ≡ command_named name.now arguments.now }
+{
+    match name {
+        b"trust" => read_set(arguments),
+        b"export" => read_export(arguments),
+        _ => Err(Refusal::UnknownCommand),
+    }
+}
+
+/// `trust FPR LETTER`
+fn read_set(arguments: &[Text]) -> Result<Head, Refusal>
+    ensures { result ≡ with_arguments (is_fingerprint ∷ is_letter ∷ []) arguments.now (set_of arguments.now) }
+{
+    let fpr = fingerprint_at(arguments, 1)?;
+    let trust = letter_at(arguments, 2)?;
+    none_at(arguments, 3)?;
+    Ok(Head::Edit(Edit::Set(fpr, trust)))
+}
+
+/// `export`
+fn read_export(arguments: &[Text]) -> Result<Head, Refusal>
+    ensures { result ≡ with_arguments [] arguments.now (Head.Query Query.Export) }
+{
+    none_at(arguments, 1)?;
+    Ok(Head::Query(Query::Export))
+}
+
+/// The argument of this number, counted from 1, as a fingerprint.
+fn fingerprint_at(arguments: &[Text], number: u32) -> Result<Fpr, Refusal>
+    requires { 0 < number }
+    ensures { result ≡ argument_at fingerprint arguments.now number }
+{
+    match arguments.get(number as usize - 1) {
+        Some(word) => read_fingerprint(word.as_bytes()).ok_or(Refusal::BadArgument(number)),
+        None => Err(Refusal::BadArgument(number)),
+    }
+}
+
+/// The argument of this number, counted from 1, as the letter of a trust value.
+fn letter_at(arguments: &[Text], number: u32) -> Result<Trust, Refusal>
+    requires { 0 < number }
+    ensures { result ≡ argument_at trust_of_letter arguments.now number }
+{
+    match arguments.get(number as usize - 1) {
+        Some(word) => read_letter(word.as_bytes()).ok_or(Refusal::BadArgument(number)),
+        None => Err(Refusal::BadArgument(number)),
+    }
+}
+
+/// Refuses an argument of this number, counted from 1.
+fn none_at(arguments: &[Text], number: u32) -> Result<(), Refusal>
+    requires { 0 < number }
+    ensures { result ≡ none_at arguments.now number }
+{
+    if arguments.len() < number as usize {
+        Ok(())
+    } else {
+        Err(Refusal::BadArgument(number))
+    }
+}
+
+/// The fingerprint that 40 or 64 hexadecimal digits spell.
+fn read_fingerprint(word: &[u8]) -> Option<Fpr>
+    ensures { result ≡ fingerprint word.now }
+{
+    match word.len() {
+        40 => Fpr::from_bytes(&<[u8; 20]>::from_hex(word).ok()?),
+        64 => Fpr::from_bytes(&<[u8; 32]>::from_hex(word).ok()?),
+        _ => None,
+    }
+}
+
+/// The trust value that a letter names.
+fn read_letter(word: &[u8]) -> Option<Trust>
+    ensures { result ≡ trust_of_letter word.now }
+{
+    match word {
+        b"-" | b"o" => Some(Trust::Unknown),
+        b"q" => Some(Trust::Undefined),
+        b"n" => Some(Trust::Never),
+        b"m" => Some(Trust::Marginal),
+        b"f" => Some(Trust::Full),
+        b"u" => Some(Trust::Ultimate),
+        _ => None,
+    }
+}
