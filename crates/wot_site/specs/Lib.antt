@@ -1,0 +1,4 @@
+pub mod MemorySite
+pub mod Passed
+pub mod Seen
+pub mod Site

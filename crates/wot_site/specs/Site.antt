@@ -1,0 +1,66 @@
+-- What the calls of a site do, as steps between what it tells before and after.
+use Rattle.std.specs.Prelude.{ℕ, ◌≡◌, ◌⊎◌, ◌+◌, ◌-◌, ◌^◌, ◌<◌, ◌≤◌, List, [], ◌∷◌, ◌++◌, length, take, drop, Result, IsErr}
+use Rattle.wot_site.specs.Seen.{Seen, Faults}
+use Rattle.wot_site.specs.declared.site.Asked.{Asked}
+
+-- a call of `take` here
+abbrev pub asked_at : Seen → Asked
+asked_at s = record { taken = s.taken; told = length s.told }
+
+-- after a call of `take` that moved nothing: the call is noted
+abbrev pub asked : Seen → Seen
+asked s = record s { asks = s.asks ++ asked_at s ∷ [] }
+
+-- after a call of `take` that moved n bytes
+abbrev pub after_take : ℕ → Seen → Seen
+after_take n s = record s { left = drop n s.left; taken = s.taken + n; asks = s.asks ++ asked_at s ∷ [] }
+
+-- after these bytes were told
+abbrev pub after_tell : List ℕ → Seen → Seen
+after_tell bytes s = record s { told = s.told ++ bytes }
+
+-- `take` moved the first n bytes that were left into the front of the buffer, and none only where none was left
+pub record Takes (n : ℕ) (buf : List ℕ) (old new : Seen) : Type 0 where
+  pub after : new ≡ after_take n old
+  pub front : take n buf ≡ take n old.left
+  pub within : n ≤ length old.left
+  pub last : n ≡ 0 → 0 < length buf → old.left ≡ []
+
+-- `take` failed: the call is noted, or there was no memory for the note
+abbrev pub TakesNothing : Seen → Seen → Type 0
+TakesNothing old new = (new ≡ asked old) ⊎ (new ≡ old)
+
+-- `tell` appended the first n of these bytes
+abbrev pub Tells : ℕ → List ℕ → Seen → Seen → Type 0
+Tells n bytes old new = new ≡ after_tell (take n bytes) old
+
+-- nothing was done
+abbrev pub Stays : Seen → Seen → Type 0
+Stays old new = new ≡ old
+
+-- no count fell
+pub record NoneFell (old new : Faults) : Type 0 where
+  pub take : old.take ≤ new.take
+  pub tell : old.tell ≤ new.tell
+  pub disk : old.disk ≤ new.disk
+
+-- a count rose; one at 2^64 - 1 stays there
+abbrev pub Rose : ℕ → ℕ → Type 0
+Rose old new = old < 2 ^ 64 - 1 → old < new
+
+-- no count fell, and a call fails only where its count rose
+pub record HasCause {T E : Type 0} (count : Faults → ℕ) (old new : Faults) (result : Result T E) : Type 0 where
+  pub counts : NoneFell old new
+  pub failed : IsErr result → Rose (count old) (count new)
+
+-- the count of the calls of `take` that failed
+abbrev pub take_faults : Faults → ℕ
+take_faults faults = faults.take
+
+-- the count of the calls of `tell` that failed
+abbrev pub tell_faults : Faults → ℕ
+tell_faults faults = faults.tell
+
+-- the count of the disk's calls that failed
+abbrev pub disk_faults : Faults → ℕ
+disk_faults faults = faults.disk
