@@ -1,6 +1,9 @@
 pub mod Feeds
+pub mod Looping
 pub mod Parts
 pub mod Replies
+pub mod Runs
 pub mod Sayings
 pub mod Splits
 pub mod Texts
+pub mod Turns
