@@ -11,7 +11,7 @@ use Rattle.wot_session.specs.Fed.{more, whole_from, open_from}
 use Rattle.wot_session.specs.Standing.{IsAt}
 use Rattle.wot_session.specs.Told.{Said, SaidFront}
 use Rattle.wot_session.proofs.Parts.{whole_at, open_at, whole_none, open_none}
-use Rattle.wot_session.proofs.Replies.{after_append}
+use Rattle.wot_session.proofs.Outputs.{after_append}
 use Rattle.wot_session.proofs.Sayings.{said_none, said_then, said_then_front, said_front, said_front_more}
 
 -- these bytes were given to a session at its start, the rest of them is to be fed, and the lines before it are done
@@ -36,7 +36,7 @@ module _ {first now : Option Seen} {start session : Session} {bytes rest : List 
   pub feeding_stop : (p : Progress) → IsAt start p → Honestly first now (SaidFront p (whole_from start.line bytes))
   feeding_stop p here =
       honest_weaker _ _ first now (feeding.said p here)
-        (λ x y said. rw feeding.whole at (said_front p feeding.done (whole_from session.line rest) x y said))
+      (λ x y said. rw feeding.whole at (said_front p feeding.done (whole_from session.line rest) x y said))
 
   module _ (held : Session) (part after : List ℕ) (split : slice_split is_newline rest ≡ part ∷ slice_split is_newline after)
       (line : held.line ≡ more session.line part) (held_at : (p : Progress) → IsAt session p → IsAt held p) where
@@ -67,8 +67,8 @@ module _ {first now : Option Seen} {start session : Session} {bytes rest : List 
         → (p : Progress) → IsAt start p → Honestly first next (SaidFront p (whole_from start.line bytes))
     feeding_cut next front p here =
         honest_then _ _ _ first now next (feeding.said p here) (front (after_all p feeding.done) (held_at _ (feeding.at p here)))
-          (λ x y z before cut. rw next_whole at (said_front_more p (feeding.done ++ held.line ∷ []) (whole_from (Some []) after) x z
-            (said_then_front p feeding.done (held.line ∷ []) x y z before cut)))
+        (λ x y z before cut. rw next_whole at (said_front_more p (feeding.done ++ held.line ∷ []) (whole_from (Some []) after) x z
+        (said_then_front p feeding.done (held.line ∷ []) x y z before cut)))
 
   -- no line ends in the rest
   module _ (unended : slice_split is_newline rest ≡ rest ∷ []) where

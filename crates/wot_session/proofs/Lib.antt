@@ -1,7 +1,7 @@
 pub mod Feeds
 pub mod Looping
+pub mod Outputs
 pub mod Parts
-pub mod Replies
 pub mod Runs
 pub mod Sayings
 pub mod Splits

@@ -12,7 +12,7 @@ use Rattle.wot_session.specs.Told.{Said, SaidFront}
 use Rattle.wot_session.specs.Turn.{Turned, StoppedTurn}
 use Rattle.wot_session.specs.Run.{Ended, Stopped}
 use Rattle.wot_session.proofs.Parts.{open_append}
-use Rattle.wot_session.proofs.Replies.{progress_after, progress_append}
+use Rattle.wot_session.proofs.Outputs.{progress_after, progress_append}
 use Rattle.wot_session.proofs.Runs.{Reached, ReachedEnd, reached_start, reached_more, reached_end, stop_turn, end_run, stop_end}
 
 -- these bytes were fed, and there is room for so many more
@@ -46,7 +46,7 @@ module _ {first now : Option Seen} {session : Session} {most room : ℕ} (runnin
       → ((p : Progress) → IsAt session p → Honestly now next (StoppedTurn p session.line room stop)) → Honestly first next (Stopped most stop)
   running_stop next stop stopped =
       honest_then _ _ _ first now next running.reached (rw running.line at (stopped (progress_after running.fed) running.at))
-        (λ x y z. stop_turn most room stop running.fed x y z running.bound)
+      (λ x y z. stop_turn most room stop running.fed x y z running.bound)
 
   module _ (next : Option Seen) (turned : Session) (piece : List ℕ)
       (at : (p : Progress) → IsAt session p → IsAt turned (after_all p (whole_from session.line piece)))
@@ -91,11 +91,11 @@ module _ {first now : Option Seen} {session : Session} {most : ℕ} (ending : En
   ending_ok next ended refused at said verdict =
       let here = rw ending.line at (at (progress_after ending.fed) ending.at) in
       honest_then _ _ _ first now next ending.reached (rw ending.line at (said (progress_after ending.fed) ending.at))
-        (λ x y z. end_run most refused ending.fed x y z ending.bound (verdict _ here))
+      (λ x y z. end_run most refused ending.fed x y z ending.bound (verdict _ here))
 
   pub ending_stop : (next : Option Seen) (stop : Stop) → (stop ≡ TellFault) ⊎ (stop ≡ Memory)
       → ((p : Progress) → IsAt session p → Honestly now next (SaidFront p (last_lines session.line)))
       → Honestly first next (Stopped most stop)
   ending_stop next stop kind said =
       honest_then _ _ _ first now next ending.reached (rw ending.line at (said (progress_after ending.fed) ending.at))
-        (λ x y z. stop_end most stop ending.fed x y z kind)
+      (λ x y z. stop_end most stop ending.fed x y z kind)

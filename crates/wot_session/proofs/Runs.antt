@@ -14,7 +14,7 @@ use Rattle.wot_session.specs.Fed.{whole_from, open_from, last_lines}
 use Rattle.wot_session.specs.Told.{IsFrontOf, Told, Said, SaidFront}
 use Rattle.wot_session.specs.Turn.{replies_from, Turned, StoppedTurn}
 use Rattle.wot_session.specs.Run.{IsPunctual, Ended, Stopped}
-use Rattle.wot_session.proofs.Replies.{progress_after, so_far_append, so_far_front, output_is, end_is}
+use Rattle.wot_session.proofs.Outputs.{progress_after, so_far_append, so_far_front, output_is, end_is}
 
 -- a call of `take` after these bytes were fed, and all replies to the lines that they end told
 pub record OnTime (first now : Seen) (ask : Asked) : Type 0 where
@@ -134,25 +134,28 @@ pub stop_turn : (most room : ℕ) (stop : Stop) (fed : List ℕ) (first now next
     → StoppedTurn (progress_after fed) (open_from (Some []) fed) room stop now next → Stopped most stop first next
 stop_turn most room stop fed first now next bound reached stopped =
     let input : first.left ≡ fed ++ stopped.piece ++ stopped.input.0 =
-      reached.input ∙ ap (λ left. fed ++ left) (sym stopped.input.1) ∙ sym (append_assoc fed stopped.piece stopped.input.0) in
+    reached.input ∙ ap (λ left. fed ++ left) (sym stopped.input.1) ∙ sym (append_assoc fed stopped.piece stopped.input.0) in
     let whole = so_far_front (fed ++ stopped.piece) stopped.input.0 in
     let part : so_far fed ++ stopped.text ++ stopped.is_front.0 ≡ so_far (fed ++ stopped.piece) =
-      append_assoc (so_far fed) stopped.text stopped.is_front.0 ∙ ap (λ text. so_far fed ++ text) stopped.is_front.1 ∙ sym (so_far_append fed stopped.piece) in
+    append_assoc (so_far fed) stopped.text stopped.is_front.0 ∙ ap (λ text. so_far fed ++ text) stopped.is_front.1 ∙ sym (so_far_append fed stopped.piece) in
     record {
       text = so_far fed ++ stopped.text;
-      is_front = (stopped.is_front.0 ++ whole.0,
-        sym (append_assoc (so_far fed ++ stopped.text) stopped.is_front.0 whole.0) ∙ ap (λ text. text ++ whole.0) part ∙ whole.1 ∙ ap output_of (sym input));
+      is_front = (
+        stopped.is_front.0 ++ whole.0,
+        sym (append_assoc (so_far fed ++ stopped.text) stopped.is_front.0 whole.0) ∙ ap (λ text. text ++ whole.0) part ∙ whole.1 ∙ ap output_of (sym input),
+      );
       told = joined fed stopped.text first now next reached stopped.told;
       punctual = punctual first next (timely_asked fed first now next stopped.text reached stopped.told stopped.asks);
       read_fault = λ is.
-        let same = stopped.read_fault is in
-        let taken : next.taken - first.taken ≡ length fed = omega (arith, same.0, reached.taken) in
-        (omega (arith, taken), same.1 ∙ reached.told ∙ ap (λ bytes. first.told ++ so_far bytes) (sym (fed_is fed now.left first.left _ (sym reached.input) taken)));
+          let same = stopped.read_fault is in
+          let taken : next.taken - first.taken ≡ length fed = omega (arith, same.0, reached.taken) in
+          (omega (arith, taken), same.1 ∙ reached.told ∙ ap (λ bytes. first.told ++ so_far bytes) (sym (fed_is fed now.left first.left _ (sym reached.input) taken)));
       too_long = λ is.
-        let over = stopped.too_long is in
-        (omega (arith, over.0, ap length reached.input, length-append fed now.left),
-         joined fed _ first now next reached over.1 ∙ ap (λ text. first.told ++ text) (sym (so_far_append fed (take room now.left)))
-         ∙ ap (λ bytes. first.told ++ so_far bytes) (sym (first_bytes)));
+          let over = stopped.too_long is in (
+            omega (arith, over.0, ap length reached.input, length-append fed now.left),
+            joined fed _ first now next reached over.1 ∙ ap (λ text. first.told ++ text) (sym (so_far_append fed (take room now.left)))
+                ∙ ap (λ bytes. first.told ++ so_far bytes) (sym (first_bytes)),
+          );
     }
   where
     first_bytes : take most first.left ≡ fed ++ take room now.left
@@ -192,6 +195,7 @@ stop_end most stop fed first now next kind end said =
     no_read : (stop ≡ TellFault) ⊎ (stop ≡ Memory) → stop ≡ ReadFault → ⊥
     no_read (inl tell) is = cc
     no_read (inr memory) is = cc
+
     no_long : (stop ≡ TellFault) ⊎ (stop ≡ Memory) → stop ≡ TooLong → ⊥
     no_long (inl tell) is = cc
     no_long (inr memory) is = cc

@@ -3,7 +3,7 @@ use Rattle.std.proofs.Common.{◌≡◌, ℕ, List, [], ◌++◌, Option, sym, s
 use Rattle.wot_types.specs.Session.{Progress, after_all, replies}
 use Rattle.wot_site.specs.Seen.{Seen}
 use Rattle.wot_session.specs.Told.{IsFrontOf, ToldFront, Told, Said, SaidFront}
-use Rattle.wot_session.proofs.Replies.{replies_append}
+use Rattle.wot_session.proofs.Outputs.{replies_append}
 use Rattle.wot_session.proofs.Texts.{told_none, told_then, told_then_front, told_front, front_more}
 
 pub said_none : (p : Progress) (x : Seen) → Said p [] x x

@@ -26,9 +26,11 @@ turn_failed p line room x y nothing = record {
     told_same : TakesNothing x y → y.told ≡ x.told
     told_same (inl noted) = ap (λ (s : Seen). s.told) noted
     told_same (inr stays) = ap (λ (s : Seen). s.told) stays
+
     taken_same : TakesNothing x y → y.taken ≡ x.taken
     taken_same (inl noted) = ap (λ (s : Seen). s.taken) noted
     taken_same (inr stays) = ap (λ (s : Seen). s.taken) stays
+
     asks_same : TakesNothing x y → (y.asks ≡ x.asks ++ asked_at x ∷ []) ⊎ (y.asks ≡ x.asks)
     asks_same (inl noted) = inl (ap (λ (s : Seen). s.asks) noted)
     asks_same (inr stays) = inr (ap (λ (s : Seen). s.asks) stays)
@@ -72,6 +74,7 @@ module _ (n : ℕ) (buf : List ℕ) {x y : Seen} (takes : Takes n buf x y) where
       no_read : (stop ≡ TellFault) ⊎ (stop ≡ Memory) → stop ≡ ReadFault → ⊥
       no_read (inl tell) is = cc
       no_read (inr memory) is = cc
+
       no_long : (stop ≡ TellFault) ⊎ (stop ≡ Memory) → stop ≡ TooLong → ⊥
       no_long (inl tell) is = cc
       no_long (inr memory) is = cc

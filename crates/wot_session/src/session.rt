@@ -61,10 +61,13 @@ impl Session {
 
     // Answers the open line, tells the reply and begins the next line.
     fn answer<S: Site>(&mut self, site: &mut S) -> Result<(), Stop>
-        ensures at { OnOk result ((p : Progress) → IsAt self.old p → IsAt self.new (after_all p (self.old.line ∷ []))) }
+        ensures at { OnOk result ((p : Progress) → IsAt self.old p
+            → IsAt self.new (after_all p (self.old.line ∷ []))) }
         ensures line { OnOk result (self.new.line ≡ Some []) }
-        ensures told { OnOk result ((p : Progress) → IsAt self.old p → Honestly (S.seen site.old) (S.seen site.new) (Said p (self.old.line ∷ []))) }
-        ensures front { OnErr result ((p : Progress) → IsAt self.old p → Honestly (S.seen site.old) (S.seen site.new) (SaidFront p (self.old.line ∷ []))) }
+        ensures told { OnOk result ((p : Progress) → IsAt self.old p
+            → Honestly (S.seen site.old) (S.seen site.new) (Said p (self.old.line ∷ []))) }
+        ensures front { OnErr result ((p : Progress) → IsAt self.old p
+            → Honestly (S.seen site.old) (S.seen site.new) (SaidFront p (self.old.line ∷ []))) }
         ensures cause { StopsTelling (S.faults site.old) (S.faults site.new) result }
     {
         let answer = match answer_line(self.alloc, &mut self.state, self.line.get()) {
@@ -81,10 +84,13 @@ impl Session {
 
     /// Answers each line that these bytes end, one after the other; what they leave open is kept.
     pub fn feed<S: Site>(&mut self, site: &mut S, bytes: &[u8]) -> Result<(), Stop>
-        ensures at { OnOk result ((p : Progress) → IsAt self.old p → IsAt self.new (after_all p (whole_from self.old.line bytes.now))) }
+        ensures at { OnOk result ((p : Progress) → IsAt self.old p
+            → IsAt self.new (after_all p (whole_from self.old.line bytes.now))) }
         ensures line { OnOk result (self.new.line ≡ open_from self.old.line bytes.now) }
-        ensures told { OnOk result ((p : Progress) → IsAt self.old p → Honestly (S.seen site.old) (S.seen site.new) (Said p (whole_from self.old.line bytes.now))) }
-        ensures front { OnErr result ((p : Progress) → IsAt self.old p → Honestly (S.seen site.old) (S.seen site.new) (SaidFront p (whole_from self.old.line bytes.now))) }
+        ensures told { OnOk result ((p : Progress) → IsAt self.old p
+            → Honestly (S.seen site.old) (S.seen site.new) (Said p (whole_from self.old.line bytes.now))) }
+        ensures front { OnErr result ((p : Progress) → IsAt self.old p
+            → Honestly (S.seen site.old) (S.seen site.new) (SaidFront p (whole_from self.old.line bytes.now))) }
         ensures cause { StopsTelling (S.faults site.old) (S.faults site.new) result }
     {
         let mut rest = bytes;
@@ -102,9 +108,12 @@ impl Session {
 
     /// Answers the last line at the end of the input; an empty rest is no line.
     pub fn finish<S: Site>(&mut self, site: &mut S) -> Result<(), Stop>
-        ensures at { OnOk result ((p : Progress) → IsAt self.old p → IsAt self.new (after_all p (last_lines self.old.line))) }
-        ensures told { OnOk result ((p : Progress) → IsAt self.old p → Honestly (S.seen site.old) (S.seen site.new) (Said p (last_lines self.old.line))) }
-        ensures front { OnErr result ((p : Progress) → IsAt self.old p → Honestly (S.seen site.old) (S.seen site.new) (SaidFront p (last_lines self.old.line))) }
+        ensures at { OnOk result ((p : Progress) → IsAt self.old p
+            → IsAt self.new (after_all p (last_lines self.old.line))) }
+        ensures told { OnOk result ((p : Progress) → IsAt self.old p
+            → Honestly (S.seen site.old) (S.seen site.new) (Said p (last_lines self.old.line))) }
+        ensures front { OnErr result ((p : Progress) → IsAt self.old p
+            → Honestly (S.seen site.old) (S.seen site.new) (SaidFront p (last_lines self.old.line))) }
         ensures cause { StopsTelling (S.faults site.old) (S.faults site.new) result }
     {
         if self.line.is_empty() {
@@ -115,19 +124,17 @@ impl Session {
 
     /// Takes once and answers the lines that the bytes end, of which only so many as there is room for are read.
     /// It answers how many came, and 0 at the end of the input.
-    pub fn turn<S: Site>(
-        &mut self,
-        site: &mut S,
-        buf: &mut [u8],
-        room: u64,
-    ) -> Result<usize, Stop>
+    pub fn turn<S: Site>(&mut self, site: &mut S, buf: &mut [u8], room: u64) -> Result<usize, Stop>
         requires { 0 < length buf.old }
         ensures fits { IfOk result (λ n. n ≤ length buf.new) }
         ensures room { IfOk result (λ n. n ≤ room) }
-        ensures at { IfOk result (λ n. (p : Progress) → IsAt self.old p → IsAt self.new (after_all p (whole_from self.old.line (take n buf.new)))) }
+        ensures at { IfOk result (λ n. (p : Progress) → IsAt self.old p
+            → IsAt self.new (after_all p (whole_from self.old.line (take n buf.new)))) }
         ensures line { IfOk result (λ n. self.new.line ≡ open_from self.old.line (take n buf.new)) }
-        ensures turned { IfOk result (λ n. (p : Progress) → IsAt self.old p → Honestly (S.seen site.old) (S.seen site.new) (Turned p self.old.line (take n buf.new))) }
-        ensures stopped { IfErr result (λ stop. (p : Progress) → IsAt self.old p → Honestly (S.seen site.old) (S.seen site.new) (StoppedTurn p self.old.line room stop)) }
+        ensures turned { IfOk result (λ n. (p : Progress) → IsAt self.old p
+            → Honestly (S.seen site.old) (S.seen site.new) (Turned p self.old.line (take n buf.new))) }
+        ensures stopped { IfErr result (λ stop. (p : Progress) → IsAt self.old p
+            → Honestly (S.seen site.old) (S.seen site.new) (StoppedTurn p self.old.line room stop)) }
         ensures cause { HasStopCause (S.faults site.old) (S.faults site.new) result }
     {
         let n = match site.take(buf) {

@@ -17,11 +17,11 @@ loop-n-preserved g c = record {
 pub returns-in-Ok-finish-clause-ended : goal.returns-in-Ok-finish-clause-ended
 returns-in-Ok-finish-clause-ended g c =
     ending_ok (running_end c.loop-n.invariant.running _ c.turn.new.self (take c.in-Ok.n c.turn.new.buf)
-        c.in-Ok.ensures.at c.in-Ok.ensures.line c.in-Ok.ensures.turned (ap (λ n. take n c.turn.new.buf) c.if-n-eq0.true))
-      _ c.finish.new.self c.is_refused.result c.in-Ok-finish.ensures.at c.in-Ok-finish.ensures.told c.is_refused.ensures
+    c.in-Ok.ensures.at c.in-Ok.ensures.line c.in-Ok.ensures.turned (ap (λ n. take n c.turn.new.buf) c.if-n-eq0.true))
+    _ c.finish.new.self c.is_refused.result c.in-Ok-finish.ensures.at c.in-Ok-finish.ensures.told c.is_refused.ensures
 
 pub returns-clause-stopped : goal.returns-clause-stopped
 returns-clause-stopped g c =
     ending_stop (running_end c.loop-n.invariant.running _ c.turn.new.self (take c.in-Ok.n c.turn.new.buf)
-        c.in-Ok.ensures.at c.in-Ok.ensures.line c.in-Ok.ensures.turned (ap (λ n. take n c.turn.new.buf) c.if-n-eq0.true))
-      _ c.in-Err-finish.stop c.in-Err-finish.ensures.cause.kinds c.in-Err-finish.ensures.front
+    c.in-Ok.ensures.at c.in-Ok.ensures.line c.in-Ok.ensures.turned (ap (λ n. take n c.turn.new.buf) c.if-n-eq0.true))
+    _ c.in-Err-finish.stop c.in-Err-finish.ensures.cause.kinds c.in-Err-finish.ensures.front

@@ -9,7 +9,7 @@ returns-in-Err-clause-front g c = feeding_stop c.loop-line.invariant.feeding
 pub returns-in-Err-answer-clause-front : goal.returns-in-Err-answer-clause-front
 returns-in-Err-answer-clause-front g c =
     feeding_cut c.loop-line.invariant.feeding c.hold.new.self c.in-Some.line.now c.in-Some.after.now c.in-Some.ensures.split
-      c.in_default-hold.ensures.line c.hold.ensures.at _ c.in-Err-answer.ensures.front
+    c.in_default-hold.ensures.line c.hold.ensures.at _ c.in-Err-answer.ensures.front
 
 pub loop-line-preserved : goal.loop-line-preserved
 loop-line-preserved g c = record {
