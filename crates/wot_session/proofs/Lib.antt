@@ -1,2 +1,11 @@
+pub mod Feeds
 pub mod LineLemmas
+pub mod Looping
+pub mod Outputs
+pub mod Parts
 pub mod Replies
+pub mod Runs
+pub mod Sayings
+pub mod Splits
+pub mod Texts
+pub mod Turns

@@ -1,0 +1,22 @@
+-- The exit status and the line on standard error of each way to end.
+use Rattle.std.specs.Prelude.{ℕ, List, [], codes}
+use Rattle.wot_session.specs.declared.status.Status.{Status}
+use Rattle.wot_session.specs.declared.status.Status.TheVariants.{Done, Refused, Usage, ReadFault, TellFault, Memory, TooLong}
+
+abbrev pub code_of : Status → ℕ
+code_of Done = 0
+code_of Refused = 1
+code_of Usage = 2
+code_of ReadFault = 3
+code_of TellFault = 4
+code_of Memory = 7
+code_of TooLong = 8
+
+abbrev pub line_of : Status → List ℕ
+line_of Done = []
+line_of Refused = []
+line_of Usage = codes "usage: wot [--workers N] [WORD]..."
+line_of ReadFault = codes "wot: read fault"
+line_of TellFault = codes "wot: write fault"
+line_of Memory = codes "wot: out of memory"
+line_of TooLong = codes "wot: input too long"
