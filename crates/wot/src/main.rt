@@ -2,6 +2,7 @@
 #![tactic(auto)]
 
 use std::alloc::AllocError;
+use std::env::Env;
 use std::io::{ErrorKind, writer};
 use std::process::ExitCode;
 use std::{env, io};
