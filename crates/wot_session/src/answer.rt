@@ -31,13 +31,13 @@ pub fn answer_line(alloc: Global, state: &mut State, line: Option<&[u8]>) -> Res
     ensures err { OnErr result (state.new ≡ state.old) }
 {
     match line {
-        Some(line) => answer_whole(alloc, state, without_return(line)),
+        Some(line) => answer_within_limit(alloc, state, without_return(line)),
         None => refuse(alloc, &Refusal::LineTooLong),
     }
 }
 
 /// Answers a line within the limit, without its carriage return.
-fn answer_whole(alloc: Global, state: &mut State, line: &[u8]) -> Result<Answer, Mem>
+fn answer_within_limit(alloc: Global, state: &mut State, line: &[u8]) -> Result<Answer, Mem>
     ensures ok { IfOk result (λ a. IsOutcome a state.new (line_outcome state.old line.now)) }
     ensures err { OnErr result (state.new ≡ state.old) }
 {

@@ -18,6 +18,7 @@ pub fn read_head(words: &Words) -> Result<Head, Refusal>
     }
 }
 
+/// The first word names the command, and the others are its arguments.
 fn read_command(name: &[u8], arguments: &[Text]) -> Result<Head, Refusal>
     ensures { result ≡ command_named name.now arguments.now }
 {

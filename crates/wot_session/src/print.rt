@@ -36,6 +36,7 @@ pub fn export(alloc: Global, trusts: &Trusts) -> Result<Vec<u8>, Mem>
     Ok(text)
 }
 
+/// A fingerprint and the number of what is kept of it, with a colon after each.
 fn push_entry(alloc: Global, text: &mut Vec<u8>, fpr: &Fpr, kept: Ownertrust) -> Result<(), Mem>
     ensures { OnOk result (text.new.items ≡ text.old.items ++ ownertrust_line (fpr.now, kept)) }
 {
@@ -47,6 +48,7 @@ fn push_entry(alloc: Global, text: &mut Vec<u8>, fpr: &Fpr, kept: Ownertrust) ->
     Ok(())
 }
 
+/// A number in decimal.
 fn push_number(alloc: Global, text: &mut Vec<u8>, number: u32) -> Result<(), Mem>
     ensures { OnOk result (text.new.items ≡ text.old.items ++ decimal number) }
 {

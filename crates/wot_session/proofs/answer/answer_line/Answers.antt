@@ -1,4 +1,3 @@
-use Rattle.std.proofs.Common.{rules}
 use Rattle.wot_types.specs.Step.{outcome, refuse}
 use Rattle.wot_types.specs.declared.command.Refusal.TheVariants.{LineTooLong}
 use Rattle.wot_session.proofs.Replies.{reply_at}

@@ -1,7 +1,4 @@
-use Rattle.std.proofs.Common.{subst}
-use Rattle.std.specs.Prelude.{IfOk}
 use Rattle.wot_types.specs.Step.{accept}
-use Rattle.wot_session.specs.Answer.{IsOutcome}
 use Rattle.wot_session.proofs.Replies.{reply_at}
 use Rattle.wot_session.proofs.answer.answer_query.Goals as goal
 

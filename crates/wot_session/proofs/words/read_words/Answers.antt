@@ -3,7 +3,7 @@ use Rattle.std.specs.Iterator.{Yields}
 use Rattle.std.proofs.lemmas.Iterator.{YieldsList}
 use Rattle.std.proofs.lemmas.Iterator.Consumers.{YieldsList-end, YieldsList-from_filter, YieldsList-at}
 use Rattle.std.proofs.lemmas.Iterator.Splits.{YieldsList-from_slice_split}
-use Rattle.wot_types.specs.Lines.{is_space, words_of}
+use Rattle.wot_types.specs.Lines.{is_space}
 use Rattle.wot_session.proofs.words.read_words.Goals as goal
 
 -- at the end of a loop its items are those of the chain

@@ -1,9 +1,8 @@
-use Rattle.std.proofs.Common.{◌≡◌, ◌∙◌, sym, ap}
-use Rattle.std.specs.Prelude.{IfOk, Err}
+use Rattle.std.proofs.Common.{◌∙◌, sym, ap}
 use Rattle.wot_types.specs.Command.{command_of}
 use Rattle.wot_types.specs.Step.{refuse}
 use Rattle.wot_session.proofs.Replies.{reply_at}
-use Rattle.wot_session.proofs.answer.answer_whole.Goals as goal
+use Rattle.wot_session.proofs.answer.answer_within_limit.Goals as goal
 
 pub returns-then-has_no_command-clause-ok : goal.returns-then-has_no_command-clause-ok
 returns-then-has_no_command-clause-ok c =
