@@ -1,5 +1,5 @@
 -- The loop of a run, over what its site tells.
-use Rattle.std.proofs.Common.{◌≡◌, ◌⊎◌, ℕ, ◌+◌, ◌-◌, ◌≤◌, Bool, List, [], ◌++◌, length, Option, Some, refl, sym, ap, ◌∙◌, length-append, arith}
+use Rattle.std.proofs.Common.{◌≡◌, ◌⊎◌, ℕ, ◌+◌, ◌-◌, ◌≤◌, Bool, List, [], ◌++◌, length, Option, Some, sym, ap, ◌∙◌, length-append, arith}
 use Rattle.wot_types.specs.Session.{Progress, at_start, after_all}
 use Rattle.wot_site.specs.Seen.{Seen, Honestly}
 use Rattle.wot_site.proofs.Honest.{honest_start, honest_then}

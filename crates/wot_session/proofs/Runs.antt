@@ -1,18 +1,18 @@
 -- How far a run has come: what was fed, and that each call of `take` came on time.
-use Rattle.std.proofs.Common.{◌≡◌, ◌⊎◌, inl, inr, ℕ, ◌+◌, ◌-◌, ◌<◌, ◌≤◌, Bool, List, [], ◌∷◌, ◌++◌, length, take, drop, Option, Some, refl, sym, ap, ◌∙◌, subst, append_assoc, length-append, arith}
+use Rattle.std.proofs.Common.{◌≡◌, ◌⊎◌, inl, inr, ℕ, ◌+◌, ◌-◌, ◌≤◌, Bool, List, [], ◌∷◌, ◌++◌, length, take, Some, refl, sym, ap, ◌∙◌, append_assoc, length-append, arith}
 use Rattle.std.specs.List.{All}
 use Rattle.std.proofs.lemmas.List.{append-nil}
 use Rattle.std.proofs.lemmas.List.Elements.{All-nil, All-push, All-weaker}
 use Rattle.std.proofs.Math.Seq.{take-append_seam, take-append-add}
-use Rattle.wot_types.specs.Session.{Progress, at_start, after_all, replies, output_of, has_refusal, so_far}
+use Rattle.wot_types.specs.Session.{Progress, after_all, output_of, has_refusal, so_far}
 use Rattle.wot_site.specs.Seen.{Seen}
 use Rattle.wot_site.specs.Site.{asked_at}
 use Rattle.wot_site.specs.declared.site.Asked.{Asked}
 use Rattle.wot_session.specs.declared.stop.Stop.{Stop}
 use Rattle.wot_session.specs.declared.stop.Stop.TheVariants.{ReadFault, TellFault, Memory, TooLong}
-use Rattle.wot_session.specs.Fed.{whole_from, open_from, last_lines}
-use Rattle.wot_session.specs.Told.{IsFrontOf, Told, Said, SaidFront}
-use Rattle.wot_session.specs.Turn.{replies_from, Turned, StoppedTurn}
+use Rattle.wot_session.specs.Fed.{open_from, last_lines}
+use Rattle.wot_session.specs.Told.{IsFrontOf, Said, SaidFront}
+use Rattle.wot_session.specs.Turn.{Turned, StoppedTurn}
 use Rattle.wot_session.specs.Run.{IsPunctual, Ended, Stopped}
 use Rattle.wot_session.proofs.Outputs.{progress_after, so_far_append, so_far_front, output_is, end_is}
 

@@ -1,8 +1,8 @@
 -- Replies to some lines, and then to others.
-use Rattle.std.proofs.Common.{◌≡◌, ℕ, List, [], ◌++◌, Option, sym, subst}
-use Rattle.wot_types.specs.Session.{Progress, after_all, replies}
+use Rattle.std.proofs.Common.{ℕ, List, [], ◌++◌, Option}
+use Rattle.wot_types.specs.Session.{Progress, after_all}
 use Rattle.wot_site.specs.Seen.{Seen}
-use Rattle.wot_session.specs.Told.{IsFrontOf, ToldFront, Told, Said, SaidFront}
+use Rattle.wot_session.specs.Told.{Said, SaidFront}
 use Rattle.wot_session.proofs.Outputs.{replies_append}
 use Rattle.wot_session.proofs.Texts.{told_none, told_then, told_then_front, told_front, front_more}
 

@@ -1,10 +1,10 @@
 -- Texts that are told one after the other.
-use Rattle.std.proofs.Common.{◌≡◌, ℕ, ◌+◌, ◌-◌, List, [], ◌++◌, length, take, drop, refl, sym, ap, ◌∙◌, append_assoc}
+use Rattle.std.proofs.Common.{ℕ, ◌+◌, ◌-◌, List, [], ◌++◌, length, take, drop, refl, sym, ap, ◌∙◌, append_assoc}
 use Rattle.std.proofs.lemmas.List.{append-nil, take_rest, take-append-drop}
 use Rattle.std.proofs.Math.Seq.{take-add}
 use Rattle.wot_site.specs.Seen.{Seen}
 use Rattle.wot_site.specs.Site.{Tells, Stays}
-use Rattle.wot_session.specs.Told.{IsFrontOf, Told, ToldFront}
+use Rattle.wot_session.specs.Told.{Told, ToldFront}
 
 -- before the first byte
 pub told_none : (x : Seen) → Told [] x x

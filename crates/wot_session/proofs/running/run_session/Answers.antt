@@ -1,4 +1,4 @@
-use Rattle.std.proofs.Common.{ap, take, arith}
+use Rattle.std.proofs.Common.{ap, take}
 use Rattle.std.proofs.lemmas.List.{length-take-le}
 use Rattle.wot_site.proofs.Counts.{fell_then}
 use Rattle.wot_session.proofs.Looping.{running_stop, running_more, running_end, ending_ok, ending_stop}

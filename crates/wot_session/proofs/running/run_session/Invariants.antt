@@ -1,4 +1,3 @@
-use Rattle.std.proofs.Common.{◌≡◌, length}
 use Rattle.wot_site.specs.Site.{NoneFell}
 use Rattle.wot_session.proofs.Looping.{Running}
 use Rattle.wot_session.proofs.running.run_session.Given as goal
