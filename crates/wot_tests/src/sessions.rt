@@ -19,7 +19,12 @@ struct Row {
     status: Status,
 }
 
-fn site(alloc: Global, input: &str, fails: Vec<(CallKind, u32)>, cut: u32) -> Result<MemorySite, Mem> {
+fn site(
+    alloc: Global,
+    input: &str,
+    fails: Vec<(CallKind, u32)>,
+    cut: u32,
+) -> Result<MemorySite, Mem> {
     let input = Vec::from_slice(alloc, input.as_bytes())?;
     let site = MemorySite::new(alloc, input, Vec::new(alloc), Vec::new(alloc))?;
     Ok(site.with_failures(fails).with_cut(cut.max(1)))
@@ -31,7 +36,11 @@ fn check<R: Abort>(rt: &R, alloc: Global, row: &Row, most: u64) -> Result<(), Me
         let mut site = site(alloc, row.input, Vec::new(alloc), cut)?;
         let status = run_within(alloc, &[], &mut site, most);
         assert_eq!(rt; status, row.status, "status of {name}, {cut} bytes a call");
-        assert_eq!(rt; site.told(), row.told.as_bytes(), "told by {name}, {cut} bytes a call");
+        assert_eq!(rt;
+            site.told(),
+            row.told.as_bytes(),
+            "told by {name}, {cut} bytes a call"
+        );
         assert_eq!(rt; site.starved(), 0);
     }
     Ok(())
@@ -46,50 +55,54 @@ fn check_all<R: Abort>(rt: &R, alloc: Global, rows: &[Row]) -> Result<(), Mem> {
 
 #[test]
 fn ownertrust_is_set_and_exported(rt: HostRuntime) -> Result<(), Mem> {
-    check_all(&rt, rt.alloc(), &[
-        Row {
-            name: "no input",
-            input: "",
-            told: "",
-            status: Status::Done,
-        },
-        Row {
-            name: "two entries",
-            input: "trust 00000000000000000000000000000000000000AA u\n\
+    check_all(
+        &rt,
+        rt.alloc(),
+        &[
+            Row {
+                name: "no input",
+                input: "",
+                told: "",
+                status: Status::Done,
+            },
+            Row {
+                name: "two entries",
+                input: "trust 00000000000000000000000000000000000000AA u\n\
                     trust 00000000000000000000000000000000000000BB m\n\
                     export\n",
-            told: "ok\nok\n\
+                told: "ok\nok\n\
                    00000000000000000000000000000000000000AA:6:\n\
                    00000000000000000000000000000000000000BB:4:\n\
                    ok\n",
-            status: Status::Done,
-        },
-        Row {
-            name: "an entry taken back",
-            input: "trust 00000000000000000000000000000000000000AA u\n\
+                status: Status::Done,
+            },
+            Row {
+                name: "an entry taken back",
+                input: "trust 00000000000000000000000000000000000000AA u\n\
                     trust 00000000000000000000000000000000000000AA -\n\
                     export\n",
-            told: "ok\nok\nok\n",
-            status: Status::Done,
-        },
-        Row {
-            name: "bad arguments",
-            input: "trust 00000000000000000000000000000000000000AA\n\
+                told: "ok\nok\nok\n",
+                status: Status::Done,
+            },
+            Row {
+                name: "bad arguments",
+                input: "trust 00000000000000000000000000000000000000AA\n\
                     trust 00000000000000000000000000000000000000AA x\n\
                     trust zz u\nexport x\n\
                     trust 00000000000000000000000000000000000000AA u u\n\
                     export\n",
-            told: "err bad-argument 2\nerr bad-argument 2\nerr bad-argument 1\nerr bad-argument 1\n\
+                told: "err bad-argument 2\nerr bad-argument 2\nerr bad-argument 1\nerr bad-argument 1\n\
                    err bad-argument 3\nok\n",
-            status: Status::Refused,
-        },
-        Row {
-            name: "lines that are no commands",
-            input: "\n   \n# trust\r\n\r\n #\nfrob\r\n  export  \r",
-            told: "err unknown-command\nerr unknown-command\nok\n",
-            status: Status::Refused,
-        },
-    ])
+                status: Status::Refused,
+            },
+            Row {
+                name: "lines that are no commands",
+                input: "\n   \n# trust\r\n\r\n #\nfrob\r\n  export  \r",
+                told: "err unknown-command\nerr unknown-command\nok\n",
+                status: Status::Refused,
+            },
+        ],
+    )
 }
 
 #[test]
@@ -114,7 +127,11 @@ fn input_has_its_limit(rt: HostRuntime) -> Result<(), Mem> {
 #[test]
 fn lines_have_their_limit(rt: HostRuntime) -> Result<(), Mem> {
     let alloc = rt.alloc();
-    for (length, told) in [(65535, "ok\n"), (65536, "ok\n"), (65537, "err line-too-long\nok\n")] {
+    for (length, told) in [
+        (65535, "ok\n"),
+        (65536, "ok\n"),
+        (65537, "err line-too-long\nok\n"),
+    ] {
         for first in ["#", " "] {
             let mut input = String::from_str(alloc, first)?;
             for _ in 1..length {
@@ -133,7 +150,10 @@ fn lines_have_their_limit(rt: HostRuntime) -> Result<(), Mem> {
 fn a_fault_ends_the_run(rt: HostRuntime) -> Result<(), Mem> {
     let alloc = rt.alloc();
     let input = "trust 00000000000000000000000000000000000000AA u\nexport\n";
-    for (kind, status) in [(CallKind::Take, Status::ReadFault), (CallKind::Tell, Status::TellFault)] {
+    for (kind, status) in [
+        (CallKind::Take, Status::ReadFault),
+        (CallKind::Tell, Status::TellFault),
+    ] {
         let mut fails = Vec::new(alloc);
         fails.push((kind, 1))?;
         let mut site = site(alloc, input, fails, 4096)?;
