@@ -12,6 +12,7 @@ const CUTS: [u32; 5] = [1, 2, 3, 7, 4096];
 /// No session of a test has as many bytes.
 const MOST: u64 = 1 << 36;
 
+#[derive(Drop)]
 struct Row {
     name: &'static str,
     input: &'static str,
