@@ -3,7 +3,7 @@ use Rattle.std.proofs.Common.{◌≡◌, ℕ, List, [], ◌∷◌, ◌++◌, Opt
 use Rattle.std.proofs.lemmas.List.{append-nil}
 use Rattle.std.specs.List.{slice_split}
 use Rattle.wot_types.specs.Lines.{is_newline}
-use Rattle.wot_types.specs.Session.{Progress, after_all}
+use Rattle.wot_session.specs.LineByLine.{Standing, after_lines}
 use Rattle.wot_site.specs.Seen.{Seen, Honestly}
 use Rattle.wot_site.proofs.Honest.{honest_start, honest_then, honest_weaker}
 use Rattle.wot_session.specs.declared.session.Session.{Session}
@@ -17,8 +17,8 @@ use Rattle.wot_session.proofs.Sayings.{said_none, said_then, said_then_front, sa
 -- these bytes were given to a session at its start, the rest of them is to be fed, and the lines before it are done
 pub record Feeding (first now : Option Seen) (start session : Session) (bytes rest : List ℕ) : Type 0 where
   pub done : List (Option (List ℕ))
-  pub at : (p : Progress) → IsAt start p → IsAt session (after_all p done)
-  pub said : (p : Progress) → IsAt start p → Honestly first now (Said p done)
+  pub at : (p : Standing) → IsAt start p → IsAt session (after_lines p done)
+  pub said : (p : Standing) → IsAt start p → Honestly first now (Said p done)
   pub whole : done ++ whole_from session.line rest ≡ whole_from start.line bytes
   pub line : open_from session.line rest ≡ open_from start.line bytes
 
@@ -33,13 +33,13 @@ feeding_start a session bytes = record {
 
 module _ {first now : Option Seen} {start session : Session} {bytes rest : List ℕ} (feeding : Feeding first now start session bytes rest) where
   -- no memory for the next line
-  pub feeding_stop : (p : Progress) → IsAt start p → Honestly first now (SaidFront p (whole_from start.line bytes))
+  pub feeding_stop : (p : Standing) → IsAt start p → Honestly first now (SaidFront p (whole_from start.line bytes))
   feeding_stop p here =
       honest_weaker _ _ first now (feeding.said p here)
       (λ x y said. rw feeding.whole at (said_front p feeding.done (whole_from session.line rest) x y said))
 
   module _ (held : Session) (part after : List ℕ) (split : slice_split is_newline rest ≡ part ∷ slice_split is_newline after)
-      (line : held.line ≡ more session.line part) (held_at : (p : Progress) → IsAt session p → IsAt held p) where
+      (line : held.line ≡ more session.line part) (held_at : (p : Standing) → IsAt session p → IsAt held p) where
     next_whole : feeding.done ++ held.line ∷ [] ++ whole_from (Some []) after ≡ whole_from start.line bytes
     next_whole =
         append_assoc feeding.done (held.line ∷ []) (whole_from (Some []) after)
@@ -49,24 +49,24 @@ module _ {first now : Option Seen} {start session : Session} {bytes rest : List 
 
     -- the next line was held and answered
     pub feeding_more : (next : Option Seen) (answered : Session)
-        → ((p : Progress) → IsAt held p → IsAt answered (after_all p (held.line ∷ [])))
+        → ((p : Standing) → IsAt held p → IsAt answered (after_lines p (held.line ∷ [])))
         → answered.line ≡ Some []
-        → ((p : Progress) → IsAt held p → Honestly now next (Said p (held.line ∷ [])))
+        → ((p : Standing) → IsAt held p → Honestly now next (Said p (held.line ∷ [])))
         → Feeding first next start answered bytes after
     feeding_more next answered at clear said = record {
       done = feeding.done ++ held.line ∷ [];
-      at = λ p here. rw (after_append p feeding.done (held.line ∷ [])) (at (after_all p feeding.done) (held_at _ (feeding.at p here)));
-      said = λ p here. honest_then _ _ _ first now next (feeding.said p here) (said (after_all p feeding.done) (held_at _ (feeding.at p here)))
+      at = λ p here. rw (after_append p feeding.done (held.line ∷ [])) (at (after_lines p feeding.done) (held_at _ (feeding.at p here)));
+      said = λ p here. honest_then _ _ _ first now next (feeding.said p here) (said (after_lines p feeding.done) (held_at _ (feeding.at p here)))
           (λ x y z. said_then p feeding.done (held.line ∷ []) x y z);
       whole = ap (λ line. feeding.done ++ held.line ∷ [] ++ whole_from line after) clear ∙ next_whole;
       line = ap (λ line. open_from line after) clear ∙ sym (open_at session.line rest part after split) ∙ feeding.line;
     }
 
     -- its reply was told in part
-    pub feeding_cut : (next : Option Seen) → ((p : Progress) → IsAt held p → Honestly now next (SaidFront p (held.line ∷ [])))
-        → (p : Progress) → IsAt start p → Honestly first next (SaidFront p (whole_from start.line bytes))
+    pub feeding_cut : (next : Option Seen) → ((p : Standing) → IsAt held p → Honestly now next (SaidFront p (held.line ∷ [])))
+        → (p : Standing) → IsAt start p → Honestly first next (SaidFront p (whole_from start.line bytes))
     feeding_cut next front p here =
-        honest_then _ _ _ first now next (feeding.said p here) (front (after_all p feeding.done) (held_at _ (feeding.at p here)))
+        honest_then _ _ _ first now next (feeding.said p here) (front (after_lines p feeding.done) (held_at _ (feeding.at p here)))
         (λ x y z before cut. rw next_whole at (said_front_more p (feeding.done ++ held.line ∷ []) (whole_from (Some []) after) x z
         (said_then_front p feeding.done (held.line ∷ []) x y z before cut)))
 
@@ -76,12 +76,12 @@ module _ {first now : Option Seen} {start session : Session} {bytes rest : List 
     all_done =
         sym (append-nil feeding.done) ∙ ap (λ lines. feeding.done ++ lines) (sym (whole_none session.line rest unended)) ∙ feeding.whole
 
-    pub fed_at : (held : Session) → ((p : Progress) → IsAt session p → IsAt held p)
-        → (p : Progress) → IsAt start p → IsAt held (after_all p (whole_from start.line bytes))
+    pub fed_at : (held : Session) → ((p : Standing) → IsAt session p → IsAt held p)
+        → (p : Standing) → IsAt start p → IsAt held (after_lines p (whole_from start.line bytes))
     fed_at held held_at p here = rw all_done at (held_at _ (feeding.at p here))
 
     pub fed_line : open_from start.line bytes ≡ more session.line rest
     fed_line = sym feeding.line ∙ open_none session.line rest unended
 
-    pub fed_said : (p : Progress) → IsAt start p → Honestly first now (Said p (whole_from start.line bytes))
+    pub fed_said : (p : Standing) → IsAt start p → Honestly first now (Said p (whole_from start.line bytes))
     fed_said p here = rw all_done at (feeding.said p here)

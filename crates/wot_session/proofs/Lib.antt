@@ -1,3 +1,7 @@
+pub mod Answering
+pub mod Blocks
+pub mod Closings
+pub mod Cuts
 pub mod Feeds
 pub mod LineLemmas
 pub mod Looping
@@ -6,6 +10,7 @@ pub mod Parts
 pub mod Replies
 pub mod Runs
 pub mod Sayings
+pub mod Single
 pub mod Splits
 pub mod Texts
 pub mod Turns

@@ -4,17 +4,18 @@ use Rattle.std.specs.List.{All}
 use Rattle.std.proofs.lemmas.List.{append-nil}
 use Rattle.std.proofs.lemmas.List.Elements.{All-nil, All-push, All-weaker}
 use Rattle.std.proofs.Math.Seq.{take-append_seam, take-append-add}
-use Rattle.wot_types.specs.Session.{Progress, after_all, output_of, has_refusal, so_far}
+use Rattle.wot_types.specs.Session.{Progress, output_of, has_refusal, so_far}
 use Rattle.wot_site.specs.Seen.{Seen}
 use Rattle.wot_site.specs.Site.{asked_at}
 use Rattle.wot_site.specs.declared.site.Asked.{Asked}
 use Rattle.wot_session.specs.declared.stop.Stop.{Stop}
 use Rattle.wot_session.specs.declared.stop.Stop.TheVariants.{ReadFault, TellFault, Memory, TooLong}
-use Rattle.wot_session.specs.Fed.{open_from, last_lines}
-use Rattle.wot_session.specs.Told.{IsFrontOf, Said, SaidFront}
+use Rattle.wot_session.specs.Fed.{open_from}
+use Rattle.wot_session.specs.Told.{IsFrontOf}
+use Rattle.wot_session.specs.AtEnd.{SaidLast, SaidLastFront, at_end}
 use Rattle.wot_session.specs.Turn.{Turned, StoppedTurn}
 use Rattle.wot_session.specs.Run.{IsPunctual, Ended, Stopped}
-use Rattle.wot_session.proofs.Outputs.{progress_after, so_far_append, so_far_front, output_is, end_is}
+use Rattle.wot_session.proofs.Outputs.{standing_after, so_far_append, so_far_front, output_is, end_is}
 
 -- a call of `take` after these bytes were fed, and all replies to the lines that they end told
 pub record OnTime (first now : Seen) (ask : Asked) : Type 0 where
@@ -115,7 +116,7 @@ joined : (fed more : List ℕ) (first now next : Seen) → Reached fed first now
 joined fed more first now next reached told = told ∙ ap (λ told. told ++ more) reached.told ∙ append_assoc first.told (so_far fed) more
 
 pub reached_more : (fed piece : List ℕ) (first now next : Seen) → Reached fed first now
-    → Turned (progress_after fed) (open_from (Some []) fed) piece now next → Reached (fed ++ piece) first next
+    → Turned (standing_after fed) (open_from (Some []) fed) piece now next → Reached (fed ++ piece) first next
 reached_more fed piece first now next reached turned = record {
   input = reached.input ∙ ap (λ left. fed ++ left) turned.input ∙ sym (append_assoc fed piece next.left);
   taken = omega (arith, turned.taken, reached.taken, length-append fed piece);
@@ -124,14 +125,14 @@ reached_more fed piece first now next reached turned = record {
 }
 
 pub reached_end : (fed piece : List ℕ) (first now next : Seen) → piece ≡ [] → Reached fed first now
-    → Turned (progress_after fed) (open_from (Some []) fed) piece now next → ReachedEnd (fed ++ piece) first next
+    → Turned (standing_after fed) (open_from (Some []) fed) piece now next → ReachedEnd (fed ++ piece) first next
 reached_end fed piece first now next none reached turned = record {
   reached = reached_more fed piece first now next reached turned;
   all = ap (λ piece. piece ++ next.left) (sym none) ∙ sym turned.input ∙ turned.last none;
 }
 
 pub stop_turn : (most room : ℕ) (stop : Stop) (fed : List ℕ) (first now next : Seen) → length fed + room ≡ most → Reached fed first now
-    → StoppedTurn (progress_after fed) (open_from (Some []) fed) room stop now next → Stopped most stop first next
+    → StoppedTurn (standing_after fed) (open_from (Some []) fed) room stop now next → Stopped most stop first next
 stop_turn most room stop fed first now next bound reached stopped =
     let input : first.left ≡ fed ++ stopped.piece ++ stopped.input.0 =
     reached.input ∙ ap (λ left. fed ++ left) (sym stopped.input.1) ∙ sym (append_assoc fed stopped.piece stopped.input.0) in
@@ -165,8 +166,8 @@ all_fed : (fed : List ℕ) (first now : Seen) → ReachedEnd fed first now → f
 all_fed fed first now end = end.reached.input ∙ ap (λ left. fed ++ left) end.all ∙ append-nil fed
 
 pub end_run : (most : ℕ) (refused : Bool) (fed : List ℕ) (first now next : Seen) → length fed ≤ most
-    → refused ≡ (after_all (progress_after fed) (last_lines (open_from (Some []) fed))).refused
-    → ReachedEnd fed first now → Said (progress_after fed) (last_lines (open_from (Some []) fed)) now next → Ended most refused first next
+    → refused ≡ (at_end (standing_after fed) (open_from (Some []) fed)).progress.refused
+    → ReachedEnd fed first now → SaidLast (standing_after fed) (open_from (Some []) fed) now next → Ended most refused first next
 end_run most refused fed first now next bound verdict end said =
     let input = all_fed fed first now end in
     record {
@@ -178,7 +179,7 @@ end_run most refused fed first now next bound verdict end said =
     }
 
 pub stop_end : (most : ℕ) (stop : Stop) (fed : List ℕ) (first now next : Seen) → (stop ≡ TellFault) ⊎ (stop ≡ Memory)
-    → ReachedEnd fed first now → SaidFront (progress_after fed) (last_lines (open_from (Some []) fed)) now next → Stopped most stop first next
+    → ReachedEnd fed first now → SaidLastFront (standing_after fed) (open_from (Some []) fed) now next → Stopped most stop first next
 stop_end most stop fed first now next kind end said =
     let input = all_fed fed first now end in
     let text = said.told.front in

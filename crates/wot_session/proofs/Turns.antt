@@ -1,7 +1,7 @@
 -- One call of `take`, and then the replies to the lines of its bytes.
 use Rattle.std.proofs.Common.{◌≡◌, ◌⊎◌, inl, inr, ℕ, ◌+◌, ◌<◌, ◌≤◌, List, [], ◌∷◌, ◌++◌, length, take, drop, Option, refl, sym, ap, ◌∙◌, arith}
 use Rattle.std.proofs.lemmas.List.{append-nil, take-take, take-append-drop, length-take-le}
-use Rattle.wot_types.specs.Session.{Progress}
+use Rattle.wot_session.specs.LineByLine.{Standing}
 use Rattle.wot_site.specs.Seen.{Seen}
 use Rattle.wot_site.specs.Site.{Takes, TakesNothing, asked_at}
 use Rattle.wot_session.specs.declared.stop.Stop.{Stop}
@@ -11,7 +11,7 @@ use Rattle.wot_session.specs.Told.{Said, SaidFront}
 use Rattle.wot_session.specs.Turn.{replies_from, Turned, StoppedTurn}
 
 -- reading failed
-pub turn_failed : (p : Progress) (line : Option (List ℕ)) (room : ℕ) (x y : Seen) → TakesNothing x y → StoppedTurn p line room ReadFault x y
+pub turn_failed : (p : Standing) (line : Option (List ℕ)) (room : ℕ) (x y : Seen) → TakesNothing x y → StoppedTurn p line room ReadFault x y
 turn_failed p line room x y nothing = record {
   piece = [];
   input = (x.left, refl);
@@ -44,7 +44,7 @@ module _ (n : ℕ) (buf : List ℕ) {x y : Seen} (takes : Takes n buf x y) where
   piece_rest m within = ap (λ front. front ++ drop m x.left) (piece_is m within) ∙ take-append-drop m x.left
 
   -- the lines of all bytes that came were answered
-  pub turn_read : (p : Progress) (line : Option (List ℕ)) (z : Seen) → 0 < length buf → n ≤ length buf
+  pub turn_read : (p : Standing) (line : Option (List ℕ)) (z : Seen) → 0 < length buf → n ≤ length buf
       → Said p (whole_from line (take n buf)) y z → Turned p line (take n buf) x z
   turn_read p line z some fits said =
       let size = length-take-le n buf fits in
@@ -57,7 +57,7 @@ module _ (n : ℕ) (buf : List ℕ) {x y : Seen} (takes : Takes n buf x y) where
       }
 
   -- the replies to the lines of the first bytes were told in part, for another reason than a fault of reading
-  pub turn_cut : (p : Progress) (line : Option (List ℕ)) (room m : ℕ) (stop : Stop) (z : Seen) → m ≤ n
+  pub turn_cut : (p : Standing) (line : Option (List ℕ)) (room m : ℕ) (stop : Stop) (z : Seen) → m ≤ n
       → (stop ≡ TellFault) ⊎ (stop ≡ Memory)
       → SaidFront p (whole_from line (take m buf)) y z → StoppedTurn p line room stop x z
   turn_cut p line room m stop z within kind said = record {
@@ -80,7 +80,7 @@ module _ (n : ℕ) (buf : List ℕ) {x y : Seen} (takes : Takes n buf x y) where
       no_long (inr memory) is = cc
 
   -- more bytes came than there is room for, and the lines of those that there is room for were answered
-  pub turn_long : (p : Progress) (line : Option (List ℕ)) (room : ℕ) (z : Seen) → room < n
+  pub turn_long : (p : Standing) (line : Option (List ℕ)) (room : ℕ) (z : Seen) → room < n
       → Said p (whole_from line (take room buf)) y z → StoppedTurn p line room TooLong x z
   turn_long p line room z over said =
       let told = said.told.told ∙ ap (λ told. told ++ replies_from p line (take room buf)) (ap (λ (s : Seen). s.told) takes.after) in

@@ -1,6 +1,6 @@
 -- What was told, where nothing else was done.
 use Rattle.std.specs.Prelude.{ℕ, ◌≡◌, ◌⊎◌, List, ◌++◌, Option, Result, IfErr, IsErrOf}
-use Rattle.wot_types.specs.Session.{Progress, replies}
+use Rattle.wot_session.specs.LineByLine.{Standing, line_replies}
 use Rattle.wot_site.specs.Seen.{Seen, Faults}
 use Rattle.wot_site.specs.Site.{NoneFell, Rose}
 use Rattle.wot_session.specs.declared.stop.Stop.{Stop}
@@ -24,12 +24,12 @@ pub record ToldFront (text : List ℕ) (old new : Seen) : Type 0 where
   pub told : Told front old new
 
 -- the replies to these lines were told by a session that had come so far
-pub record Said (p : Progress) (lines : List (Option (List ℕ))) (old new : Seen) : Type 0 where
-  pub told : Told (replies p lines) old new
+pub record Said (p : Standing) (lines : List (Option (List ℕ))) (old new : Seen) : Type 0 where
+  pub told : Told (line_replies p lines) old new
 
 -- a front of the replies to these lines was told
-pub record SaidFront (p : Progress) (lines : List (Option (List ℕ))) (old new : Seen) : Type 0 where
-  pub told : ToldFront (replies p lines) old new
+pub record SaidFront (p : Standing) (lines : List (Option (List ℕ))) (old new : Seen) : Type 0 where
+  pub told : ToldFront (line_replies p lines) old new
 
 -- telling stops only for want of memory, and where the count of failed calls of `tell` rose
 pub record StopsTelling {T : Type 0} (old new : Faults) (result : Result T Stop) : Type 0 where

@@ -1,6 +1,6 @@
 -- One call of `take`, and the lines that its bytes end.
 use Rattle.std.specs.Prelude.{ℕ, ◌≡◌, ◌⊎◌, ◌+◌, ◌<◌, List, [], ◌∷◌, ◌++◌, length, take, Option, Result, IsErrOf}
-use Rattle.wot_types.specs.Session.{Progress, replies}
+use Rattle.wot_session.specs.LineByLine.{Standing, line_replies}
 use Rattle.wot_site.specs.Seen.{Seen, Faults}
 use Rattle.wot_site.specs.Site.{asked_at, NoneFell, Rose}
 use Rattle.wot_session.specs.Fed.{whole_from}
@@ -9,11 +9,11 @@ use Rattle.wot_session.specs.declared.stop.Stop.{Stop}
 use Rattle.wot_session.specs.declared.stop.Stop.TheVariants.{ReadFault, TellFault, TooLong}
 
 -- the replies to the lines that these bytes end, where they follow this open line
-abbrev pub replies_from : Progress → Option (List ℕ) → List ℕ → List ℕ
-replies_from p line bytes = replies p (whole_from line bytes)
+abbrev pub replies_from : Standing → Option (List ℕ) → List ℕ → List ℕ
+replies_from p line bytes = line_replies p (whole_from line bytes)
 
 -- this piece of the input was taken, and then all replies to the lines that it ends were told
-pub record Turned (p : Progress) (line : Option (List ℕ)) (piece : List ℕ) (old new : Seen) : Type 0 where
+pub record Turned (p : Standing) (line : Option (List ℕ)) (piece : List ℕ) (old new : Seen) : Type 0 where
   pub input : old.left ≡ piece ++ new.left
   pub taken : new.taken ≡ old.taken + length piece
   pub told : new.told ≡ old.told ++ replies_from p line piece
@@ -21,7 +21,7 @@ pub record Turned (p : Progress) (line : Option (List ℕ)) (piece : List ℕ) (
   pub last : piece ≡ [] → old.left ≡ []
 
 -- it stopped: a piece of the input was taken, and a front of the replies to its lines was told
-pub record StoppedTurn (p : Progress) (line : Option (List ℕ)) (room : ℕ) (stop : Stop) (old new : Seen) : Type 0 where
+pub record StoppedTurn (p : Standing) (line : Option (List ℕ)) (room : ℕ) (stop : Stop) (old new : Seen) : Type 0 where
   pub piece : List ℕ
   pub input : IsFrontOf piece old.left
   pub text : List ℕ

@@ -1,7 +1,7 @@
 //! What a command's words ask for.
 
 ghost use Rattle.std.specs.Prelude.{◌≡◌, ◌<◌, [], ◌∷◌};
-ghost use Rattle.wot_types.specs.Command.{command_named, command_of, is_fingerprint, is_letter, set_of, trust_of_letter, with_arguments};
+ghost use Rattle.wot_types.specs.Command.{command_named, command_of, has_block, is_fingerprint, is_letter, set_of, trust_of_letter, with_arguments};
 ghost use Rattle.wot_types.specs.Fingerprint.{fingerprint};
 ghost use Rattle.wot_session.specs.Arguments.{argument_at, none_at};
 
@@ -18,12 +18,24 @@ pub fn read_head(words: &Words) -> Result<Head, Refusal>
     }
 }
 
+/// Whether a block of lines follows the command that these words begin.
+pub fn has_block(words: &Words) -> bool
+    ensures { result ≡ has_block words.now }
+{
+    match words.as_slice() {
+        [] => false,
+        [name, ..] => name.as_bytes() == b"import".as_slice(),
+    }
+}
+
 /// The first word names the command, and the others are its arguments.
 fn read_command(name: &[u8], arguments: &[Text]) -> Result<Head, Refusal>
     ensures { result ≡ command_named name.now arguments.now }
 {
     match name {
         b"trust" => read_set(arguments),
+        b"import" => read_import(arguments),
+        b"list" => read_list(arguments),
         b"export" => read_export(arguments),
         _ => Err(Refusal::UnknownCommand),
     }
@@ -37,6 +49,22 @@ fn read_set(arguments: &[Text]) -> Result<Head, Refusal>
     let trust = letter_at(arguments, 2)?;
     none_at(arguments, 3)?;
     Ok(Head::Edit(Edit::Set(fpr, trust)))
+}
+
+/// `import`
+fn read_import(arguments: &[Text]) -> Result<Head, Refusal>
+    ensures { result ≡ with_arguments [] arguments.now Head.Import }
+{
+    none_at(arguments, 1)?;
+    Ok(Head::Import)
+}
+
+/// `list`
+fn read_list(arguments: &[Text]) -> Result<Head, Refusal>
+    ensures { result ≡ with_arguments [] arguments.now (Head.Query Query.List) }
+{
+    none_at(arguments, 1)?;
+    Ok(Head::Query(Query::List))
 }
 
 /// `export`

@@ -1,6 +1,8 @@
 //! The words of a line, and the lines that have none.
 
 ghost use Rattle.std.specs.Prelude.{◌≡◌, ◌||◌, IfOk};
+ghost use Rattle.std.specs.Option.{option_copied};
+ghost use Rattle.wot_types.specs.Commands.{ends_block, is_skipped};
 ghost use Rattle.wot_types.specs.Lines.{is_blank, is_comment, without_return, words_of};
 
 use std::alloc::Global;
@@ -13,9 +15,19 @@ pub fn without_return(line: &[u8]) -> &[u8]
     line.strip_suffix(b"\r").unwrap_or(line)
 }
 
+/// Whether a line ends a block; None is one that is too long.
+pub fn ends_block(line: Option<&[u8]>) -> bool
+    ensures { result ≡ ends_block (option_copied line.entry) }
+{
+    match line {
+        Some(line) => without_return(line) == b".".as_slice(),
+        None => false,
+    }
+}
+
 /// Whether a line is skipped: it is blank or a comment.
 pub fn has_no_command(line: &[u8]) -> bool
-    ensures { result ≡ (is_blank line.now || is_comment line.now) }
+    ensures { result ≡ is_skipped line.now }
 {
     is_blank(line) || is_comment(line)
 }

@@ -1,2 +1,4 @@
 pub mod Maps
 pub mod Fingerprints
+pub mod FinMaps
+pub mod Keyrings

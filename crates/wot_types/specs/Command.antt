@@ -1,12 +1,12 @@
 -- What a command's words ask for, or the first reason to refuse them.
-use Rattle.std.specs.Prelude.{ℕ, Bool, ◌+◌, nat_eq, List, [], ◌∷◌, if◌then◌else◌, Option, Some, None, is_some, unwrap_or, slice_get, Result, Ok, Err, codes}
+use Rattle.std.specs.Prelude.{ℕ, Bool, false, ◌+◌, nat_eq, List, [], ◌∷◌, if◌then◌else◌, Option, Some, None, is_some, unwrap_or, slice_get, Result, Ok, Err, codes}
 use Rattle.std.specs.Cmp.Lexicographic.{pointwise}
 use Rattle.wot_types.specs.declared.trust.Trust.{Trust}
 use Rattle.wot_types.specs.declared.trust.Trust.TheVariants.{Unknown, Undefined, Never, Marginal, Full, Ultimate}
 use Rattle.wot_types.specs.declared.command.Head.{Head}
-use Rattle.wot_types.specs.declared.command.Head.TheVariants.{Edit as EditHead, Query as QueryHead}
+use Rattle.wot_types.specs.declared.command.Head.TheVariants.{Edit as EditHead, Query as QueryHead, Import as ImportHead}
 use Rattle.wot_types.specs.declared.command.Edit.TheVariants.{Set}
-use Rattle.wot_types.specs.declared.command.Query.TheVariants.{Export}
+use Rattle.wot_types.specs.declared.command.Query.TheVariants.{Export, List as ListAll}
 use Rattle.wot_types.specs.declared.command.Refusal.{Refusal}
 use Rattle.wot_types.specs.declared.command.Refusal.TheVariants.{UnknownCommand, BadArgument}
 use Rattle.wot_types.specs.Fingerprint.{fingerprint}
@@ -59,9 +59,16 @@ set_of words = EditHead (Set (unwrap_or (fingerprint (argument 0 words)) []) (un
 abbrev pub command_named : List ℕ → List (List ℕ) → Result Head Refusal
 command_named name words =
     if is_word (codes "trust") name then with_arguments (is_fingerprint ∷ is_letter ∷ []) words (set_of words) else
+    if is_word (codes "import") name then with_arguments [] words ImportHead else
+    if is_word (codes "list") name then with_arguments [] words (QueryHead ListAll) else
     if is_word (codes "export") name then with_arguments [] words (QueryHead Export) else
     Err UnknownCommand
 
 abbrev pub command_of : List (List ℕ) → Result Head Refusal
 command_of [] = Err UnknownCommand
 command_of (name ∷ words) = command_named name words
+
+-- commands that a block of lines follows
+abbrev pub has_block : List (List ℕ) → Bool
+has_block [] = false
+has_block (name ∷ words) = is_word (codes "import") name

@@ -1,4 +1,6 @@
 pub mod Command
+pub mod Commands
+pub mod Keyring
 pub mod Fingerprint
 pub mod FprBytes
 pub mod Lines
@@ -16,3 +18,12 @@ pub mod Runs
 pub mod NotBuilt
 pub mod Listing
 pub mod WellFormed
+pub mod Accepted
+pub mod Expiry
+pub mod Selection
+pub mod Scope
+pub mod Candidates
+pub mod Levels
+pub mod Letters
+pub mod NextCheck
+pub mod Printing

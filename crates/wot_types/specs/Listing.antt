@@ -260,9 +260,20 @@ with_key keys block = finmap.insert keys (block_id block) (key_of block)
 abbrev pub keys_of : List (Run Line) → KeyMap
 keys_of bs = fold with_key finmap.empty bs
 
--- the listing has these keys, in rising order of key ID, and these numbers of kept and of passed signatures
+-- the listing's keys, in rising order of key ID
+abbrev pub listed_keys : List Line → List Key
+listed_keys lines = finmap.values (keys_of (blocks lines))
+
+-- how many `sig` and `rev` records are kept, and how many are passed
+abbrev pub kept_of : List Line → ℕ
+kept_of lines = capped (kept_count lines)
+
+abbrev pub passed_of : List Line → ℕ
+passed_of lines = capped (count_by is_sig lines - kept_count lines)
+
+-- the listing has no fault, these keys, and these numbers of kept and of passed signatures
 pub record Spells (lines : List Line) (keys : List Key) (kept passed : ℕ) : Type 0 where
   pub faultless : fault_at_end lines ≡ None
-  pub keys_are : keys ≡ finmap.values (keys_of (blocks lines))
-  pub kept_is : kept ≡ capped (kept_count lines)
-  pub passed_is : passed ≡ capped (count_by is_sig lines - kept_count lines)
+  pub keys_are : keys ≡ listed_keys lines
+  pub kept_is : kept ≡ kept_of lines
+  pub passed_is : passed ≡ passed_of lines

@@ -1,5 +1,6 @@
--- A session: the lines of the input are answered one after the other.
-use Rattle.std.specs.Prelude.{ℕ, Bool, false, ◌||◌, List, [], ◌∷◌, ◌++◌, map, Option}
+-- A session: the commands of the input are answered one after the other.
+use Rattle.std.specs.Prelude.{ℕ, Bool, false, ◌||◌, List, [], ◌∷◌, ◌++◌, map, None}
+use Rattle.wot_types.specs.Commands.{Command, commands, whole_commands}
 use Rattle.wot_types.specs.Lines.{lines, read_line, whole_lines}
 use Rattle.wot_types.specs.State.{opening_state}
 use Rattle.wot_types.specs.declared.state.State.{State}
@@ -13,29 +14,33 @@ pub record Progress : Type 0 where
 abbrev pub at_start : Progress
 at_start = record { state = opening_state; refused = false }
 
-abbrev pub reply_to : Progress → Option (List ℕ) → List ℕ
-reply_to p line = (outcome p.state line).text
+abbrev pub reply_to : Progress → Command → List ℕ
+reply_to p command = (outcome p.state command).text
 
-abbrev pub after : Progress → Option (List ℕ) → Progress
-after p line = record { state = (outcome p.state line).state; refused = p.refused || (outcome p.state line).refused }
+abbrev pub after : Progress → Command → Progress
+after p command = record { state = (outcome p.state command).state; refused = p.refused || (outcome p.state command).refused }
 
-abbrev pub after_all : Progress → List (Option (List ℕ)) → Progress
+abbrev pub after_all : Progress → List Command → Progress
 after_all p [] = p
-after_all p (line ∷ lines) = after_all (after p line) lines
+after_all p (command ∷ commands) = after_all (after p command) commands
 
 -- all replies in order
-abbrev pub replies : Progress → List (Option (List ℕ)) → List ℕ
+abbrev pub replies : Progress → List Command → List ℕ
 replies p [] = []
-replies p (line ∷ lines) = reply_to p line ++ replies (after p line) lines
+replies p (command ∷ commands) = reply_to p command ++ replies (after p command) commands
+
+-- the commands of an input
+abbrev pub commands_of : List ℕ → List Command
+commands_of input = commands (map read_line (lines input))
 
 -- the whole output of a session over this input
 abbrev pub output_of : List ℕ → List ℕ
-output_of input = replies at_start (map read_line (lines input))
+output_of input = replies at_start (commands_of input)
 
 -- whether some reply is an `err` line
 abbrev pub has_refusal : List ℕ → Bool
-has_refusal input = (after_all at_start (map read_line (lines input))).refused
+has_refusal input = (after_all at_start (commands_of input)).refused
 
 -- the replies to the commands that are whole in these bytes
 abbrev pub so_far : List ℕ → List ℕ
-so_far bytes = replies at_start (map read_line (whole_lines bytes))
+so_far bytes = replies at_start (whole_commands None (map read_line (whole_lines bytes)))

@@ -1,5 +1,9 @@
 //! Keys.
 
+ghost use Rattle.std.specs.Prelude.{◌≡◌, ◌≤◌};
+ghost use Rattle.wot_types.specs.Keyring.{key_certs};
+ghost use Rattle.wot_types.specs.Listing.{most_certs};
+
 use crate::fpr::Fpr;
 use crate::list::List;
 use crate::text::Text;
@@ -21,6 +25,20 @@ pub struct Key {
     /// The letters of its capabilities, without `D`.
     pub caps: Text,
     pub users: Users,
+}
+
+impl Key {
+    /// How many certifications are on its user IDs.
+    pub fn cert_count(&self) -> u64
+        requires { key_certs self.now ≤ most_certs }
+        ensures { result ≡ key_certs self.now }
+    {
+        self.users
+            .as_slice()
+            .iter()
+            .map(|user| user.certs.len() as u64)
+            .sum()
+    }
 }
 
 pub type Keys = List<Key>;

@@ -25,3 +25,6 @@ returns-clause-stopped g c =
     ending_stop (running_end c.loop-n.invariant.running _ c.turn.new.self (take c.in-Ok.n c.turn.new.buf)
     c.in-Ok.ensures.at c.in-Ok.ensures.line c.in-Ok.ensures.turned (ap (λ n. take n c.turn.new.buf) c.if-n-eq0.true))
     _ c.in-Err-finish.stop c.in-Err-finish.ensures.cause.kinds c.in-Err-finish.ensures.front
+
+pub finish-requires : goal.finish-requires
+finish-requires g c = (_, c.in-Ok.ensures.at _ c.loop-n.invariant.running.at)

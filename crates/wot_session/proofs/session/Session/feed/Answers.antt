@@ -25,3 +25,6 @@ returns-clause-at g c =
 
 pub returns-clause-front : goal.returns-clause-front
 returns-clause-front g c = on_err_here _ (feeding_stop c.loop-line.invariant.feeding)
+
+pub answer-requires : goal.answer-requires
+answer-requires g c = (_, c.hold.ensures.at _ (c.loop-line.invariant.feeding.at c.requires.0 c.requires.1))

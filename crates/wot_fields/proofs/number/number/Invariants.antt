@@ -1,0 +1,12 @@
+use Rattle.std.proofs.Common.{◌≡◌, ◌<◌, ◌^◌, true, take}
+use Rattle.std.specs.List.{list_all}
+use Rattle.wot_types.specs.Numbers.{is_digit, digits_value}
+use Rattle.wot_fields.proofs.number.number.Given as goal
+
+-- the bytes so far are digits, and the value, which fits, is theirs
+abbrev pub invariant-loop-b : goal.invariant-loop-b
+invariant-loop-b l = record {
+  digits : list_all is_digit (take l.b-index l.f) ≡ true;
+  value_is : l.value ≡ digits_value (take l.b-index l.f);
+  fits : l.value < 2 ^ 32;
+}

@@ -1,0 +1,35 @@
+-- A part's answer among the checks of a whole line.
+use Rattle.std.proofs.Common.{◌≡◌, Bool, true, false, cond, List, [], ◌∷◌, ◌++◌, Option, Some, None, Err, refl, ap, ◌∙◌}
+use Rattle.wot_types.specs.declared.listing.ListingWhat.{ListingWhat}
+use Rattle.wot_types.specs.Listing.{Check, first_failing}
+use Rattle.wot_listing.specs.declared.error.LineError.{LineError}
+use Rattle.wot_listing.specs.declared.error.LineError.TheVariants.{Failed, Memory}
+use Rattle.wot_listing.specs.Answer.{Answers}
+
+fails_at : (b : Bool) (w : ListingWhat) (a c : Option ListingWhat) (what : ListingWhat) → (a ≡ Some what → c ≡ Some what) → cond b (Some w) a ≡ Some what → cond b (Some w) c ≡ Some what
+fails_at true w a c what h e = e
+fails_at false w a c what h e = h e
+
+-- a check that fails comes before those that follow
+pub fails_more : (xs ys : List Check) (what : ListingWhat) → first_failing xs ≡ Some what → first_failing (xs ++ ys) ≡ Some what
+fails_more [] ys what e = cc
+fails_more (x ∷ xs) ys what e = fails_at x.0 x.1 (first_failing xs) (first_failing (xs ++ ys)) what (fails_more xs ys what) e
+
+passes_at : (b : Bool) (w : ListingWhat) (a c d : Option ListingWhat) → (a ≡ None → c ≡ d) → cond b (Some w) a ≡ None → cond b (Some w) c ≡ d
+passes_at true w a c d h e = cc
+passes_at false w a c d h e = h e
+
+-- checks that pass leave those that follow
+pub passes_more : (xs ys : List Check) → first_failing xs ≡ None → first_failing (xs ++ ys) ≡ first_failing ys
+passes_more [] ys e = refl
+passes_more (x ∷ xs) ys e = passes_at x.0 x.1 (first_failing xs) (first_failing (xs ++ ys)) (first_failing ys) (passes_more xs ys) e
+
+-- a part's error is the line's, where further checks follow
+pub error_more : {X Y : Type 0} (e : LineError) (xs ys : List Check) (P : X → Type 0) (Q : Y → Type 0) → Answers (Err e) (first_failing xs) P → Answers (Err e) (first_failing (xs ++ ys)) Q
+error_more (Failed what) xs ys P Q h = fails_more xs ys what h
+error_more Memory xs ys P Q h = tt
+
+-- and where a check that passes comes before
+pub error_after : {X Y : Type 0} (e : LineError) (b : Bool) (w : ListingWhat) (rest : Option ListingWhat) (P : X → Type 0) (Q : Y → Type 0) → b ≡ false → Answers (Err e) rest P → Answers (Err e) (cond b (Some w) rest) Q
+error_after (Failed what) b w rest P Q p h = ap (λ t. cond t (Some w) rest) p ∙ h
+error_after Memory b w rest P Q p h = tt

@@ -1,0 +1,4 @@
+pub mod Certifiers
+pub mod ListingLines
+pub mod PlainLevels
+pub mod Soonest
