@@ -1,6 +1,10 @@
 //! `wot`: a web of trust engine after GnuPG's, over standard input and output.
 #![tactic(auto)]
 
+ghost use Rattle.std.specs.Prelude.{◌≡◌};
+ghost use Rattle.std.specs.Process.{exit_status};
+ghost use Rattle.wot_session.specs.Status.{code_of};
+
 use std::alloc::AllocError;
 use std::env::Env;
 use std::io::{ErrorKind, writer};
@@ -36,7 +40,9 @@ fn words(rt: &(impl Env + AllocGlobal)) -> io::Result<Vec<String>> {
 }
 
 /// Prints the status's line, if it has one, and ends with its code.
-fn end(rt: &impl Eprint, status: Status) -> ExitCode {
+fn end(rt: &impl Eprint, status: Status) -> ExitCode
+    ensures { exit_status result ≡ code_of status }
+{
     let line = status.line();
     if !line.is_empty() {
         let _ = rt.eprintln(line);

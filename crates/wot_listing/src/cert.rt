@@ -10,10 +10,7 @@ ghost use Rattle.wot_listing.specs.Readable.{IsPlain};
 use crate::error::LineError;
 use crate::values::{class_in, date_in, is_local, key_id_in};
 use wot_fields::field::has_fewer;
-use wot_types::{Cert, KeyId, Limit, ListingWhat, RecordKind};
-
-/// The certifications that a key may have.
-pub const MOST_CERTS: u32 = 4_194_304;
+use wot_types::{Cert, KeyId, Limit, ListingWhat, MOST_CERTS, RecordKind};
 
 /// Reads a `sig` record of a good certification on the key with this key ID, which has so many certifications before it. One by the key itself gives None.
 pub fn read_cert(id: KeyId, certs: u32, line: &[u8]) -> Result<Option<Cert>, LineError>

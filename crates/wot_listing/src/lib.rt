@@ -12,8 +12,6 @@ mod listing;
 mod open_block;
 mod readable;
 mod so_far;
-#[cfg(test)]
-mod tests;
 mod user;
 mod values;
 

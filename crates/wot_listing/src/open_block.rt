@@ -16,11 +16,9 @@ use crate::values::fingerprint_in;
 use std::alloc::Global;
 use wot_fields::field::has_fewer;
 use wot_types::{
-    Cert, Fpr, Key, KeyId, Limit, List, ListingWhat, Mem, RecordKind, User, UserKind, Users,
+    Cert, Fpr, Key, KeyId, Limit, List, ListingWhat, MOST_USERS, Mem, RecordKind, User, UserKind,
+    Users,
 };
-
-/// The user IDs that a key may have.
-const MOST_USERS: usize = 1024;
 
 /// A block that no line has ended.
 #[derive(Debug, Drop)]

@@ -42,7 +42,7 @@ pub fn key_id_in(line: &[u8]) -> Result<KeyId, LineError>
 pub fn fingerprint_in(line: &[u8]) -> Result<Fpr, LineError>
     ensures { Gives result (fingerprint (fields.field 10 line.now)) ListingWhat.BadHex }
 {
-    read_fingerprint(field_or_empty(line, 10)).ok_or(LineError::Failed(ListingWhat::BadHex))
+    Fpr::from_hex(field_or_empty(line, 10)).ok_or(LineError::Failed(ListingWhat::BadHex))
 }
 
 /// The signature class in field 11.
@@ -57,16 +57,6 @@ fn read_key_id(f: &[u8]) -> Option<KeyId>
 {
     let bytes = <[u8; 8]>::from_hex(f).ok()?;
     Some(KeyId(u64::from_be_bytes(bytes)))
-}
-
-fn read_fingerprint(f: &[u8]) -> Option<Fpr>
-    ensures { result ≡ fingerprint f.now }
-{
-    match f.len() {
-        40 => Fpr::from_bytes(&<[u8; 20]>::from_hex(f).ok()?),
-        64 => Fpr::from_bytes(&<[u8; 32]>::from_hex(f).ok()?),
-        _ => None,
-    }
 }
 
 /// The byte that the first two digits spell.

@@ -5,7 +5,6 @@ ghost use Rattle.wot_types.specs.Command.{command_named, command_of, has_block, 
 ghost use Rattle.wot_types.specs.Fingerprint.{fingerprint};
 ghost use Rattle.wot_session.specs.Arguments.{argument_at, none_at};
 
-use hex::FromHex;
 use wot_types::{Edit, Fpr, Head, Query, Refusal, Text, Trust, Words};
 
 /// The command that these words ask for, or the first reason to refuse them.
@@ -81,7 +80,7 @@ fn fingerprint_at(arguments: &[Text], number: u32) -> Result<Fpr, Refusal>
     ensures { result ≡ argument_at fingerprint arguments.now number }
 {
     match arguments.get(number as usize - 1) {
-        Some(word) => read_fingerprint(word.as_bytes()).ok_or(Refusal::BadArgument(number)),
+        Some(word) => Fpr::from_hex(word.as_bytes()).ok_or(Refusal::BadArgument(number)),
         None => Err(Refusal::BadArgument(number)),
     }
 }
@@ -106,17 +105,6 @@ fn none_at(arguments: &[Text], number: u32) -> Result<(), Refusal>
         Ok(())
     } else {
         Err(Refusal::BadArgument(number))
-    }
-}
-
-/// The fingerprint that 40 or 64 hexadecimal digits spell.
-fn read_fingerprint(word: &[u8]) -> Option<Fpr>
-    ensures { result ≡ fingerprint word.now }
-{
-    match word.len() {
-        40 => Fpr::from_bytes(&<[u8; 20]>::from_hex(word).ok()?),
-        64 => Fpr::from_bytes(&<[u8; 32]>::from_hex(word).ok()?),
-        _ => None,
     }
 }
 

@@ -1,12 +1,12 @@
 //! The replies that commands make.
 
 ghost use Rattle.std.specs.Prelude.{◌≡◌, ◌++◌, IfOk, OnOk};
-ghost use Rattle.std.specs.Fmt.{decimal};
 ghost use Rattle.wot_types.specs.Ownertrust.{ownertrust_line, ownertrust_text};
 ghost use Rattle.wot_types.specs.Printing.{key_id_text};
 ghost use Rattle.wot_types.specs.Step.{fault_name, import_line, limit_name, ok_line, refusal_text, reply_line};
 
 use std::alloc::Global;
+use wot_fields::printed::{push_hex, push_number};
 use wot_types::{Fpr, KeyId, Limit, ListingFault, ListingWhat, Mem, Ownertrust, Refusal, Trusts};
 
 /// The line that says why a command is refused.
@@ -132,8 +132,7 @@ pub fn export(alloc: Global, trusts: &Trusts) -> Result<Vec<u8>, Mem>
 fn push_entry(alloc: Global, text: &mut Vec<u8>, fpr: &Fpr, kept: Ownertrust) -> Result<(), Mem>
     ensures { OnOk result (text.new.items ≡ text.old.items ++ ownertrust_line (fpr.now, kept)) }
 {
-    let digits = hex::encode_upper(alloc, fpr.as_bytes())?;
-    text.extend_from_slice(digits.as_bytes())?;
+    push_hex(alloc, text, fpr.as_bytes())?;
     text.push(b':')?;
     push_number(alloc, text, u64::from(kept.number()))?;
     text.extend_from_slice(b":\n")?;
@@ -144,15 +143,5 @@ fn push_entry(alloc: Global, text: &mut Vec<u8>, fpr: &Fpr, kept: Ownertrust) ->
 fn push_key_id(alloc: Global, text: &mut Vec<u8>, id: KeyId) -> Result<(), Mem>
     ensures { OnOk result (text.new.items ≡ text.old.items ++ key_id_text id) }
 {
-    let digits = hex::encode_upper(alloc, id.0.to_be_bytes().as_slice())?;
-    text.extend_from_slice(digits.as_bytes())?;
-    Ok(())
-}
-
-/// A number in decimal.
-fn push_number(alloc: Global, text: &mut Vec<u8>, number: u64) -> Result<(), Mem>
-    ensures { OnOk result (text.new.items ≡ text.old.items ++ decimal number) }
-{
-    text.extend_from_slice(number.to_string(alloc)?.as_bytes())?;
-    Ok(())
+    push_hex(alloc, text, id.0.to_be_bytes().as_slice())
 }

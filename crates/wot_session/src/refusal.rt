@@ -6,13 +6,7 @@ ghost use Rattle.wot_types.specs.Accepted.{AreListed};
 ghost use Rattle.wot_types.specs.Keyring.{cert_total, is_taken, limit_passed, most_keys, taken_id, with_keys};
 ghost use Rattle.wot_types.specs.Step.{refusal_of};
 
-use wot_types::{Edit, Key, KeyId, Keyring, Keys, Limit, Refusal, State};
-
-/// The most keys of a keyring.
-const MOST_KEYS: u64 = 262_144;
-
-/// The most certifications of a keyring.
-const MOST_CERTS: u64 = 4_194_304;
+use wot_types::{Edit, Key, KeyId, Keyring, Keys, Limit, MOST_CERTS, MOST_KEYS, Refusal, State};
 
 /// Why these keys can't be imported: a limit that the keyring after it would pass, else the least key ID that is taken.
 /// It takes no memory, and the time of a look-up for each of these keys.
@@ -32,7 +26,7 @@ fn limit_passed(keyring: &Keyring, keys: &Keys) -> Option<Limit>
 {
     if !has_room(keyring, keys) {
         Some(Limit::Keys)
-    } else if certs_after(keyring, keys) > MOST_CERTS {
+    } else if certs_after(keyring, keys) > u64::from(MOST_CERTS) {
         Some(Limit::Certs)
     } else {
         None

@@ -4,7 +4,8 @@ use crate::rows::{A, B, MOST, Row, check_all, site};
 use std::alloc::Global;
 use std::process::Abort;
 use wot_session::{Status, run_within};
-use wot_types::Mem;
+use wot_types::{Mem, Options, State};
+use wot_validity::list;
 
 const KEY_A: &str = "pub:-:255:22:00000000000000AA:1000:::-:::scSC:\n\
     fpr:::::::::00000000000000000000000000000000000000AA:\n\
@@ -64,6 +65,24 @@ fn the_keyring_is_listed(rt: HostRuntime) -> Result<(), Mem> {
             },
         ],
     )
+}
+
+#[test]
+fn the_options_are_listed(rt: HostRuntime) -> Result<(), Mem> {
+    let mut state = State::opening(rt.alloc());
+    state.date = 4_294_967_295;
+    state.options = Options {
+        pgp: false,
+        completes: 2,
+        marginals: 10,
+        depth: 255,
+        level: 3,
+    };
+    assert_eq!(rt;
+        list(rt.alloc(), &state)?.as_slice(),
+        b"tru::0:4294967295:0:10:2:255\n".as_slice()
+    );
+    Ok(())
 }
 
 /// The letters of the user IDs that a session prints, in their order.

@@ -11,7 +11,7 @@ use Rattle.wot_types.specs.Command.{is_word}
 use Rattle.wot_types.specs.Dates.{date_or_0}
 use Rattle.wot_types.specs.Fields.{field}
 use Rattle.wot_types.specs.Fingerprint.{fingerprint}
-use Rattle.wot_types.specs.Numbers.{depth_and_amount, number_or_0}
+use Rattle.wot_types.specs.Numbers.{depth_and_amount, is_digit, number_or_0}
 use Rattle.wot_types.specs.Quotes.{unquoted}
 
 abbrev pub kind_of_name : List ℕ → RecordKind
@@ -122,9 +122,6 @@ scope_of text = if length text == 0 then None else Some text
 abbrev pub is_letter_byte : ℕ → Bool
 is_letter_byte b = (nat_le 65 b && nat_le b 90) || (nat_le 97 b && nat_le b 122)
 
-abbrev pub is_digit_byte : ℕ → Bool
-is_digit_byte b = nat_le 48 b && nat_le b 57
-
 -- capabilities are letters; `D` is the disabled flag, which is not imported
 abbrev pub is_capability : ℕ → Bool
 is_capability b = is_letter_byte b && not (b == 68)
@@ -133,7 +130,7 @@ abbrev pub capabilities_at : List ℕ → List ℕ
 capabilities_at line = filter is_capability (field 12 line)
 
 abbrev pub is_hash_byte : ℕ → Bool
-is_hash_byte b = is_letter_byte b || is_digit_byte b
+is_hash_byte b = is_letter_byte b || is_digit b
 
 abbrev pub hash_at : List ℕ → List ℕ
 hash_at line = filter is_hash_byte (field 8 line)

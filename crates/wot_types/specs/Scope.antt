@@ -2,7 +2,8 @@
 use Rattle.std.specs.Prelude.{ℕ, Bool, true, false, ◌==◌, not, ◌+◌, ◌-◌, ◌&&◌, ◌||◌, nat_le, nat_eq, List, [], ◌∷◌, ◌++◌, length, take, drop, map, if◌then◌else◌, Option, Some, None, option_map, codes}
 use Rattle.std.specs.Cmp.Lexicographic.{pointwise}
 use Rattle.std.specs.List.{list_any}
-use Rattle.wot_types.specs.Records.{is_letter_byte, is_digit_byte}
+use Rattle.wot_types.specs.Numbers.{is_digit}
+use Rattle.wot_types.specs.Records.{is_letter_byte}
 
 abbrev pub opening : List ℕ
 opening = codes "<[^>]+[@.]"
@@ -11,7 +12,7 @@ abbrev pub closing : List ℕ
 closing = codes ">$"
 
 abbrev pub is_alphanumeric : ℕ → Bool
-is_alphanumeric b = is_letter_byte b || is_digit_byte b
+is_alphanumeric b = is_letter_byte b || is_digit b
 
 abbrev pub is_plain : ℕ → Bool
 is_plain b = is_alphanumeric b || (b == 45) || (b == 95)

@@ -1,20 +1,17 @@
 //! The keyring as a listing, with a letter for each key and user ID (doc/DETAILS).
 
 ghost use Rattle.std.specs.Prelude.{◌≡◌, ◌++◌, IfOk, OnOk, codes, if◌then◌else◌};
-ghost use Rattle.std.specs.Fmt.{decimal};
 ghost use Rattle.std.specs.List.{flat_map};
 ghost use Rattle.hex.specs.Hex.{encode_upper};
 ghost use Rattle.wot_types.specs.Ownertrust.{ownertrust_of};
 ghost use Rattle.wot_types.specs.Printing.{ended_field, expiry_field, fpr_line, kind_text, letter_text, list_text, number_field, trust_text};
 ghost use Rattle.wot_validity.specs.ListingLines.{capabilities, plain_key_lines, plain_user_line, pub_text, tru_text, user_text};
 
-#[cfg(test)]
-mod tests;
-
 use crate::levels::{
     CertifiedKey, Rows, certify_all, find_rows, key_letter, next_check, user_letter,
 };
 use std::alloc::Global;
+use wot_fields::printed::{push_hex, push_number};
 use wot_fields::quote::quote;
 use wot_types::{Fpr, Key, KeyId, Letter, Mem, Options, Ownertrust, State, Trust, User, UserKind};
 
@@ -47,11 +44,11 @@ fn push_tru(
 {
     text.extend_from_slice(b"tru::")?;
     push_field(text, model_text(options.pgp))?;
-    push_number(alloc, text, date)?;
-    push_number(alloc, text, next)?;
-    push_number(alloc, text, options.marginals)?;
-    push_number(alloc, text, options.completes)?;
-    push_decimal(alloc, text, u32::from(options.depth))?;
+    push_number_field(alloc, text, date)?;
+    push_number_field(alloc, text, next)?;
+    push_number_field(alloc, text, options.marginals)?;
+    push_number_field(alloc, text, options.completes)?;
+    push_number(alloc, text, u64::from(options.depth))?;
     text.push(b'\n')?;
     Ok(())
 }
@@ -117,10 +114,10 @@ fn push_pub(
 {
     text.extend_from_slice(b"pub:")?;
     push_field(text, letter_text(letter))?;
-    push_number(alloc, text, key.bits)?;
-    push_number(alloc, text, key.algo)?;
-    push_hex(alloc, text, &id.0.to_be_bytes())?;
-    push_number(alloc, text, key.made)?;
+    push_number_field(alloc, text, key.bits)?;
+    push_number_field(alloc, text, key.algo)?;
+    push_hex_field(alloc, text, &id.0.to_be_bytes())?;
+    push_number_field(alloc, text, key.made)?;
     push_expiry(alloc, text, key.expires)?;
     text.push(b':')?;
     push_field(text, trust_text(kept.trust))?;
@@ -135,7 +132,7 @@ fn push_fpr(alloc: Global, text: &mut Vec<u8>, key: &Key) -> Result<(), Mem>
     ensures { OnOk result (text.new.items ≡ text.old.items ++ fpr_line key.now) }
 {
     text.extend_from_slice(b"fpr:::::::::")?;
-    push_hex(alloc, text, key.fpr.as_bytes())?;
+    push_hex_field(alloc, text, key.fpr.as_bytes())?;
     text.push(b'\n')?;
     Ok(())
 }
@@ -148,7 +145,7 @@ fn push_user(alloc: Global, text: &mut Vec<u8>, user: &User, letter: Letter) -> 
     push_field(text, kind_text(user.kind))?;
     push_field(text, letter_text(letter))?;
     text.extend_from_slice(b":::")?;
-    push_number(alloc, text, user.made)?;
+    push_number_field(alloc, text, user.made)?;
     push_expiry(alloc, text, user.expires)?;
     push_field(text, user.hash.as_bytes())?;
     text.push(b':')?;
@@ -195,31 +192,25 @@ fn push_expiry(alloc: Global, text: &mut Vec<u8>, expires: u32) -> Result<(), Me
     if expires == 0 {
         push_field(text, b"")
     } else {
-        push_number(alloc, text, expires)
+        push_number_field(alloc, text, expires)
     }
 }
 
 /// Bytes in hexadecimal, and the colon after them.
-fn push_hex(alloc: Global, text: &mut Vec<u8>, bytes: &[u8]) -> Result<(), Mem>
+fn push_hex_field(alloc: Global, text: &mut Vec<u8>, bytes: &[u8]) -> Result<(), Mem>
     ensures { OnOk result (text.new.items ≡ text.old.items ++ ended_field (encode_upper bytes.now)) }
 {
-    let digits = hex::encode_upper(alloc, bytes)?;
-    push_field(text, digits.as_bytes())
-}
-
-/// A number and the colon after it.
-fn push_number(alloc: Global, text: &mut Vec<u8>, number: u32) -> Result<(), Mem>
-    ensures { OnOk result (text.new.items ≡ text.old.items ++ number_field number) }
-{
-    push_decimal(alloc, text, number)?;
+    push_hex(alloc, text, bytes)?;
     text.push(b':')?;
     Ok(())
 }
 
-fn push_decimal(alloc: Global, text: &mut Vec<u8>, number: u32) -> Result<(), Mem>
-    ensures { OnOk result (text.new.items ≡ text.old.items ++ decimal number) }
+/// A number and the colon after it.
+fn push_number_field(alloc: Global, text: &mut Vec<u8>, number: u32) -> Result<(), Mem>
+    ensures { OnOk result (text.new.items ≡ text.old.items ++ number_field number) }
 {
-    text.extend_from_slice(number.to_string(alloc)?.as_bytes())?;
+    push_number(alloc, text, u64::from(number))?;
+    text.push(b':')?;
     Ok(())
 }
 

@@ -4,9 +4,6 @@ ghost use Rattle.std.specs.Prelude.{◌≡◌, ◌≤◌, length, IfOk};
 ghost use Rattle.wot_types.specs.Listing.{most_certs};
 ghost use Rattle.wot_validity.specs.Certifiers.{certifiers};
 
-#[cfg(test)]
-mod tests;
-
 use crate::levels::decisions::Decisions;
 use std::alloc::Global;
 use std::marker::Model;

@@ -1,6 +1,8 @@
-use super::*;
+//! Listings, read line by line.
+
 use std::alloc::Global;
 use std::test::Fail;
+use wot_listing::{Blocks, Listing, ListingError};
 use wot_types::{KeyId, ListingFault, ListingWhat};
 
 const PUB_A: &[u8] = b"pub:-:255:22:00000000000000AA:1000:::-:::scSCD:";
