@@ -1,0 +1,17 @@
+//! Worked examples of the rules of validity that no command reaches yet: each clause evaluates definitions.
+//!
+//! A key is named by a number. Key 10 is ultimately trusted where it stands among the introducers.
+#![tactic(auto)]
+
+mod expiry;
+mod scopes;
+mod selection;
+mod trust_signatures;
+
+pub use expiry::{keys_end_at_their_expiry, next_check_is_at_the_next_expiry};
+pub use scopes::scopes_admit_their_domain;
+pub use selection::{latest_certification_decides, low_levels_are_disregarded};
+pub use trust_signatures::{
+    depth_is_used_up, latest_delegation_counts, scopes_narrow_introducers,
+    trust_signatures_make_introducers,
+};
