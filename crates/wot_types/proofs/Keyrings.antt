@@ -13,17 +13,14 @@ use Rattle.std.proofs.lemmas.List.{get_or-map, get_or-take, length-map, length-t
 use Rattle.std.proofs.lemmas.List.Elements.{All-nil, All-head, All-tail, All-from_get_or, All-map, All-take, All-weaker}
 use Rattle.std.proofs.lemmas.List.Sums.{fold-append, fold_more, sum_by-le}
 use Rattle.wot_types.specs.declared.key.Key.{Key}
-use Rattle.wot_types.specs.declared.command.Edit.TheVariants.{Import}
-use Rattle.wot_types.specs.declared.command.Refusal.TheVariants.{Full, KeyIdTaken}
-use Rattle.wot_types.specs.declared.listing.Limit.TheVariants.{Keys, Certs}
-use Rattle.wot_types.specs.declared.state.State.{State}
-use Rattle.wot_types.specs.Accepted.{AreListed, IsAccepted, IsCounted, IsFiled, IsSound}
-use Rattle.wot_types.specs.Keyring.{Keyring, cert_total, certs_at, id_of, key_certs, most_keys, taken_id, with_key, with_keys}
+use Rattle.wot_types.specs.Accepted.{AreListed, IsCounted, IsFiled, IsSound}
+use Rattle.wot_types.specs.Keyring.{Keyring, cert_total, certs_at, id_of, key_certs, taken_id, with_key, with_keys}
+use Rattle.wot_types.specs.Limits.{most_keys}
 use Rattle.wot_types.specs.Listing.{most_certs}
-use Rattle.wot_types.specs.Step.{refusal_of}
+use Rattle.wot_types.specs.WellFormed.{IsWellFormed}
 use Rattle.wot_types.proofs.FinMaps.{All-insert, sum_by-insert}
 
-no_entries : {K X : Type 0} {R : K → K → Ordering} (m : finmap.FinMap R X) → finmap.len m ≡ 0 → finmap.entries m ≡ []
+pub no_entries : {K X : Type 0} {R : K → K → Ordering} (m : finmap.FinMap R X) → finmap.len m ≡ 0 → finmap.entries m ≡ []
 no_entries m e = none (finmap.entries m) (sym (finmap.len-entries m) ∙ e)
   where
     none : {A : Type 0} (xs : List A) → length xs ≡ 0 → xs ≡ []
@@ -41,14 +38,14 @@ len-with_key keys key = len-insert nat_cmp_total keys (id_of key) key
 -- no keyring has more certifications than its keys may have
 pub cert_total-le : (keys : Keyring) → All IsFiled (finmap.entries keys) → cert_total keys ≤ finmap.len keys * most_certs
 cert_total-le keys filed =
-    let each = All-weaker IsFiled (λ e. key_certs e.1 ≤ most_certs) (λ e h. h.accepted.well_formed.few_certs) (finmap.entries keys) filed in
+    let each = All-weaker IsFiled (λ e. key_certs e.1 ≤ most_certs) (λ e h. h.well_formed.few_certs) (finmap.entries keys) filed in
     let bound = sum_by-le key_certs most_certs (finmap.values keys) (All-map (λ key. key_certs key ≤ most_certs) (λ e. e.1) (finmap.entries keys) each) in
     let many = length-map (finmap.entries keys) (λ e. e.1) ∙ sym (finmap.len-entries keys) in
     subst (λ n. cert_total keys ≤ n * most_certs) many bound
 
-pub filed-with_key : (keys : Keyring) (key : Key) → All IsFiled (finmap.entries keys) → IsAccepted key → All IsFiled (finmap.entries (with_key keys key))
-filed-with_key keys key filed accepted =
-    All-insert nat_cmp_total nat_cmp-IsAntisymmetric IsFiled keys (id_of key) key filed (record { own_id = refl; accepted = accepted })
+pub filed-with_key : (keys : Keyring) (key : Key) → All IsFiled (finmap.entries keys) → IsWellFormed key → All IsFiled (finmap.entries (with_key keys key))
+filed-with_key keys key filed well_formed =
+    All-insert nat_cmp_total nat_cmp-IsAntisymmetric IsFiled keys (id_of key) key filed (record { own_id = refl; well_formed = well_formed })
 
 pub IsCounted-empty : IsCounted finmap.empty 0
 IsCounted-empty =
@@ -61,14 +58,14 @@ IsCounted-empty =
     }
 
 -- the sum of certifications doesn't wrap
-pub certs_fit : (keys : Keyring) (certs : ℕ) (key : Key) → IsCounted keys certs → IsAccepted key → certs + key_certs key < 2 ^ 64
-certs_fit keys certs key counted accepted =
-    omega (arith, cert_total-le keys counted.sound.filed, counted.sound.few, counted.total, accepted.well_formed.few_certs)
+pub certs_fit : (keys : Keyring) (certs : ℕ) (key : Key) → IsCounted keys certs → IsWellFormed key → certs + key_certs key < 2 ^ 64
+certs_fit keys certs key counted well_formed =
+    omega (arith, cert_total-le keys counted.sound.filed, counted.sound.few, counted.total, well_formed.few_certs)
 
-pub IsCounted-with_key : (keys : Keyring) (certs : ℕ) (key : Key) → IsCounted keys certs → IsAccepted key → finmap.len (with_key keys key) ≤ most_keys
+pub IsCounted-with_key : (keys : Keyring) (certs : ℕ) (key : Key) → IsCounted keys certs → IsWellFormed key → finmap.len (with_key keys key) ≤ most_keys
     → IsCounted (with_key keys key) (certs + key_certs key - certs_at keys (id_of key))
-IsCounted-with_key keys certs key counted accepted room = record {
-  sound = record { filed = filed-with_key keys key counted.sound.filed accepted; few = room };
+IsCounted-with_key keys certs key counted well_formed room = record {
+  sound = record { filed = filed-with_key keys key counted.sound.filed well_formed; few = room };
   total = omega (arith, cert_total-with_key keys key, counted.total);
 }
 
@@ -83,10 +80,10 @@ get-with_keys keys (key ∷ more) id others =
     other : (a b : ℕ) → a ≢ b → eq_by_cmp nat_cmp a b ≡ false
     other a b apart = grind (arith, nat_tests)
 
-pub filed-with_keys : (keys : Keyring) (more : List Key) → All IsFiled (finmap.entries keys) → All IsAccepted more → All IsFiled (finmap.entries (with_keys keys more))
-filed-with_keys keys [] filed accepted = filed
-filed-with_keys keys (key ∷ more) filed accepted =
-    filed-with_keys (with_key keys key) more (filed-with_key keys key filed (All-head IsAccepted key more accepted)) (All-tail IsAccepted key more accepted)
+pub filed-with_keys : (keys : Keyring) (more : List Key) → All IsFiled (finmap.entries keys) → All IsWellFormed more → All IsFiled (finmap.entries (with_keys keys more))
+filed-with_keys keys [] filed well_formed = filed
+filed-with_keys keys (key ∷ more) filed well_formed =
+    filed-with_keys (with_key keys key) more (filed-with_key keys key filed (All-head IsWellFormed key more well_formed)) (All-tail IsWellFormed key more well_formed)
 
 len-le-with_key : (keys : Keyring) (key : Key) → finmap.len keys ≤ finmap.len (with_key keys key)
 len-le-with_key keys key = subst (λ n. finmap.len keys ≤ n) (sym (len-with_key keys key)) (kept (is_some (finmap.get keys (id_of key))) (finmap.len keys))
@@ -141,20 +138,5 @@ module _ (keys : Keyring) (more : List Key) (i : ℕ) (key : Key) (rising : IsSt
 pub certs_on_the_way : (keys : Keyring) (more : List Key) (i : ℕ) → IsSound keys → AreListed more → finmap.len (with_keys keys more) ≤ most_keys
     → cert_total (with_keys keys (take i more)) ≤ most_keys * most_certs
 certs_on_the_way keys more i sound listed room =
-    let filed = filed-with_keys keys (take i more) sound.filed (All-take IsAccepted i more listed.accepted) in
+    let filed = filed-with_keys keys (take i more) sound.filed (All-take IsWellFormed i more listed.well_formed) in
     omega (arith, cert_total-le (with_keys keys (take i more)) filed, len-take-le keys more i)
-
--- the keys of an import that isn't refused have room
-pub room : (state : State) (more : List Key) → refusal_of state (Import more) ≡ None → finmap.len (with_keys state.keys more) ≤ most_keys
-room state more e =
-    elim (nat_lt most_keys count) as (λ b. nat_lt most_keys count ≡ b
-    → option_or (option_map Full (cond b (Some Keys) (cond (nat_lt most_certs (cert_total after)) (Some Certs) None))) (option_map KeyIdTaken (taken_id state.keys more)) ≡ None → count ≤ most_keys) [
-      | true ↦ λ t none. cc
-      | false ↦ λ t none. grind (arith, nat_tests)
-    ] refl e
-  where
-    after : Keyring
-    after = with_keys state.keys more
-
-    count : ℕ
-    count = finmap.len after

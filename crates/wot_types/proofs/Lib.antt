@@ -2,3 +2,8 @@ pub mod Maps
 pub mod Fingerprints
 pub mod FinMaps
 pub mod Keyrings
+pub mod Removals
+pub mod Nexts
+pub mod Cuts
+pub mod Counting
+pub mod Laws

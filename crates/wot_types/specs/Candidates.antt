@@ -3,8 +3,8 @@ use Rattle.std.specs.Prelude.{ℕ, Bool, ◌==◌, not, ◌&&◌, ◌||◌, nat_
 use Rattle.std.specs.FinMap as map
 use Rattle.std.specs.Ordering.{nat_cmp}
 use Rattle.wot_types.specs.declared.options.Options.{Options}
-use Rattle.wot_types.specs.declared.row.Count.{Count}
-use Rattle.wot_types.specs.declared.row.Placed.{Placed}
+use Rattle.wot_types.specs.declared.count.Count.{Count}
+use Rattle.wot_types.specs.declared.placed.Placed.{Placed}
 use Rattle.wot_types.specs.declared.row.Row.{Row}
 use Rattle.wot_types.specs.Scope.{admits}
 use Rattle.wot_types.specs.Selection.{Spot, usable}

@@ -1,14 +1,11 @@
--- The keyring: keys by key ID, its limits, and what an import does to it.
-use Rattle.std.specs.Prelude.{ℕ, Bool, false, not, nat_lt, nat_eq, List, length, sum_by, fold, find, if◌then◌else◌, Option, Some, None, option_map}
+-- The keyring: keys by key ID, and what an import does to it.
+use Rattle.std.specs.Prelude.{ℕ, Bool, false, not, nat_eq, List, length, sum_by, fold, find, Option, Some, None, option_map}
 use Rattle.std.specs.Cmp.Lexicographic.{pointwise}
 use Rattle.std.specs.FinMap as finmap
 use Rattle.std.specs.Option.{option_map_or}
 use Rattle.std.specs.Ordering.{nat_cmp}
 use Rattle.wot_types.specs.declared.key.Key.{Key}
-use Rattle.wot_types.specs.declared.listing.Limit.{Limit}
-use Rattle.wot_types.specs.declared.listing.Limit.TheVariants.{Keys, Certs}
 use Rattle.wot_types.specs.Fingerprint.{key_id_of}
-use Rattle.wot_types.specs.Listing.{most_certs}
 
 abbrev pub Keyring : Type 0
 Keyring = finmap.FinMap nat_cmp Key
@@ -34,14 +31,17 @@ cert_total keys = sum_by key_certs (finmap.values keys)
 abbrev pub certs_at : Keyring → ℕ → ℕ
 certs_at keys id = option_map_or key_certs (finmap.get keys id) 0
 
-abbrev pub most_keys : ℕ
-most_keys = 262144
+-- the keyring has a key of this fingerprint: one of its key ID with another fingerprint is no such key
+abbrev pub is_fpr_of : List ℕ → Option Key → Bool
+is_fpr_of fpr None = false
+is_fpr_of fpr (Some key) = pointwise nat_eq key.fpr fpr
 
--- the first limit that a keyring passes
-abbrev pub limit_passed : Keyring → Option Limit
-limit_passed keys =
-    if nat_lt most_keys (finmap.len keys) then Some Keys else
-    if nat_lt most_certs (cert_total keys) then Some Certs else None
+abbrev pub has_fpr : Keyring → List ℕ → Bool
+has_fpr keys fpr = is_fpr_of fpr (finmap.get keys (key_id_of fpr))
+
+-- the keyring without the key of a key ID
+abbrev pub without_key : Keyring → ℕ → Keyring
+without_key keys id = finmap.remove keys id
 
 abbrev pub is_another : Key → Option Key → Bool
 is_another key None = false

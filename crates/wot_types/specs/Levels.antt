@@ -6,7 +6,7 @@ use Rattle.std.specs.List.{filter_map, flat_map, list_any}
 use Rattle.std.specs.Ordering.{nat_cmp}
 use Rattle.wot_types.specs.declared.key.Key.{Key}
 use Rattle.wot_types.specs.declared.options.Options.{Options}
-use Rattle.wot_types.specs.declared.row.Placed.{Placed}
+use Rattle.wot_types.specs.declared.placed.Placed.{Placed}
 use Rattle.wot_types.specs.declared.row.Row.{Row}
 use Rattle.wot_types.specs.declared.state.State.{State}
 use Rattle.wot_types.specs.declared.trust.Trust.{Trust}

@@ -9,16 +9,15 @@ use Rattle.wot_types.specs.declared.user.User.{User}
 use Rattle.wot_types.specs.declared.user.UserKind.{UserKind}
 use Rattle.wot_types.specs.declared.user.UserKind.TheVariants.{Uid, Uat}
 use Rattle.wot_types.specs.declared.key.Key.{Key}
-use Rattle.wot_types.specs.declared.listing.Limit.TheVariants.{Users as UsersLimit, Certs as CertsLimit, Scope as ScopeLimit}
-use Rattle.wot_types.specs.declared.listing.ListingFault.{ListingFault}
-use Rattle.wot_types.specs.declared.listing.ListingWhat.{ListingWhat}
-use Rattle.wot_types.specs.declared.listing.ListingWhat.TheVariants.{ShortRecord, BadNumber, BadDate, BadHex, BadQuote, NoFingerprint, KeyIdDiffers, RepeatedKey, RepeatedUser, BadTrustField, LimitReached, NotBuilt}
-use Rattle.wot_types.specs.declared.listing.RecordKind.{RecordKind}
-use Rattle.wot_types.specs.declared.listing.RecordKind.TheVariants.{Primary, Fingerprint, UserId, Signature, Foreign}
+use Rattle.wot_types.specs.declared.limit.Limit.TheVariants.{Users as UsersLimit, Certs as CertsLimit, Scope as ScopeLimit}
+use Rattle.wot_types.specs.declared.fault.ListingFault.{ListingFault}
+use Rattle.wot_types.specs.declared.fault.ListingWhat.{ListingWhat}
+use Rattle.wot_types.specs.declared.fault.ListingWhat.TheVariants.{ShortRecord, BadNumber, BadDate, BadHex, BadQuote, NoFingerprint, KeyIdDiffers, RepeatedKey, RepeatedUser, BadTrustField, LimitReached}
+use Rattle.wot_types.specs.declared.record.RecordKind.{RecordKind}
+use Rattle.wot_types.specs.declared.record.RecordKind.TheVariants.{Primary, Fingerprint, UserId, Signature, Foreign}
 use Rattle.wot_types.specs.Dates.{date_or_0}
 use Rattle.wot_types.specs.Fields.{field, has_fewer}
 use Rattle.wot_types.specs.Fingerprint.{fingerprint, key_id_of}
-use Rattle.wot_types.specs.NotBuilt.{is_not_built}
 use Rattle.wot_types.specs.Numbers.{depth_and_amount, number_or_0}
 use Rattle.wot_types.specs.Quotes.{unquoted}
 use Rattle.wot_types.specs.Records as record_of
@@ -28,11 +27,11 @@ use Rattle.wot_types.specs.Runs.{Run, alone, open_run, runs, up_to}
 abbrev pub Line : Type 0
 Line = List ℕ
 
-abbrev pub begins_block : Line → Bool
-begins_block line = is_primary (kind_of line)
+abbrev pub begins_keyblock : Line → Bool
+begins_keyblock line = is_primary (kind_of line)
 
-abbrev pub ends_block : Line → Bool
-ends_block line = record_of.ends_block (kind_of line)
+abbrev pub ends_keyblock : Line → Bool
+ends_keyblock line = record_of.ends_keyblock (kind_of line)
 
 abbrev pub begins_user : Line → Bool
 begins_user line = is_user_id (kind_of line)
@@ -51,11 +50,11 @@ is_sig line = is_signature (kind_of line)
 
 -- a block begins at `pub`
 abbrev pub blocks : List Line → List (Run Line)
-blocks lines = runs begins_block ends_block lines
+blocks lines = runs begins_keyblock ends_keyblock lines
 
 -- the block that no line has ended
 abbrev pub open_block : List Line → Option (Run Line)
-open_block lines = open_run begins_block ends_block lines
+open_block lines = open_run begins_keyblock ends_keyblock lines
 
 abbrev pub block_id : Run Line → ℕ
 block_id block = key_id_at block.first
@@ -71,9 +70,13 @@ user_runs block = runs begins_user ends_user block.rest
 abbrev pub open_user : Run Line → Option (Run Line)
 open_user block = open_run begins_user ends_user block.rest
 
--- a `sig` or `rev` that is kept: checked and good, of a class that counts, and not by the key itself
+-- a signature on the key with this key ID counts where it was checked and is good, is of a class that counts, and is not by the key itself
+abbrev pub certifies : ℕ → Line → Bool
+certifies id line = is_good line && is_kept_class (class_at line) && not (key_id_at line == id)
+
+-- a `sig` or `rev` that is kept
 abbrev pub is_certification : Run Line → Line → Bool
-is_certification block line = is_sig line && is_good line && is_kept_class (class_at line) && not (key_id_at line == block_id block)
+is_certification block line = is_sig line && certifies (block_id block) line
 
 abbrev pub certifications : Run Line → Run Line → List Line
 certifications block user = filter (is_certification block) user.rest
@@ -85,17 +88,20 @@ abbrev pub user_kind : RecordKind → UserKind
 user_kind (UserId kind) = kind
 user_kind _ = Uid
 
--- a revoked key's user IDs are not marked revoked themselves
-abbrev pub user_of : Run Line → Run Line → User
-user_of block user = record {
-  kind = user_kind (kind_of user.first);
-  text = text_at 10 user.first;
-  hash = hash_at user.first;
-  made = date_at 6 user.first;
-  expires = date_at 7 user.first;
-  revoked = is_revoked_at user.first && not (is_revoked_at block.first);
-  certs = map cert_of (certifications block user);
+-- a user ID at its record, before its certifications; those of a revoked key are not marked revoked themselves
+abbrev pub user_at : UserKind → Bool → Line → User
+user_at kind of_revoked line = record {
+  kind = kind;
+  text = text_at 10 line;
+  hash = hash_at line;
+  made = date_at 6 line;
+  expires = date_at 7 line;
+  revoked = is_revoked_at line && not of_revoked;
+  certs = [];
 }
+
+abbrev pub user_of : Run Line → Run Line → User
+user_of block user = record (user_at (user_kind (kind_of user.first)) (is_revoked_at block.first) user.first) { certs = map cert_of (certifications block user) }
 
 abbrev pub key_of : Run Line → Key
 key_of block = record {
@@ -209,10 +215,6 @@ abbrev pub in_block : Option (Run Line) → (Run Line → List Check) → List C
 in_block None checks = []
 in_block (Some block) checks = checks block
 
-abbrev pub in_user : Option (Run Line) → Bool
-in_user None = false
-in_user (Some block) = is_some (open_user block)
-
 -- the checks of a line of this kind, in their order, where these lines came before it
 abbrev pub checks_of : RecordKind → List Line → Line → List Check
 checks_of Primary before line = (lacks_fingerprint (open_block before), NoFingerprint) ∷ pub_checks line ++ (is_repeated_key before line, RepeatedKey) ∷ []
@@ -226,7 +228,7 @@ checks_of _ before line = []
 
 -- the first check of a line that fails
 abbrev pub failing : List Line → Line → Option ListingWhat
-failing before line = first_failing ((is_not_built (kind_of line) (in_user (open_block before)) line, NotBuilt) ∷ checks_of (kind_of line) before line)
+failing before line = first_failing (checks_of (kind_of line) before line)
 
 -- line numbers and counts above 2^64 - 1 are given as 2^64 - 1
 abbrev pub capped : ℕ → ℕ
@@ -251,14 +253,11 @@ abbrev pub kept_count : List Line → ℕ
 kept_count lines = sum_by cert_count (blocks lines)
 
 -- the keys of blocks, by key ID
-abbrev pub KeyMap : Type 0
-KeyMap = finmap.FinMap nat_cmp Key
+abbrev pub with_keyblock : finmap.FinMap nat_cmp Key → Run Line → finmap.FinMap nat_cmp Key
+with_keyblock keys block = finmap.insert keys (block_id block) (key_of block)
 
-abbrev pub with_key : KeyMap → Run Line → KeyMap
-with_key keys block = finmap.insert keys (block_id block) (key_of block)
-
-abbrev pub keys_of : List (Run Line) → KeyMap
-keys_of bs = fold with_key finmap.empty bs
+abbrev pub keys_of : List (Run Line) → finmap.FinMap nat_cmp Key
+keys_of bs = fold with_keyblock finmap.empty bs
 
 -- the listing's keys, in rising order of key ID
 abbrev pub listed_keys : List Line → List Key

@@ -1,10 +1,11 @@
 -- Ownertrust: what is kept of each fingerprint, and the lines of GnuPG's ownertrust export.
-use Rattle.std.specs.Prelude.{ℕ, Bool, false, ◌+◌, ◌==◌, ◌&&◌, not, List, [], ◌∷◌, ◌++◌, if◌then◌else◌, unwrap_or}
+use Rattle.std.specs.Prelude.{ℕ, Bool, false, ◌+◌, ◌==◌, ◌&&◌, not, List, [], ◌∷◌, ◌++◌, fold, if◌then◌else◌, unwrap_or}
 use Rattle.std.specs.List.{flat_map}
 use Rattle.std.specs.FinMap as map
 use Rattle.std.specs.Fmt.{decimal}
 use Rattle.hex.specs.Hex.{encode_upper}
-use Rattle.wot_types.specs.declared.entry.Ownertrust.{Ownertrust}
+use Rattle.wot_types.specs.declared.ownertrust.Entry.{Entry}
+use Rattle.wot_types.specs.declared.ownertrust.Ownertrust.{Ownertrust}
 use Rattle.wot_types.specs.declared.trust.Trust.{Trust}
 use Rattle.wot_types.specs.declared.trust.Trust.TheVariants.{Unknown}
 use Rattle.wot_types.specs.Fingerprint.{fpr_cmp}
@@ -31,6 +32,20 @@ with_ownertrust trusts fpr kept = if is_unset kept then map.remove trusts fpr el
 -- sets the trust, and keeps the disabled flag
 abbrev pub with_trust : OwnertrustMap → List ℕ → Trust → OwnertrustMap
 with_trust trusts fpr trust = with_ownertrust trusts fpr (record { trust = trust; disabled = (ownertrust_of trusts fpr).disabled })
+
+-- sets the disabled flag, and keeps the trust
+abbrev pub with_flag : OwnertrustMap → List ℕ → Bool → OwnertrustMap
+with_flag trusts fpr disabled = with_ownertrust trusts fpr (record { trust = (ownertrust_of trusts fpr).trust; disabled = disabled })
+
+-- what an entry sets
+abbrev pub kept_of : Entry → Ownertrust
+kept_of entry = record { trust = entry.trust; disabled = entry.disabled }
+
+abbrev pub with_entry : OwnertrustMap → Entry → OwnertrustMap
+with_entry trusts entry = with_ownertrust trusts entry.fpr (kept_of entry)
+
+abbrev pub with_entries : OwnertrustMap → List Entry → OwnertrustMap
+with_entries trusts entries = fold with_entry trusts entries
 
 -- the trust number, plus 128 where the key is disabled
 abbrev pub ownertrust_number : Ownertrust → ℕ

@@ -5,9 +5,9 @@ use Rattle.std.specs.Result.{result_ok}
 use Rattle.hex.specs.Hex.{decode_of}
 use Rattle.wot_types.specs.declared.cert.Cert.{Cert}
 use Rattle.wot_types.specs.declared.user.UserKind.TheVariants.{Uid, Uat}
-use Rattle.wot_types.specs.declared.listing.RecordKind.{RecordKind}
-use Rattle.wot_types.specs.declared.listing.RecordKind.TheVariants.{Primary, Fingerprint, UserId, Signature, Subkey, Foreign, Other}
-use Rattle.wot_types.specs.Command.{is_word}
+use Rattle.wot_types.specs.declared.record.RecordKind.{RecordKind}
+use Rattle.wot_types.specs.declared.record.RecordKind.TheVariants.{Primary, Fingerprint, UserId, Signature, Subkey, Foreign, Other}
+use Rattle.wot_types.specs.Bytes.{is_word}
 use Rattle.wot_types.specs.Dates.{date_or_0}
 use Rattle.wot_types.specs.Fields.{field}
 use Rattle.wot_types.specs.Fingerprint.{fingerprint}
@@ -52,11 +52,11 @@ abbrev pub is_subkey : RecordKind → Bool
 is_subkey Subkey = true
 is_subkey _ = false
 
--- the next `pub`, `sec`, `crt` or `crs` ends a block
-abbrev pub ends_block : RecordKind → Bool
-ends_block Primary = true
-ends_block Foreign = true
-ends_block _ = false
+-- the next `pub`, `sec`, `crt` or `crs` ends a keyblock
+abbrev pub ends_keyblock : RecordKind → Bool
+ends_keyblock Primary = true
+ends_keyblock Foreign = true
+ends_keyblock _ = false
 
 -- the next `uid`, `uat`, `sub` or `ssb` ends a user ID
 abbrev pub ends_user : RecordKind → Bool

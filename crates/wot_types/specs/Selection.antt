@@ -1,7 +1,7 @@
 -- The one certification of an issuer on a user ID that decides (after GnuPG; the order at equal dates is this project's own).
 use Rattle.std.specs.Prelude.{ℕ, Bool, ◌==◌, not, ◌+◌, ◌&&◌, ◌||◌, nat_le, nat_lt, List, [], ◌∷◌, filter, length, if◌then◌else◌, Option, Some, None, option_and_then}
 use Rattle.wot_types.specs.declared.cert.Cert.{Cert}
-use Rattle.wot_types.specs.declared.row.Placed.{Placed}
+use Rattle.wot_types.specs.declared.placed.Placed.{Placed}
 use Rattle.wot_types.specs.declared.user.User.{User}
 use Rattle.wot_types.specs.Expiry.{is_expired}
 

@@ -1,24 +1,25 @@
--- A session: the commands of the input are answered one after the other.
-use Rattle.std.specs.Prelude.{ℕ, Bool, false, ◌||◌, List, [], ◌∷◌, ◌++◌, map, None}
-use Rattle.wot_types.specs.Commands.{Command, commands, whole_commands}
-use Rattle.wot_types.specs.Lines.{lines, read_line, whole_lines}
-use Rattle.wot_types.specs.State.{opening_state}
+-- A session: the commands of a run are answered one after the other.
+use Rattle.std.specs.Prelude.{ℕ, Bool, true, false, ◌||◌, ◌+◌, ◌-◌, nat_lt, List, [], ◌∷◌, ◌++◌, length, map, if◌then◌else◌}
+use Rattle.wot_types.specs.Lines.{lines, read_line}
 use Rattle.wot_types.specs.declared.state.State.{State}
-use Rattle.wot_types.specs.Step.{outcome}
+use Rattle.wot_types.specs.Commands.{Command, commands_of_run}
+use Rattle.wot_types.specs.Store.{Change, Store}
+use Rattle.wot_types.specs.Store.Change.{keeps, makes}
+use Rattle.wot_types.specs.Outcome.{changed, outcome}
 
--- how far a session has come: its state, and whether some reply was an `err` line
+-- how far a session has come: what its store shows, and whether some reply was an `err` line
 pub record Progress : Type 0 where
-  pub state : State
+  pub store : Store
   pub refused : Bool
 
-abbrev pub at_start : Progress
-at_start = record { state = opening_state; refused = false }
+abbrev pub at_start : Store → Progress
+at_start store = record { store = store; refused = false }
 
 abbrev pub reply_to : Progress → Command → List ℕ
-reply_to p command = (outcome p.state command).text
+reply_to p command = (outcome p.store command).text
 
 abbrev pub after : Progress → Command → Progress
-after p command = record { state = (outcome p.state command).state; refused = p.refused || (outcome p.state command).refused }
+after p command = record { store = changed (outcome p.store command).change p.store; refused = p.refused || (outcome p.store command).refused }
 
 abbrev pub after_all : Progress → List Command → Progress
 after_all p [] = p
@@ -29,18 +30,34 @@ abbrev pub replies : Progress → List Command → List ℕ
 replies p [] = []
 replies p (command ∷ commands) = reply_to p command ++ replies (after p command) commands
 
--- the commands of an input
-abbrev pub commands_of : List ℕ → List Command
-commands_of input = commands (map read_line (lines input))
+abbrev pub is_makes : Change → Bool
+is_makes keeps = false
+is_makes (makes edit) = true
 
--- the whole output of a session over this input
-abbrev pub output_of : List ℕ → List ℕ
-output_of input = replies at_start (commands_of input)
+-- an accepted edit
+abbrev pub is_edit : Progress → Command → Bool
+is_edit p command = is_makes (outcome p.store command).change
 
--- whether some reply is an `err` line
-abbrev pub has_refusal : List ℕ → Bool
-has_refusal input = (after_all at_start (commands_of input)).refused
+-- the states of a session: at its start, and after each accepted edit
+abbrev pub states : Progress → List Command → List State
+states p [] = p.store.state ∷ []
+states p (command ∷ commands) = if is_edit p command then p.store.state ∷ states (after p command) commands else states (after p command) commands
 
--- the replies to the commands that are whole in these bytes
-abbrev pub so_far : List ℕ → List ℕ
-so_far bytes = replies at_start (whole_commands None (map read_line (whole_lines bytes)))
+-- how many accepted edits have their whole reply within the first n bytes of the output
+abbrev pub acknowledged : Progress → List Command → ℕ → ℕ
+acknowledged p [] n = 0
+acknowledged p (command ∷ commands) n =
+    if nat_lt n (length (reply_to p command)) then 0 else
+    (if is_edit p command then 1 else 0) + acknowledged (after p command) commands (n - length (reply_to p command))
+
+-- the commands of a run with these words
+abbrev pub commands_of : List (List ℕ) → List ℕ → List Command
+commands_of words input = commands_of_run words (map read_line (lines input))
+
+-- the whole output of a run
+abbrev pub output_of : Store → List (List ℕ) → List ℕ → List ℕ
+output_of store words input = replies (at_start store) (commands_of words input)
+
+-- how far it has come at its end
+abbrev pub end_of : Store → List (List ℕ) → List ℕ → Progress
+end_of store words input = after_all (at_start store) (commands_of words input)

@@ -36,12 +36,3 @@ pub record IsWellFormed (key : Key) : Type 0 where
   pub distinct : AreDistinctUsers key.users
   pub each : All (IsUser (key_id_of key.fpr)) key.users
   pub marks : key.revoked ≡ true → All (λ user. user.revoked ≡ false) key.users
-
--- until trust signatures are read no certification delegates: its depth and its amount are 0, and it has no regular expression
-pub record IsPlainCert (cert : Cert) : Type 0 where
-  pub no_depth : cert.depth ≡ 0
-  pub no_amount : cert.amount ≡ 0
-  pub no_scope : cert.scope ≡ None
-
-abbrev pub IsPlain : Key → Type 0
-IsPlain key = All (λ user. All IsPlainCert user.certs) key.users

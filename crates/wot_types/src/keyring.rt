@@ -4,8 +4,9 @@ ghost use Rattle.std.specs.Prelude.{◌≡◌, ◌≤◌, All, IfSome, OnOk, OnE
 ghost use Rattle.std.specs.FinMap as map;
 ghost use Rattle.std.specs.Option.{option_copied};
 ghost use Rattle.wot_types.specs.Accepted.{IsFiled, IsSound};
-ghost use Rattle.wot_types.specs.Keyring.{cert_total, certs_at, most_keys, with_key};
-ghost use Rattle.wot_types.specs.WellFormed.{IsPlain, IsWellFormed};
+ghost use Rattle.wot_types.specs.Keyring.{cert_total, certs_at, with_key};
+ghost use Rattle.wot_types.specs.Limits.{most_keys};
+ghost use Rattle.wot_types.specs.WellFormed.{IsWellFormed};
 
 use crate::key::Key;
 use crate::key_id::KeyId;
@@ -88,7 +89,6 @@ impl Keyring {
     /// Adds a key, or replaces the one of its key ID. Want of memory changes nothing.
     pub fn insert(&mut self, key: Key) -> Result<(), Mem>
         requires well_formed { IsWellFormed key }
-        requires plain { IsPlain key }
         requires room { map.len (with_key self.old key) ≤ most_keys }
         ensures ok { OnOk result (self.new ≡ with_key self.old key) }
         ensures err { OnErr result (self.new ≡ self.old) }

@@ -1,0 +1,43 @@
+-- The limits of what is kept, and the first that is passed.
+use Rattle.std.specs.Prelude.{ℕ, nat_lt, List, length, if◌then◌else◌, Option, Some, None}
+use Rattle.std.specs.FinMap as finmap
+use Rattle.wot_types.specs.declared.limit.Limit.{Limit}
+use Rattle.wot_types.specs.declared.limit.Limit.TheVariants.{Keys, Users, Certs, Text, Trusts, Record}
+use Rattle.wot_types.specs.declared.totals.Totals.{Totals}
+use Rattle.wot_types.specs.Ownertrust.{OwnertrustMap}
+
+-- the most keys, user IDs and certifications of a keyring, and the most bytes of its texts
+abbrev pub most_keys : ℕ
+most_keys = 262144
+
+abbrev pub most_keyring_users : ℕ
+most_keyring_users = 1048576
+
+abbrev pub most_keyring_certs : ℕ
+most_keyring_certs = 4194304
+
+abbrev pub most_text : ℕ
+most_text = 268435456
+
+-- the most ownertrust entries
+abbrev pub most_trusts : ℕ
+most_trusts = 262144
+
+-- the most bytes of a record's payload
+abbrev pub most_record : ℕ
+most_record = 268435456
+
+-- the first limit that a keyring passes
+abbrev pub limit_passed : Totals → Option Limit
+limit_passed totals =
+    if nat_lt most_keys totals.keys then Some Keys else
+    if nat_lt most_keyring_users totals.users then Some Users else
+    if nat_lt most_keyring_certs totals.certs then Some Certs else
+    if nat_lt most_text totals.text then Some Text else None
+
+abbrev pub trusts_passed : OwnertrustMap → Option Limit
+trusts_passed trusts = if nat_lt most_trusts (finmap.len trusts) then Some Trusts else None
+
+-- the payload of a record is too long
+abbrev pub record_passed : List ℕ → Option Limit
+record_passed payload = if nat_lt most_record (length payload) then Some Record else None

@@ -1,0 +1,72 @@
+-- The payloads of the journal's records.
+use Rattle.std.specs.Prelude.{◌≡◌, ℕ, ◌<◌, ◌≤◌, ◌^◌, false, List, [], ◌∷◌, ◌++◌, map, All}
+use Rattle.std.specs.List.Sorted.{IsStrictlyIncreasing}
+use Rattle.std.specs.declared.cmp.Ordering.{Ordering}
+use Rattle.std.specs.declared.cmp.Ordering.TheVariants.{Less}
+use Rattle.wot_types.specs.declared.key.Key.{Key}
+use Rattle.wot_types.specs.declared.options.Options.{Options}
+use Rattle.wot_types.specs.declared.edit.Edit.{Edit}
+use Rattle.wot_types.specs.declared.edit.Edit.TheVariants.{Import, Ownertrust, Set, Flag, Delete, Date, Options as SetOptions}
+use Rattle.wot_types.specs.declared.ownertrust.Entry.{Entry}
+use Rattle.wot_types.specs.Fingerprint.{IsFprLength, fpr_cmp}
+use Rattle.wot_types.specs.Keyring.{id_of}
+use Rattle.wot_types.specs.Ownertrust.{is_unset, kept_of}
+use Rattle.wot_types.specs.Spelling.{number_1, number_4, number_8, flag_bytes, entry_bytes, EntryFits, fpr_bytes, trust_bytes, list_bytes, key_bytes, options_bytes, KeyFits, ListFits, OptionsFit}
+use Rattle.wot_types.specs.WellFormed.{IsWellFormed}
+
+-- keys to import: well formed, and their key IDs strictly rise
+pub record AreImportable (keys : List Key) : Type 0 where
+  pub each : All IsWellFormed keys
+  pub rising : IsStrictlyIncreasing (map id_of keys)
+
+-- each is below the next
+abbrev pub IsRisingBy : {A : Type 0} → (A → A → Ordering) → List A → Type 0
+IsRisingBy c [] = Unit {0}
+IsRisingBy c (x ∷ []) = Unit {0}
+IsRisingBy c (x ∷ y ∷ xs) = (c x y ≡ Less) × IsRisingBy c (y ∷ xs)
+
+-- entries to set: none is unknown and not disabled, and their fingerprints strictly rise
+pub record AreSettable (entries : List Entry) : Type 0 where
+  pub each : All (λ entry. is_unset (kept_of entry) ≡ false) entries
+  pub rising : IsRisingBy (λ a b. fpr_cmp a.fpr b.fpr) entries
+
+-- the ranges of the options
+pub record IsInRange (o : Options) : Type 0 where
+  pub completes : 1 ≤ o.completes
+  pub marginals : 2 ≤ o.marginals
+  pub depth : 1 ≤ o.depth
+  pub least_level : 1 ≤ o.level
+  pub most_level : o.level ≤ 3
+
+-- each number is within its bytes, and so is each length
+abbrev pub EditFits : Edit → Type 0
+EditFits (Import keys) = ListFits KeyFits keys
+EditFits (Ownertrust entries) = ListFits EntryFits entries
+EditFits (Set fpr trust) = IsFprLength fpr
+EditFits (Flag fpr disabled) = IsFprLength fpr
+EditFits (Delete id) = id < 2 ^ 64
+EditFits (Date date) = date < 2 ^ 32
+EditFits (SetOptions o) = OptionsFit o
+
+-- what may be spelled: well formed keys in order, entries in order, options in their ranges
+abbrev pub IsProper : Edit → Type 0
+IsProper (Import keys) = AreImportable keys
+IsProper (Ownertrust entries) = AreSettable entries
+IsProper (SetOptions o) = IsInRange o
+IsProper _ = Unit {0}
+
+-- a tag, and what is edited
+unfoldable pub payload : Edit → List ℕ
+payload (Import keys) = number_1 1 ++ list_bytes key_bytes keys
+payload (Ownertrust entries) = number_1 2 ++ list_bytes entry_bytes entries
+payload (Set fpr trust) = number_1 3 ++ (fpr_bytes fpr ++ trust_bytes trust)
+payload (Flag fpr disabled) = number_1 4 ++ (fpr_bytes fpr ++ flag_bytes disabled)
+payload (Delete id) = number_1 5 ++ number_8 id
+payload (Date date) = number_1 6 ++ number_4 date
+payload (SetOptions o) = number_1 7 ++ options_bytes o
+
+-- these bytes spell this edit
+pub record IsPayload (bytes : List ℕ) (edit : Edit) : Type 0 where
+  pub fits : EditFits edit
+  pub proper : IsProper edit
+  pub is : bytes ≡ payload edit
