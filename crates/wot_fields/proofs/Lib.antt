@@ -1,3 +1,8 @@
+pub mod Calendar
+pub mod CivilForm
+pub mod CutLemmas
+pub mod DateExamples
+pub mod DateLemmas
 pub mod NumberLemmas
-pub mod PlainFields
+pub mod QuoteLaws
 pub mod QuoteLemmas

@@ -1,10 +1,12 @@
 -- A part's answer among the checks of a whole line.
 use Rattle.std.proofs.Common.{◌≡◌, Bool, true, false, cond, List, [], ◌∷◌, ◌++◌, Option, Some, None, Err, refl, ap, ◌∙◌}
-use Rattle.wot_types.specs.declared.listing.ListingWhat.{ListingWhat}
+use Rattle.wot_types.specs.declared.fault.ListingWhat.{ListingWhat}
 use Rattle.wot_types.specs.Listing.{Check, first_failing}
 use Rattle.wot_listing.specs.declared.error.LineError.{LineError}
 use Rattle.wot_listing.specs.declared.error.LineError.TheVariants.{Failed, Memory}
-use Rattle.wot_listing.specs.Answer.{Answers}
+use Rattle.std.specs.Option.{ok_or}
+use Rattle.std.specs.Result.{result_ok}
+use Rattle.wot_listing.specs.Answer.{Answers, Gives}
 
 fails_at : (b : Bool) (w : ListingWhat) (a c : Option ListingWhat) (what : ListingWhat) → (a ≡ Some what → c ≡ Some what) → cond b (Some w) a ≡ Some what → cond b (Some w) c ≡ Some what
 fails_at true w a c what h e = e
@@ -33,3 +35,13 @@ error_more Memory xs ys P Q h = tt
 pub error_after : {X Y : Type 0} (e : LineError) (b : Bool) (w : ListingWhat) (rest : Option ListingWhat) (P : X → Type 0) (Q : Y → Type 0) → b ≡ false → Answers (Err e) rest P → Answers (Err e) (cond b (Some w) rest) Q
 error_after (Failed what) b w rest P Q p h = ap (λ t. cond t (Some w) rest) p ∙ h
 error_after Memory b w rest P Q p h = tt
+
+-- the same checks in other words
+pub error_at : {X Y : Type 0} (e : LineError) (o p : Option ListingWhat) (P : X → Type 0) (Q : Y → Type 0) → p ≡ o → Answers (Err e) o P → Answers (Err e) p Q
+error_at (Failed what) o p P Q same h = same ∙ h
+error_at Memory o p P Q same h = tt
+
+-- a field's value, where what it spells is told
+pub gives : {X E : Type 0} (o : Option X) (d : E) (w : ListingWhat) → Gives (ok_or (result_ok (ok_or o d)) (Failed w)) o w
+gives None d w = (refl, refl)
+gives (Some x) d w = refl

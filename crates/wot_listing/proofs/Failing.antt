@@ -4,17 +4,17 @@ use Rattle.std.specs.Prelude.{option_map}
 use Rattle.std.specs.Option.{option_or}
 use Rattle.std.specs.FinMap as finmap
 use Rattle.std.proofs.lemmas.List.{append-nil}
-use Rattle.wot_types.specs.declared.listing.ListingFault.{ListingFault}
-use Rattle.wot_types.specs.declared.listing.ListingWhat.{ListingWhat}
-use Rattle.wot_types.specs.declared.listing.ListingWhat.TheVariants.{NoFingerprint}
+use Rattle.wot_types.specs.declared.fault.ListingFault.{ListingFault}
+use Rattle.wot_types.specs.declared.fault.ListingWhat.{ListingWhat}
+use Rattle.wot_types.specs.declared.fault.ListingWhat.TheVariants.{NoFingerprint}
 use Rattle.wot_types.specs.Listing.{Line, Spells, capped, failing, fault, fault_after, fault_at, fault_at_end, is_sig, kept_count, lacks_fingerprint, open_block}
 use Rattle.wot_listing.specs.declared.error.ListingError.{ListingError}
 use Rattle.wot_listing.specs.declared.error.ListingError.TheVariants.{Fault}
-use Rattle.wot_listing.specs.declared.so_far.SoFar.{SoFar}
-use Rattle.wot_listing.specs.Machine.{closed, failing_in, is_unnamed, next, so_far}
+use Rattle.wot_listing.specs.declared.progress.Progress.{Progress}
+use Rattle.wot_listing.specs.Machine.{after_block, failing_in, is_unnamed, after_line, progress_of}
 use Rattle.wot_listing.specs.Reading.{reading, unless_fault}
 use Rattle.wot_listing.proofs.Checking.{all_keys_are, failing_is, unnamed_is}
-use Rattle.wot_listing.proofs.Stepping.{so_far_next}
+use Rattle.wot_listing.proofs.Stepping.{progress_next}
 
 or_none : {A : Type 0} (o : Option A) → option_or o None ≡ o
 or_none None = refl
@@ -43,24 +43,24 @@ fault_more lines line = fault_after_more [] lines line
 capped_line : (n : ℕ) → capped (n + 1) ≡ capped (capped n + 1)
 capped_line n = omega arith
 
-line_number : (lines : List Line) → capped (length lines + 1) ≡ capped ((so_far lines).lines + 1)
-unfolding so_far
+line_number : (lines : List Line) → capped (length lines + 1) ≡ capped ((progress_of lines).lines + 1)
+unfolding progress_of
 line_number lines = capped_line (length lines)
 
 -- a reader that has read these lines without a fault
-pub record Reads (lines : List Line) (s : SoFar) : Type 0 where
+pub record Reads (lines : List Line) (s : Progress) : Type 0 where
   pub faultless : fault lines ≡ None
-  pub kept : so_far lines ≡ s
+  pub kept : progress_of lines ≡ s
 
-reads_at : (f : Option ListingFault) (lines : List Line) (s : SoFar) → fault lines ≡ f → unless_fault f (so_far lines) ≡ Ok s → Reads lines s
+reads_at : (f : Option ListingFault) (lines : List Line) (s : Progress) → fault lines ≡ f → unless_fault f (progress_of lines) ≡ Ok s → Reads lines s
 reads_at None lines s p e = record { faultless = p; kept = cc }
 reads_at (Some f) lines s p e = cc
 
-pub reads_of : (lines : List Line) (s : SoFar) → reading lines ≡ Ok s → Reads lines s
+pub reads_of : (lines : List Line) (s : Progress) → reading lines ≡ Ok s → Reads lines s
 unfolding reading
 reads_of lines s e = reads_at (fault lines) lines s refl e
 
-stopped_at : (o : Option ListingFault) (lines : List Line) (e : ListingError) → fault lines ≡ o → unless_fault o (so_far lines) ≡ Err e
+stopped_at : (o : Option ListingFault) (lines : List Line) (e : ListingError) → fault lines ≡ o → unless_fault o (progress_of lines) ≡ Err e
     → (f : ListingFault) × (fault lines ≡ Some f) × (e ≡ Fault f)
 stopped_at None lines e p h = cc
 stopped_at (Some f) lines e p h = (f, p, cc)
@@ -70,11 +70,11 @@ pub stopped_of : (lines : List Line) (e : ListingError) → reading lines ≡ Er
 unfolding reading
 stopped_of lines e h = stopped_at (fault lines) lines e refl h
 
-failing_at : (lines : List Line) (line : Line) (s : SoFar) → Reads lines s → failing lines line ≡ failing_in s line
+failing_at : (lines : List Line) (line : Line) (s : Progress) → Reads lines s → failing lines line ≡ failing_in s line
 failing_at lines line s r = failing_is lines line ∙ ap (λ t. failing_in t line) r.kept
 
-fault_number : (lines : List Line) (s : SoFar) (what : ListingWhat) → Reads lines s → fault_at (length lines + 1) what ≡ fault_at (s.lines + 1) what
-fault_number lines s what r = let n = line_number lines ∙ ap (λ (t : SoFar). capped (t.lines + 1)) r.kept in λ i. record { line = n i; what = what }
+fault_number : (lines : List Line) (s : Progress) (what : ListingWhat) → Reads lines s → fault_at (length lines + 1) what ≡ fault_at (s.lines + 1) what
+fault_number lines s what r = let n = line_number lines ∙ ap (λ (t : Progress). capped (t.lines + 1)) r.kept in λ i. record { line = n i; what = what }
 
 -- after a fault further lines change nothing
 pub still_stopped : (lines : List Line) (line : Line) (e : ListingError) → reading lines ≡ Err e → reading (lines ++ line ∷ []) ≡ Err e
@@ -82,51 +82,51 @@ unfolding reading
 still_stopped lines line e h =
     let stopped = stopped_of lines e h in
     let same = fault_more lines line ∙ ap (λ o. option_or o (fault_of lines line)) stopped.1 in
-    ap (λ o. unless_fault o (so_far (lines ++ line ∷ []))) same ∙ ap Err (sym stopped.2)
+    ap (λ o. unless_fault o (progress_of (lines ++ line ∷ []))) same ∙ ap Err (sym stopped.2)
 
 -- a line with no fault is read
-pub reads_on : (lines : List Line) (line : Line) (s : SoFar) → reading lines ≡ Ok s → failing_in s line ≡ None → reading (lines ++ line ∷ []) ≡ Ok (next s line)
+pub reads_on : (lines : List Line) (line : Line) (s : Progress) → reading lines ≡ Ok s → failing_in s line ≡ None → reading (lines ++ line ∷ []) ≡ Ok (after_line s line)
 unfolding reading
 reads_on lines line s h none =
     let r = reads_of lines s h in
     let faultless = fault_more lines line ∙ ap (λ o. option_or o (fault_of lines line)) r.faultless ∙ ap (option_map (fault_at (length lines + 1))) (failing_at lines line s r ∙ none) in
-    ap (λ o. unless_fault o (so_far (lines ++ line ∷ []))) faultless ∙ ap Ok (so_far_next lines line ∙ ap (λ t. next t line) r.kept)
+    ap (λ o. unless_fault o (progress_of (lines ++ line ∷ []))) faultless ∙ ap Ok (progress_next lines line ∙ ap (λ t. after_line t line) r.kept)
 
 -- a line's fault stops the reader
-pub stops : (lines : List Line) (line : Line) (s : SoFar) (what : ListingWhat) → reading lines ≡ Ok s → failing_in s line ≡ Some what
+pub stops : (lines : List Line) (line : Line) (s : Progress) (what : ListingWhat) → reading lines ≡ Ok s → failing_in s line ≡ Some what
     → reading (lines ++ line ∷ []) ≡ Err (Fault (fault_at (s.lines + 1) what))
 unfolding reading
 stops lines line s what h fails =
     let r = reads_of lines s h in
     let faulty = fault_more lines line ∙ ap (λ o. option_or o (fault_of lines line)) r.faultless ∙ ap (option_map (fault_at (length lines + 1))) (failing_at lines line s r ∙ fails) in
-    ap (λ o. unless_fault o (so_far (lines ++ line ∷ []))) faulty ∙ ap (λ f. Err (Fault f)) (fault_number lines s what r)
+    ap (λ o. unless_fault o (progress_of (lines ++ line ∷ []))) faulty ∙ ap (λ f. Err (Fault f)) (fault_number lines s what r)
 
-at_end : (lines : List Line) (s : SoFar) → Reads lines s → fault_at_end lines ≡ cond (is_unnamed s.block) (Some (fault_at (length lines + 1) NoFingerprint)) None
+at_end : (lines : List Line) (s : Progress) → Reads lines s → fault_at_end lines ≡ cond (is_unnamed s.block) (Some (fault_at (length lines + 1) NoFingerprint)) None
 at_end lines s r = ap (λ o. option_or o (cond (lacks_fingerprint (open_block lines)) (Some (fault_at (length lines + 1) NoFingerprint)) None)) r.faultless
-    ∙ ap (λ b. cond b (Some (fault_at (length lines + 1) NoFingerprint)) None) (unnamed_is lines ∙ ap (λ (t : SoFar). is_unnamed t.block) r.kept)
+    ∙ ap (λ b. cond b (Some (fault_at (length lines + 1) NoFingerprint)) None) (unnamed_is lines ∙ ap (λ (t : Progress). is_unnamed t.block) r.kept)
 
 -- at the end the last block may lack its fingerprint
-pub finish_fails : (lines : List Line) (s : SoFar) → reading lines ≡ Ok s → is_unnamed s.block ≡ true → fault_at_end lines ≡ Some (fault_at (s.lines + 1) NoFingerprint)
+pub finish_fails : (lines : List Line) (s : Progress) → reading lines ≡ Ok s → is_unnamed s.block ≡ true → fault_at_end lines ≡ Some (fault_at (s.lines + 1) NoFingerprint)
 finish_fails lines s h unnamed =
     let r = reads_of lines s h in
     at_end lines s r ∙ ap (λ b. cond b (Some (fault_at (length lines + 1) NoFingerprint)) None) unnamed ∙ ap Some (fault_number lines s NoFingerprint r)
 
-kept_is : (lines : List Line) → (so_far lines).kept ≡ capped (kept_count lines)
-unfolding so_far
+kept_is : (lines : List Line) → (progress_of lines).kept ≡ capped (kept_count lines)
+unfolding progress_of
 kept_is lines = refl
 
-passed_is : (lines : List Line) → (so_far lines).passed ≡ capped (count_by is_sig lines - kept_count lines)
-unfolding so_far
+passed_is : (lines : List Line) → (progress_of lines).passed ≡ capped (count_by is_sig lines - kept_count lines)
+unfolding progress_of
 passed_is lines = refl
 
 -- and else the lines spell the keys of their blocks
-pub finish_spells : (lines : List Line) (s : SoFar) → reading lines ≡ Ok s → is_unnamed s.block ≡ false → Spells lines (finmap.values (closed s).keys) s.kept s.passed
+pub finish_spells : (lines : List Line) (s : Progress) → reading lines ≡ Ok s → is_unnamed s.block ≡ false → Spells lines (finmap.values (after_block s).keys) s.kept s.passed
 finish_spells lines s h named =
     let r = reads_of lines s h in record {
       faultless = at_end lines s r ∙ ap (λ b. cond b (Some (fault_at (length lines + 1) NoFingerprint)) None) named;
-      keys_are = ap finmap.values (sym (all_keys_are lines ∙ ap (λ (t : SoFar). (closed t).keys) r.kept));
-      kept_is = ap (λ (t : SoFar). t.kept) (sym r.kept) ∙ kept_is lines;
-      passed_is = ap (λ (t : SoFar). t.passed) (sym r.kept) ∙ passed_is lines;
+      keys_are = ap finmap.values (sym (all_keys_are lines ∙ ap (λ (t : Progress). (after_block t).keys) r.kept));
+      kept_is = ap (λ (t : Progress). t.kept) (sym r.kept) ∙ kept_is lines;
+      passed_is = ap (λ (t : Progress). t.passed) (sym r.kept) ∙ passed_is lines;
     }
 
 -- a reader that has stopped answers the first fault
@@ -135,6 +135,6 @@ finish_stopped lines f h =
     let stopped = stopped_of lines (Fault f) h in
     ap (λ o. option_or o (cond (lacks_fingerprint (open_block lines)) (Some (fault_at (length lines + 1) NoFingerprint)) None)) stopped.1 ∙ cc
 
-pub reading_none : (s : SoFar) → so_far [] ≡ s → reading [] ≡ Ok s
+pub reading_none : (s : Progress) → progress_of [] ≡ s → reading [] ≡ Ok s
 unfolding reading
 reading_none s e = ap Ok e

@@ -3,12 +3,11 @@ pub mod Growing
 pub mod Stepping
 pub mod Checking
 pub mod Failing
-pub mod Plain
-pub mod PlainKeys
 pub mod AnswerLemmas
 pub mod UserLemmas
-pub mod MapLemmas
 pub mod LineLemmas
 pub mod ReaderLemmas
 pub mod Sound
 pub mod SoundKeys
+pub mod TrustLemmas
+pub mod CertLemmas

@@ -14,18 +14,18 @@ use Rattle.hex.proofs.HexLemmas.{decode_of-ok}
 use Rattle.wot_types.specs.declared.cert.Cert.{Cert}
 use Rattle.wot_types.specs.declared.user.User.{User}
 use Rattle.wot_types.specs.declared.user.UserKind.{UserKind}
-use Rattle.wot_types.specs.declared.listing.Limit.TheVariants.{Certs as CertsLimit}
-use Rattle.wot_types.specs.declared.listing.ListingWhat.{ListingWhat}
-use Rattle.wot_types.specs.declared.listing.ListingWhat.TheVariants.{BadHex, LimitReached}
+use Rattle.wot_types.specs.declared.limit.Limit.TheVariants.{Certs as CertsLimit}
+use Rattle.wot_types.specs.declared.fault.ListingWhat.{ListingWhat}
+use Rattle.wot_types.specs.declared.fault.ListingWhat.TheVariants.{BadHex, LimitReached}
 use Rattle.wot_types.specs.Fingerprint.{IsFprLength, fingerprint, key_id_of}
 use Rattle.wot_types.specs.Fields.{field, has_fewer}
-use Rattle.wot_types.specs.Listing.{Line, cert_checks, first_failing, fpr_checks, is_bad_date, is_bad_quote, is_same_user, issued_checks, longest_scope, most_certs, most_users, sig_checks}
+use Rattle.wot_types.specs.Listing.{Line, cert_checks, certifies, first_failing, fpr_checks, is_bad_date, is_bad_quote, is_same_user, issued_checks, longest_scope, most_certs, most_users, sig_checks, user_at}
 use Rattle.wot_types.specs.Numbers.{depth_and_amount}
 use Rattle.wot_types.specs.Records.{cert_of, class_at, class_of, fingerprint_at, is_capability, is_good, is_hash_byte, is_kept_class, is_revoked_at, key_id, key_id_at, text_at}
 use Rattle.wot_types.specs.WellFormed.{AreDistinctUsers, IsCert, IsScope, IsUser}
-use Rattle.wot_listing.specs.declared.open_block.OpenBlock.{OpenBlock}
-use Rattle.wot_listing.specs.Machine.{and_cert, at_sub, certifies, fresh, head_of, new_user, repeats_user, users_of, with_cert, with_fpr, with_user}
-use Rattle.wot_listing.proofs.Plain.{left, not_false, not_true, right}
+use Rattle.wot_listing.specs.declared.key_block.KeyBlock.{KeyBlock}
+use Rattle.wot_listing.specs.Machine.{and_cert, at_sub, at_primary, primary_of, repeats_user, users_of, with_cert, with_fpr, with_user}
+use Rattle.wot_listing.proofs.RunsLemmas.{left_false, right_false}
 
 -- the fingerprint of a block, where it has come
 abbrev pub IsFpr : ℕ → Option (List ℕ) → Type 0
@@ -43,12 +43,20 @@ pub record AreSound (id : ℕ) (revoked : Bool) (users : List User) : Type 0 whe
   pub marks : revoked ≡ true → All (λ user. user.revoked ≡ false) users
 
 -- what is kept of a block may become a key
-pub record IsSoundBlock (b : OpenBlock) : Type 0 where
-  pub fpr : IsFpr b.head.id b.fpr
-  pub caps : list_all is_capability b.head.caps ≡ true
-  pub users : AreSound b.head.id b.head.revoked (users_of b)
+pub record IsSoundBlock (b : KeyBlock) : Type 0 where
+  pub fpr : IsFpr b.primary.id b.fpr
+  pub caps : list_all is_capability b.primary.caps ≡ true
+  pub users : AreSound b.primary.id b.primary.revoked (users_of b)
   pub counted : certs_of (users_of b) ≡ b.certs
   pub few_certs : b.certs ≤ most_certs
+
+not_false : (b : Bool) → not b ≡ false → b ≡ true
+not_false true h = refl
+not_false false h = cc
+
+not_true : (b : Bool) → not b ≡ true → b ≡ false
+not_true true h = cc
+not_true false h = refl
 
 -- the tests of a check that passes, and of those after it
 pub holds : (b : Bool) (w : ListingWhat) (rest : Option ListingWhat) → cond b (Some w) rest ≡ None → (b ≡ false) × (rest ≡ None)
@@ -63,7 +71,7 @@ filtered p (b ∷ f) = elim (p b) as (λ t. p b ≡ t → list_all p (cond t (b 
 ] refl
 
 -- a block at its `pub`
-pub fresh_sound : (line : Line) → IsSoundBlock (fresh (head_of line))
+pub fresh_sound : (line : Line) → IsSoundBlock (at_primary (primary_of line))
 fresh_sound line = record {
   fpr = tt;
   caps = filtered is_capability (field 12 line);
@@ -103,15 +111,15 @@ fpr_taken : (line : Line) (id : ℕ) (w : Bool) (o : Option (List ℕ)) → IsFp
 fpr_taken line id true o h passes = fpr_sound line id passes
 fpr_taken line id false o h passes = h
 
-pub with_fpr_sound : (line : Line) (b : OpenBlock) → IsSoundBlock b → first_failing (if b.wants_fpr then fpr_checks b.head.id line else []) ≡ None → IsSoundBlock (with_fpr line b)
+pub with_fpr_sound : (line : Line) (b : KeyBlock) → IsSoundBlock b → first_failing (if b.wants_fpr then fpr_checks b.primary.id line else []) ≡ None → IsSoundBlock (with_fpr line b)
 with_fpr_sound line b h passes =
-    record { fpr = fpr_taken line b.head.id b.wants_fpr b.fpr h.fpr passes; caps = h.caps; users = h.users; counted = h.counted; few_certs = h.few_certs }
+    record { fpr = fpr_taken line b.primary.id b.wants_fpr b.fpr h.fpr passes; caps = h.caps; users = h.users; counted = h.counted; few_certs = h.few_certs }
 
 distinct_push : (users : List User) (new : User) → AreDistinctUsers users → list_any (λ earlier. is_same_user earlier new) users ≡ false → AreDistinctUsers (users ++ new ∷ [])
 distinct_push [] new h e = (All-nil _, tt)
 distinct_push (user ∷ users) new h e = (
-  All-push (λ other. is_same_user user other ≡ false) users new h.0 (left (is_same_user user new) (list_any (λ earlier. is_same_user earlier new) users) e),
-  distinct_push users new h.1 (right (is_same_user user new) (list_any (λ earlier. is_same_user earlier new) users) e),
+  All-push (λ other. is_same_user user other ≡ false) users new h.0 (left_false (is_same_user user new) (list_any (λ earlier. is_same_user earlier new) users) e),
+  distinct_push users new h.1 (right_false (is_same_user user new) (list_any (λ earlier. is_same_user earlier new) users) e),
 )
 
 below : (a b : ℕ) → nat_le a b ≡ false → b < a
@@ -125,30 +133,30 @@ no_mark true revoked e = ap not e
 no_mark false revoked e = refl
 
 -- a user ID whose checks pass
-pub user_sound : (kind : UserKind) (line : Line) (b : OpenBlock) → IsSoundBlock b → repeats_user b (new_user kind b.head.revoked line) ≡ false → nat_le most_users (length (users_of b)) ≡ false
+pub user_sound : (kind : UserKind) (line : Line) (b : KeyBlock) → IsSoundBlock b → repeats_user b (user_at kind b.primary.revoked line) ≡ false → nat_le most_users (length (users_of b)) ≡ false
     → IsSoundBlock (with_user kind line b)
 user_sound kind line b h new_one room =
-    let new = new_user kind b.head.revoked line in
-    let known : IsUser b.head.id new = record { hash = filtered is_hash_byte (field 8 line); certs = All-nil _ } in
+    let new = user_at kind b.primary.revoked line in
+    let known : IsUser b.primary.id new = record { hash = filtered is_hash_byte (field 8 line); certs = All-nil _ } in
     record {
       fpr = h.fpr;
       caps = h.caps;
       users = record {
         few = omega (arith, below most_users (length (users_of b)) room, length-append (users_of b) (new ∷ []));
         distinct = distinct_push (users_of b) new h.users.distinct new_one;
-        each = All-push (IsUser b.head.id) (users_of b) new h.users.each known;
-        marks = λ e. All-push (λ user. user.revoked ≡ false) (users_of b) new (h.users.marks e) (no_mark (is_revoked_at line) b.head.revoked e);
+        each = All-push (IsUser b.primary.id) (users_of b) new h.users.each known;
+        marks = λ e. All-push (λ user. user.revoked ≡ false) (users_of b) new (h.users.marks e) (no_mark (is_revoked_at line) b.primary.revoked e);
       };
       counted = sum_by-append (λ user. length user.certs) (users_of b) (new ∷ []) ∙ omega (arith, h.counted);
       few_certs = h.few_certs;
     }
 
 -- a `sub` ends the user ID
-pub sub_sound : (b : OpenBlock) → IsSoundBlock b → IsSoundBlock (at_sub b)
+pub sub_sound : (b : KeyBlock) → IsSoundBlock b → IsSoundBlock (at_sub b)
 sub_sound b h = record {
   fpr = h.fpr;
   caps = h.caps;
-  users = subst (AreSound b.head.id b.head.revoked) (sym (append-nil (users_of b))) h.users;
+  users = subst (AreSound b.primary.id b.primary.revoked) (sym (append-nil (users_of b))) h.users;
   counted = ap certs_of (append-nil (users_of b)) ∙ h.counted;
   few_certs = h.few_certs;
 }
@@ -178,11 +186,11 @@ certified_count users (Some u) cert e =
     sum_by-append (λ user. length user.certs) users (and_cert cert u ∷ [])
     ∙ omega (arith, length-append u.certs (cert ∷ []), sum_by-append (λ user. length user.certs) users (u ∷ []))
 
-pub cert_added : (b : OpenBlock) (cert : Cert) → is_some b.user ≡ true → IsCert b.head.id cert → b.certs < most_certs → IsSoundBlock b → IsSoundBlock (with_cert cert b)
+pub cert_added : (b : KeyBlock) (cert : Cert) → is_some b.user ≡ true → IsCert b.primary.id cert → b.certs < most_certs → IsSoundBlock b → IsSoundBlock (with_cert cert b)
 cert_added b cert there c room h = record {
   fpr = h.fpr;
   caps = h.caps;
-  users = certified_users b.head.id b.head.revoked b.users b.user cert c h.users;
+  users = certified_users b.primary.id b.primary.revoked b.users b.user cert c h.users;
   counted = certified_count b.users b.user cert there ∙ ap (λ n. n + 1) h.counted;
   few_certs = omega (arith, room);
 }

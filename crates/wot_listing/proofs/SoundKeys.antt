@@ -16,38 +16,39 @@ use Rattle.std.proofs.lemmas.List.Elements.{All-cons, All-head, All-map, All-nil
 use Rattle.std.proofs.lemmas.Map.Keys.{IsStrictlyIncreasing-from_sorted}
 use Rattle.wot_types.specs.declared.key.Key.{Key}
 use Rattle.wot_types.specs.declared.user.UserKind.{UserKind}
-use Rattle.wot_types.specs.declared.listing.ListingFault.{ListingFault}
-use Rattle.wot_types.specs.declared.listing.ListingWhat.TheVariants.{NoFingerprint, RepeatedUser, LimitReached}
-use Rattle.wot_types.specs.declared.listing.Limit.TheVariants.{Users as UsersLimit}
-use Rattle.wot_types.specs.declared.listing.RecordKind.{RecordKind}
-use Rattle.wot_types.specs.declared.listing.RecordKind.TheVariants.{Primary, Fingerprint, UserId, Signature, Subkey, Foreign, Other}
+use Rattle.wot_types.specs.declared.fault.ListingFault.{ListingFault}
+use Rattle.wot_types.specs.declared.fault.ListingWhat.TheVariants.{NoFingerprint, RepeatedUser, LimitReached}
+use Rattle.wot_types.specs.declared.limit.Limit.TheVariants.{Users as UsersLimit}
+use Rattle.wot_types.specs.declared.record.RecordKind.{RecordKind}
+use Rattle.wot_types.specs.declared.record.RecordKind.TheVariants.{Primary, Fingerprint, UserId, Signature, Subkey, Foreign, Other}
 use Rattle.wot_types.specs.Fields.{has_fewer}
 use Rattle.wot_types.specs.Fingerprint.{IsFprLength, key_id_of}
-use Rattle.wot_types.specs.Listing.{KeyMap, Line, Spells, blocks, failing, fault, fault_at, fault_at_end, first_failing, fpr_checks, is_bad_date, is_bad_quote, keys_of, lacks_fingerprint, most_users, open_block, sig_checks, user_checks}
+use Rattle.wot_types.specs.Keyring.{Keyring}
+use Rattle.wot_types.specs.Listing.{Line, Spells, blocks, certifies, failing, fault, fault_at, fault_at_end, first_failing, fpr_checks, is_bad_date, is_bad_quote, keys_of, lacks_fingerprint, most_users, open_block, sig_checks, user_at, user_checks}
 use Rattle.wot_types.specs.Records.{cert_of, class_at, is_good, is_kept_class, key_id_at, kind_of}
-use Rattle.wot_types.specs.NotBuilt.{is_not_built}
+use Rattle.wot_types.specs.Accepted.{AreListed}
 use Rattle.wot_types.specs.WellFormed.{IsUser, IsWellFormed}
-use Rattle.wot_listing.specs.declared.open_block.OpenBlock.{OpenBlock}
-use Rattle.wot_listing.specs.declared.so_far.SoFar.{SoFar}
-use Rattle.wot_listing.specs.Machine.{at_sub, certifies, checks_in, fed, finished, in_open, in_user_of, is_kept_in, is_unnamed, new_user, next, repeats_user, so_far, users_of, with_block, with_cert, with_fpr, with_sig, with_user}
+use Rattle.wot_listing.specs.declared.key_block.KeyBlock.{KeyBlock}
+use Rattle.wot_listing.specs.declared.progress.Progress.{Progress}
+use Rattle.wot_listing.specs.Machine.{at_sub, checks_in, after_kind, key_at_end, in_open, is_kept_in, is_unnamed, after_line, repeats_user, progress_of, users_of, with_block, with_cert, with_fpr, with_sig, with_user}
 use Rattle.wot_listing.proofs.Checking.{all_keys_are, failing_is, unnamed_is}
 use Rattle.wot_listing.proofs.Failing.{fault_more}
 use Rattle.wot_listing.proofs.Sound.{IsFpr, IsSoundBlock, both_true, cert_added, cert_sound, fresh_sound, holds, sub_sound, user_sound, with_fpr_sound}
-use Rattle.wot_listing.proofs.Stepping.{by_lines, so_far_next}
+use Rattle.wot_listing.proofs.Stepping.{by_lines, progress_next}
 
 -- a key in its place
 abbrev pub IsSoundKey : ℕ → Key → Type 0
 IsSoundKey id key = IsWellFormed key × (key_id_of key.fpr ≡ id)
 
-abbrev pub AreSoundKeys : KeyMap → Type 0
+abbrev pub AreSoundKeys : Keyring → Type 0
 AreSoundKeys keys = (q : ℕ) (key : Key) → finmap.get keys q ≡ Some key → IsSoundKey q key
 
-abbrev IsSoundOpen : Option OpenBlock → Type 0
+abbrev IsSoundOpen : Option KeyBlock → Type 0
 IsSoundOpen None = Unit {0}
 IsSoundOpen (Some b) = IsSoundBlock b
 
 -- what is kept of a listing without a fault
-pub record IsSound (s : SoFar) : Type 0 where
+pub record IsSound (s : Progress) : Type 0 where
   pub keys : AreSoundKeys s.keys
   pub block : IsSoundOpen s.block
 
@@ -55,9 +56,9 @@ named_fpr : (id : ℕ) (o : Option (List ℕ)) → IsFpr id o → is_none o ≡ 
 named_fpr id None h e = cc
 named_fpr id (Some fpr) h e = h
 
-finished_sound : (b : OpenBlock) → IsSoundBlock b → is_none b.fpr ≡ false → IsSoundKey b.head.id (finished b)
+finished_sound : (b : KeyBlock) → IsSoundBlock b → is_none b.fpr ≡ false → IsSoundKey b.primary.id (key_at_end b)
 finished_sound b h named =
-    let fpr = named_fpr b.head.id b.fpr h.fpr named in (
+    let fpr = named_fpr b.primary.id b.fpr h.fpr named in (
       record {
         fpr = fpr.0;
         caps = h.caps;
@@ -78,18 +79,18 @@ inserted_at true q id key new o is sound h e =
 inserted_at false q id key new o is sound h e = h key e
 
 -- the keys with the open block's
-pub closed_sound : (keys : KeyMap) (o : Option OpenBlock) → AreSoundKeys keys → IsSoundOpen o → is_unnamed o ≡ false → AreSoundKeys (with_block keys o)
+pub closed_sound : (keys : Keyring) (o : Option KeyBlock) → AreSoundKeys keys → IsSoundOpen o → is_unnamed o ≡ false → AreSoundKeys (with_block keys o)
 closed_sound keys None h b named = h
 closed_sound keys (Some b) h sound named = λ q key e.
-    inserted_at (q == b.head.id) q b.head.id key (finished b) (finmap.get keys q) refl (finished_sound b sound named) (h q)
-    (ap (λ t. cond t (Some (finished b)) (finmap.get keys q)) (sym (unsigned_tied q b.head.id)) ∙ sym (finmap.get-insert nat_cmp_total keys b.head.id (finished b) q) ∙ e)
+    inserted_at (q == b.primary.id) q b.primary.id key (key_at_end b) (finmap.get keys q) refl (finished_sound b sound named) (h q)
+    (ap (λ t. cond t (Some (key_at_end b)) (finmap.get keys q)) (sym (unsigned_tied q b.primary.id)) ∙ sym (finmap.get-insert nat_cmp_total keys b.primary.id (key_at_end b) q) ∙ e)
 
-fpr_fed : (o : Option OpenBlock) (line : Line) → IsSoundOpen o → first_failing (in_open o (λ b. if b.wants_fpr then fpr_checks b.head.id line else [])) ≡ None → IsSoundOpen (option_map (with_fpr line) o)
+fpr_fed : (o : Option KeyBlock) (line : Line) → IsSoundOpen o → first_failing (in_open o (λ b. if b.wants_fpr then fpr_checks b.primary.id line else [])) ≡ None → IsSoundOpen (option_map (with_fpr line) o)
 fpr_fed None line h passes = tt
 fpr_fed (Some b) line h passes = with_fpr_sound line b h passes
 
-user_fed : (o : Option OpenBlock) (kind : UserKind) (line : Line) → IsSoundOpen o
-    → first_failing (in_open o (λ b. user_checks line ++ (repeats_user b (new_user kind b.head.revoked line), RepeatedUser) ∷ (nat_le most_users (length (users_of b)), LimitReached UsersLimit) ∷ [])) ≡ None
+user_fed : (o : Option KeyBlock) (kind : UserKind) (line : Line) → IsSoundOpen o
+    → first_failing (in_open o (λ b. user_checks line ++ (repeats_user b (user_at kind b.primary.revoked line), RepeatedUser) ∷ (nat_le most_users (length (users_of b)), LimitReached UsersLimit) ∷ [])) ≡ None
     → IsSoundOpen (option_map (with_user kind line) o)
 user_fed None kind line h passes = tt
 user_fed (Some b) kind line h passes =
@@ -97,29 +98,29 @@ user_fed (Some b) kind line h passes =
     let made = holds (is_bad_date 6 line) _ _ long.1 in
     let expires = holds (is_bad_date 7 line) _ _ made.1 in
     let quote = holds (is_bad_quote 10 line) _ _ expires.1 in
-    let new_one = holds (repeats_user b (new_user kind b.head.revoked line)) _ _ quote.1 in
+    let new_one = holds (repeats_user b (user_at kind b.primary.revoked line)) _ _ quote.1 in
     let room = holds (nat_le most_users (length (users_of b))) _ _ new_one.1 in
     user_sound kind line b h new_one.0 room.0
 
-sub_fed : (o : Option OpenBlock) → IsSoundOpen o → IsSoundOpen (option_map at_sub o)
+sub_fed : (o : Option KeyBlock) → IsSoundOpen o → IsSoundOpen (option_map at_sub o)
 sub_fed None h = tt
 sub_fed (Some b) h = sub_sound b h
 
-sig_fed : (s : SoFar) (line : Line) (o : Option OpenBlock) (t : Bool) → s.block ≡ o → is_kept_in o line ≡ t → IsSound s
-    → first_failing (in_open o (λ b. if is_some b.user && is_good line then sig_checks b.head.id b.certs line else [])) ≡ None → IsSound (with_sig s line t)
+sig_fed : (s : Progress) (line : Line) (o : Option KeyBlock) (t : Bool) → s.block ≡ o → is_kept_in o line ≡ t → IsSound s
+    → first_failing (in_open o (λ b. if is_some b.user && is_good line then sig_checks b.primary.id b.certs line else [])) ≡ None → IsSound (with_sig s line t)
 sig_fed s line o false e k h passes = record { keys = h.keys; block = h.block }
 sig_fed s line None true e k h passes = cc
 sig_fed s line (Some b) true e k h passes =
-    let kept = both_true (is_some b.user) (certifies b.head.id line) k in
-    let good = (both_true (is_good line) (is_kept_class (class_at line)) (both_true (is_good line && is_kept_class (class_at line)) (not (key_id_at line == b.head.id)) kept.1).0).0 in
-    let checks : first_failing (if is_some b.user && is_good line then sig_checks b.head.id b.certs line else []) ≡ first_failing (sig_checks b.head.id b.certs line) = (λ i. first_failing (if kept.0 i && good i then sig_checks b.head.id b.certs line else [])) in
-    let cert = cert_sound line b.head.id b.certs kept.1 (sym checks ∙ passes) in
+    let kept = both_true (is_some b.user) (certifies b.primary.id line) k in
+    let good = (both_true (is_good line) (is_kept_class (class_at line)) (both_true (is_good line && is_kept_class (class_at line)) (not (key_id_at line == b.primary.id)) kept.1).0).0 in
+    let checks : first_failing (if is_some b.user && is_good line then sig_checks b.primary.id b.certs line else []) ≡ first_failing (sig_checks b.primary.id b.certs line) = (λ i. first_failing (if kept.0 i && good i then sig_checks b.primary.id b.certs line else [])) in
+    let cert = cert_sound line b.primary.id b.certs kept.1 (sym checks ∙ passes) in
     record {
       keys = h.keys;
       block = subst (λ o. IsSoundOpen (option_map (with_cert (cert_of line)) o)) (sym e) (cert_added b (cert_of line) kept.0 cert.0 cert.1 (subst IsSoundOpen e h.block));
     }
 
-fed_sound : (k : RecordKind) (s : SoFar) (line : Line) → IsSound s → first_failing (checks_in k s line) ≡ None → IsSound (fed k s line)
+fed_sound : (k : RecordKind) (s : Progress) (line : Line) → IsSound s → first_failing (checks_in k s line) ≡ None → IsSound (after_kind k s line)
 fed_sound Primary s line h passes = let named = holds (is_unnamed s.block) _ _ passes in record { keys = closed_sound s.keys s.block h.keys h.block named.0; block = fresh_sound line }
 fed_sound Foreign s line h passes = let named = holds (is_unnamed s.block) _ _ passes in record { keys = closed_sound s.keys s.block h.keys h.block named.0; block = tt }
 fed_sound Fingerprint s line h passes = record { keys = h.keys; block = fpr_fed s.block line h.block passes }
@@ -136,21 +137,20 @@ map_none : {A B : Type 0} (f : A → B) (o : Option A) → option_map f o ≡ No
 map_none f None e = refl
 map_none f (Some x) e = cc
 
-nothing_kept : IsSound (so_far [])
-unfolding so_far
+nothing_kept : IsSound (progress_of [])
+unfolding progress_of
 nothing_kept = record { keys = λ q key e. absurd (let f : ◌≡◌ {A = Option Key} None (Some key) = sym (finmap.get-empty nat_cmp q) ∙ e in cc); block = tt }
 
-line_sound : (lines : List Line) (line : Line) → (fault lines ≡ None → IsSound (so_far lines)) → fault (lines ++ line ∷ []) ≡ None → IsSound (so_far (lines ++ line ∷ []))
+line_sound : (lines : List Line) (line : Line) → (fault lines ≡ None → IsSound (progress_of lines)) → fault (lines ++ line ∷ []) ≡ None → IsSound (progress_of (lines ++ line ∷ []))
 line_sound lines line ih e =
     let parts = or_both (fault lines) (option_map (fault_at (length lines + 1)) (failing lines line)) (sym (fault_more lines line) ∙ e) in
     let passes = sym (failing_is lines line) ∙ map_none (fault_at (length lines + 1)) (failing lines line) parts.1 in
-    let built = holds (is_not_built (kind_of line) (in_user_of (so_far lines).block) line) _ _ passes in
-    let fed = fed_sound (kind_of line) (so_far lines) line (ih parts.0) built.1 in
-    let after : IsSound (next (so_far lines) line) = record { keys = fed.keys; block = fed.block } in
-    subst IsSound (sym (so_far_next lines line)) after
+    let after_kind = fed_sound (kind_of line) (progress_of lines) line (ih parts.0) passes in
+    let after : IsSound (after_line (progress_of lines) line) = record { keys = after_kind.keys; block = after_kind.block } in
+    subst IsSound (sym (progress_next lines line)) after
 
-pub sound : (lines : List Line) → fault lines ≡ None → IsSound (so_far lines)
-sound = by_lines (λ lines. fault lines ≡ None → IsSound (so_far lines)) (λ _. nothing_kept) line_sound
+pub sound : (lines : List Line) → fault lines ≡ None → IsSound (progress_of lines)
+sound = by_lines (λ lines. fault lines ≡ None → IsSound (progress_of lines)) (λ _. nothing_kept) line_sound
 
 -- the keys of a listing that spells
 at_end : (b : Bool) (f : ListingFault) → (if b then Some f else None) ≡ None → cond b (Some NoFingerprint) None ≡ None
@@ -162,7 +162,7 @@ all_sound lines e =
     let parts = or_both (fault lines) (if lacks_fingerprint (open_block lines) then Some (fault_at (length lines + 1) NoFingerprint) else None) e in
     let named = sym (unnamed_is lines) ∙ (holds (lacks_fingerprint (open_block lines)) NoFingerprint None (at_end (lacks_fingerprint (open_block lines)) (fault_at (length lines + 1) NoFingerprint) parts.1)).0 in
     let s = sound lines parts.0 in
-    subst AreSoundKeys (sym (all_keys_are lines)) (closed_sound (so_far lines).keys (so_far lines).block s.keys s.block named)
+    subst AreSoundKeys (sym (all_keys_are lines)) (closed_sound (progress_of lines).keys (progress_of lines).block s.keys s.block named)
 
 -- an entry is found at its key, where keys rise
 less_at : (o : Ordering) → is_lt o ≡ true → o ≡ Less
@@ -212,12 +212,7 @@ ids_are (e ∷ es) h =
     let rest = ids_are es (All-tail (λ e. IsSoundKey e.0 e.1) e es h) in
     λ i. id i ∷ rest i
 
--- well formed keys, which rise by the key ID of their fingerprints
-pub record AreGoodKeys (keys : List Key) : Type 0 where
-  pub well_formed : All IsWellFormed keys
-  pub rising : IsStrictlyIncreasing (map (λ key. key_id_of key.fpr) keys)
-
-good_values : (m : KeyMap) → AreSoundKeys m → AreGoodKeys (finmap.values m)
+good_values : (m : Keyring) → AreSoundKeys m → AreListed (finmap.values m)
 good_values m h =
     let es = finmap.entries m in
     let sorted = when_true (is_sorted nat_cmp es) (finmap.entries_sorted m) in
@@ -227,6 +222,6 @@ good_values m h =
       rising = subst IsStrictlyIncreasing (sym (ids_are es each)) (IsStrictlyIncreasing-from_sorted (map (λ e. e.0) es) (strictly es sorted));
     }
 
--- what a listing spells
-pub spelled_keys : (lines : List Line) (keys : List Key) (kept passed : ℕ) → Spells lines keys kept passed → AreGoodKeys keys
-spelled_keys lines keys kept passed h = subst AreGoodKeys (sym h.keys_are) (good_values (keys_of (blocks lines)) (all_sound lines h.faultless))
+-- what a listing spells may be imported
+pub listed : (lines : List Line) (keys : List Key) (kept passed : ℕ) → Spells lines keys kept passed → AreListed keys
+listed lines keys kept passed h = subst AreListed (sym h.keys_are) (good_values (keys_of (blocks lines)) (all_sound lines h.faultless))

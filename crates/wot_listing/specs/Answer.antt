@@ -1,6 +1,9 @@
 -- Answers of the reader's parts: the first check that fails, or a value.
 use Rattle.std.specs.Prelude.{◌≡◌, Option, Some, None, Result, Ok, Err}
-use Rattle.wot_types.specs.declared.listing.ListingWhat.{ListingWhat}
+use Rattle.wot_types.specs.declared.fault.ListingWhat.{ListingWhat}
+use Rattle.wot_types.specs.declared.fault.ListingWhat.TheVariants as what
+use Rattle.wot_fields.specs.declared.unquote.QuoteError.{QuoteError}
+use Rattle.wot_fields.specs.declared.unquote.QuoteError.TheVariants as quote_error
 use Rattle.wot_listing.specs.declared.error.LineError.{LineError}
 use Rattle.wot_listing.specs.declared.error.LineError.TheVariants.{Failed, Memory}
 
@@ -14,3 +17,14 @@ Answers (Err Memory) failing P = Unit {0}
 abbrev pub Gives : {X : Type 0} → Result X LineError → Option X → ListingWhat → Type 0
 Gives (Ok x) value what = value ≡ Some x
 Gives (Err e) value what = (value ≡ None) × (e ≡ Failed what)
+
+-- the same of a value that takes memory
+abbrev pub Makes : {X : Type 0} → Result X LineError → Option X → ListingWhat → Type 0
+Makes (Ok x) value what = value ≡ Some x
+Makes (Err (Failed failed)) value what = (value ≡ None) × (failed ≡ what)
+Makes (Err Memory) value what = Unit {0}
+
+-- what a bad quote is to the line
+abbrev pub quote_failed : QuoteError → LineError
+quote_failed quote_error.BadQuote = Failed what.BadQuote
+quote_failed quote_error.Memory = Memory

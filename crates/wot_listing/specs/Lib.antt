@@ -1,5 +1,4 @@
 pub mod Answer
 pub mod EndedRuns
 pub mod Machine
-pub mod Readable
 pub mod Reading

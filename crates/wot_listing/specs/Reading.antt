@@ -1,29 +1,29 @@
 -- What the reader is after these lines, and what it answers at their end.
 use Rattle.std.specs.Prelude.{◌≡◌, ◌⊎◌, ℕ, List, Option, Some, None, Result, Ok, Err}
-use Rattle.wot_types.specs.declared.listing.ListingFault.{ListingFault}
+use Rattle.wot_types.specs.declared.fault.ListingFault.{ListingFault}
 use Rattle.wot_types.specs.Listing.{Line, Spells, fault, fault_at_end}
 use Rattle.wot_listing.specs.declared.blocks.Blocks.{Blocks}
 use Rattle.wot_listing.specs.declared.error.LineError.{LineError}
 use Rattle.wot_listing.specs.declared.error.LineError.TheVariants as line_error
 use Rattle.wot_listing.specs.declared.error.ListingError.{ListingError}
 use Rattle.wot_listing.specs.declared.error.ListingError.TheVariants.{Fault, Memory}
-use Rattle.wot_listing.specs.declared.so_far.SoFar.{SoFar}
-use Rattle.wot_listing.specs.Machine.{so_far}
+use Rattle.wot_listing.specs.declared.progress.Progress.{Progress}
+use Rattle.wot_listing.specs.Machine.{progress_of}
 
-abbrev pub unless_fault : Option ListingFault → SoFar → Result SoFar ListingError
+abbrev pub unless_fault : Option ListingFault → Progress → Result Progress ListingError
 unless_fault None s = Ok s
 unless_fault (Some f) s = Err (Fault f)
 
 -- after these lines a reader is this: what is kept of them, or their first fault
-unfoldable pub reading : List Line → Result SoFar ListingError
-reading lines = unless_fault (fault lines) (so_far lines)
+unfoldable pub reading : List Line → Result Progress ListingError
+reading lines = unless_fault (fault lines) (progress_of lines)
 
 -- the reader has read these lines, or is out of memory
-abbrev pub HasRead : Result SoFar ListingError → List Line → Type 0
+abbrev pub HasRead : Result Progress ListingError → List Line → Type 0
 HasRead reader lines = (reader ≡ reading lines) ⊎ (reader ≡ Err Memory)
 
 -- what stops the reader, if anything does
-abbrev pub answer_of : Result SoFar ListingError → Result (Unit {0}) ListingError
+abbrev pub answer_of : Result Progress ListingError → Result (Unit {0}) ListingError
 answer_of (Ok s) = Ok tt
 answer_of (Err e) = Err e
 

@@ -1,43 +1,83 @@
 //! Certifications of a user ID.
 
-ghost use Rattle.std.specs.Prelude.{◌≡◌, ◌<◌, IfOk, IsSome, if◌then◌else◌};
-ghost use Rattle.wot_types.specs.Listing.{first_failing, most_certs, sig_checks};
-ghost use Rattle.wot_types.specs.Records.{cert_of};
+ghost use Rattle.std.specs.Prelude.{◌≡◌, ◌<◌, ◌&&◌, ◌==◌, not, IfOk, IsSome, if◌then◌else◌};
+ghost use Rattle.wot_types.specs.Listing.{cert_checks, first_failing, most_certs, sig_checks};
+ghost use Rattle.wot_types.specs.Records.{cert_of, class_at, depth_at, amount_at, is_kept_class, key_id_at, scope_of, text_at};
 ghost use Rattle.wot_listing.specs.Answer.{Answers};
-ghost use Rattle.wot_listing.specs.Machine.{certifies};
-ghost use Rattle.wot_listing.specs.Readable.{IsPlain};
 
 use crate::error::LineError;
-use crate::values::{class_in, date_in, is_local, key_id_in};
-use wot_fields::field::has_fewer;
-use wot_types::{Cert, KeyId, Limit, ListingWhat, MOST_CERTS, RecordKind};
+use crate::values::{class_in, date_in, is_kept_class, is_local, key_id_in, text_in, trust_in};
+use std::alloc::Global;
+use wot_fields::fields::Fields;
+use wot_types::{Cert, KeyId, Limit, ListingWhat, MOST_CERTS, Text};
 
-/// Reads a `sig` record of a good certification on the key with this key ID, which has so many certifications before it. One by the key itself gives None.
-pub fn read_cert(id: KeyId, certs: u32, line: &[u8]) -> Result<Option<Cert>, LineError>
-    requires { IsPlain RecordKind.Signature line.now }
-    ensures value { Answers result (first_failing (sig_checks id certs line.now)) (λ cert. cert ≡ (if certifies id line.now then Some (cert_of line.now) else None)) }
+/// The most bytes of a regular expression.
+const LONGEST_SCOPE: usize = 255;
+
+/// Reads a `sig` or `rev` record that was checked and is good, on the key with this key ID, which has so many certifications before it. One of another class or by the key itself gives None.
+pub fn read_cert(
+    alloc: Global,
+    id: KeyId,
+    certs: u32,
+    line: &Fields<'_>,
+) -> Result<Option<Cert>, LineError>
+    ensures value { Answers result (first_failing (sig_checks id certs line.now))
+        (λ cert. cert ≡ (if is_kept_class (class_at line.now) && not (key_id_at line.now == id) then Some (cert_of line.now) else None)) }
     ensures room { IfOk result (λ cert. IsSome cert → certs < most_certs) }
 {
-    if has_fewer(line, 11) {
+    if line.has_fewer(11) {
         return Err(LineError::Failed(ListingWhat::ShortRecord));
     }
     let class = class_in(line)?;
+    if !is_kept_class(class) {
+        return Ok(None);
+    }
     let issuer = key_id_in(line)?;
     if issuer == id {
         return Ok(None);
     }
-    let made = date_in(line, 6)?;
+    let cert = read_values(alloc, class, issuer, line)?;
     if certs >= MOST_CERTS {
         return Err(LineError::Failed(ListingWhat::LimitReached(Limit::Certs)));
     }
-    Ok(Some(Cert {
+    Ok(Some(cert))
+}
+
+/// The certification of this class and by this issuer.
+fn read_values(
+    alloc: Global,
+    class: u8,
+    issuer: KeyId,
+    line: &Fields<'_>,
+) -> Result<Cert, LineError>
+    ensures { Answers result (first_failing (cert_checks line.now)) (λ cert. cert ≡ record (cert_of line.now) { class = class; issuer = issuer }) }
+{
+    let made = date_in(line, 6)?;
+    let expires = date_in(line, 7)?;
+    let (depth, amount) = trust_in(line)?;
+    let text = text_in(alloc, line, 9)?;
+    if text.as_bytes().len() > LONGEST_SCOPE {
+        return Err(LineError::Failed(ListingWhat::LimitReached(Limit::Scope)));
+    }
+    Ok(Cert {
         issuer,
         class,
         local: is_local(line),
         made,
-        expires: 0,
-        depth: 0,
-        amount: 0,
-        scope: None,
-    }))
+        expires,
+        depth,
+        amount,
+        scope: scope_in(text),
+    })
+}
+
+/// A regular expression that is empty is none.
+fn scope_in(text: Text) -> Option<Text>
+    ensures { result ≡ scope_of text }
+{
+    if text.as_bytes().is_empty() {
+        None
+    } else {
+        Some(text)
+    }
 }

@@ -2,6 +2,7 @@
 
 ghost use Rattle.std.specs.Prelude.{◌≡◌};
 
+use wot_fields::unquote::QuoteError;
 use wot_types::{ListingFault, ListingWhat, Mem};
 
 /// Why a listing is refused.
@@ -27,5 +28,18 @@ impl From<Mem> for LineError {
 
     fn from(_e: Mem) -> LineError {
         LineError::Memory
+    }
+}
+
+impl From<QuoteError> for LineError {
+    ghost use Rattle.wot_listing.specs.Answer.{quote_failed};
+
+    ghost from_gives = { λ q e. e ≡ quote_failed q };
+
+    fn from(e: QuoteError) -> LineError {
+        match e {
+            QuoteError::BadQuote => LineError::Failed(ListingWhat::BadQuote),
+            QuoteError::Memory => LineError::Memory,
+        }
     }
 }

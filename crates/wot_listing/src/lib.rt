@@ -1,19 +1,18 @@
 //! The reader of GnuPG's checked colon listings: it accepts exactly the written grammar, and names the first fault.
 //!
-//! A listing comes line by line. What is kept of the lines so far stands in `so_far`, and `specs/` ties it to the whole list of lines.
+//! A listing comes line by line. What is kept of the lines so far stands in `progress`, and `specs/` ties it to the whole list of lines.
 #![tactic(auto)]
 
-mod block_keys;
-mod blocks;
-mod cert;
-mod error;
-mod head;
-mod listing;
-mod open_block;
-mod readable;
-mod so_far;
-mod user;
-mod values;
+mod block_keys; // the keys of the blocks that have ended
+mod blocks; // what a listing gives
+mod cert; // `sig` and `rev`
+mod error; // what stops the reader
+mod key_block; // the block that is being read
+mod listing; // the reader
+mod primary; // `pub`
+mod progress; // what is kept of the lines so far
+mod user; // `uid` and `uat`
+mod values; // the values of a record's fields
 
 pub use blocks::Blocks;
 pub use error::ListingError;

@@ -6,7 +6,7 @@ ghost use Rattle.wot_listing.specs.Reading.{Finishes, HasRead, answer_of, readin
 
 use crate::blocks::Blocks;
 use crate::error::{LineError, ListingError};
-use crate::so_far::SoFar;
+use crate::progress::Progress;
 use std::alloc::Global;
 use std::marker::Model;
 use wot_types::{ListingFault, Mem};
@@ -15,7 +15,7 @@ use wot_types::{ListingFault, Mem};
 #[derive(Debug, Drop)]
 pub struct Listing {
     alloc: Global,
-    so_far: SoFar,
+    progress: Progress,
     stop: Option<ListingError>,
 }
 
@@ -23,15 +23,15 @@ impl Model for Listing {
     ghost use Rattle.std.specs.Prelude.{Result, Ok, Err};
     ghost use Rattle.std.specs.Option.{option_map_or};
     ghost use Rattle.wot_listing.specs.declared.error.ListingError.{ListingError};
-    ghost use Rattle.wot_listing.specs.declared.so_far.SoFar.{SoFar};
-    ghost use Rattle.wot_listing.specs.contracts.so_far.SoFar as so_far_struct;
+    ghost use Rattle.wot_listing.specs.declared.progress.Progress.{Progress};
+    ghost use Rattle.wot_listing.specs.contracts.progress.Progress as progress_struct;
     ghost use Rattle.std.specs.Coded.{codes};
 
-    ghost Value = { Result SoFar ListingError };
+    ghost Value = { Result Progress ListingError };
 
-    ghost coded = { Prim.hlevel (codes, so_far_struct.the_row.coded) };
+    ghost coded = { Prim.hlevel (codes, progress_struct.the_row.coded) };
 
-    ghost view = { λ l. option_map_or (λ e. Err e) l.stop (Ok l.so_far) };
+    ghost view = { λ l. option_map_or (λ e. Err e) l.stop (Ok l.progress) };
 }
 
 impl Listing {
@@ -41,7 +41,7 @@ impl Listing {
     {
         Ok(Listing {
             alloc,
-            so_far: SoFar::new(alloc),
+            progress: Progress::new(alloc),
             stop: None,
         })
     }
@@ -56,8 +56,8 @@ impl Listing {
         match self.stop {
             Some(stop) => Err(stop),
             None => {
-                let number = self.so_far.lines.saturating_add(1);
-                match self.so_far.feed(self.alloc, line) {
+                let number = self.progress.lines.saturating_add(1);
+                match self.progress.feed(self.alloc, line) {
                     Ok(()) => Ok(()),
                     Err(e) => {
                         let stop = stop_at(number, e);
@@ -73,20 +73,20 @@ impl Listing {
     pub fn finish(self) -> Result<Blocks, ListingError>
         // what the lines that were read spell, or their first fault
         ensures finishes { (lines : List (List ℕ)) → HasRead self lines → Finishes lines result }
-        // keys that may be imported: well formed, plain, and rising by key ID
+        // keys that may be imported: well formed, and rising by key ID
         ensures listed { (lines : List (List ℕ)) → HasRead self lines → IfOk result (λ blocks. AreListed blocks.keys) }
         ensures stays { IfErr self (λ e. result ≡ Err e) }
     {
         let Listing {
             alloc,
-            so_far,
+            progress,
             stop,
         } = self;
         match stop {
             Some(stop) => Err(stop),
             None => {
-                let number = so_far.lines.saturating_add(1);
-                match so_far.finish(alloc) {
+                let number = progress.lines.saturating_add(1);
+                match progress.finish(alloc) {
                     Ok(blocks) => Ok(blocks),
                     Err(e) => Err(stop_at(number, e)),
                 }

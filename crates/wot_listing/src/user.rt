@@ -1,36 +1,39 @@
 //! User IDs of a block.
 
-ghost use Rattle.std.specs.Prelude.{◌≡◌, false};
+ghost use Rattle.std.specs.Prelude.{◌≡◌};
 ghost use Rattle.std.specs.List.{list_any};
-ghost use Rattle.wot_types.specs.Listing.{first_failing, is_same_user, user_checks};
+ghost use Rattle.wot_types.specs.Listing.{first_failing, is_same_user, user_at, user_checks};
 ghost use Rattle.wot_listing.specs.Answer.{Answers};
-ghost use Rattle.wot_listing.specs.Machine.{new_user};
-ghost use Rattle.wot_listing.specs.Readable.{IsPlain};
 
 use crate::error::LineError;
-use crate::values::{date_in, hash_in};
+use crate::values::{date_in, hash_in, is_marked_revoked, text_in};
 use std::alloc::Global;
-use wot_fields::field::{field_or_empty, has_fewer};
-use wot_types::{List, ListingWhat, RecordKind, Text, User, UserKind};
+use wot_fields::fields::Fields;
+use wot_types::{List, ListingWhat, User, UserKind};
 
-/// Reads a `uid` record that has no expiry, no mark of a revoked user ID and no escape in its text.
-pub fn read_user(alloc: Global, line: &[u8]) -> Result<User, LineError>
-    requires { IsPlain (RecordKind.UserId UserKind.Uid) line.now }
-    ensures { Answers result (first_failing (user_checks line.now)) (λ user. user ≡ new_user UserKind.Uid false line.now) }
+/// Reads a `uid` or `uat` record of a key that is revoked or not.
+pub fn read_user(
+    alloc: Global,
+    kind: UserKind,
+    of_revoked: bool,
+    line: &Fields<'_>,
+) -> Result<User, LineError>
+    ensures { Answers result (first_failing (user_checks line.now)) (λ user. user ≡ user_at kind of_revoked line.now) }
 {
-    if has_fewer(line, 10) {
+    if line.has_fewer(10) {
         return Err(LineError::Failed(ListingWhat::ShortRecord));
     }
     let made = date_in(line, 6)?;
-    let text = Text::from_bytes(alloc, field_or_empty(line, 10))?;
+    let expires = date_in(line, 7)?;
+    let text = text_in(alloc, line, 10)?;
     let hash = hash_in(alloc, line)?;
     Ok(User {
-        kind: UserKind::Uid,
+        kind,
         text,
         hash,
         made,
-        expires: 0,
-        revoked: false,
+        expires,
+        revoked: is_marked_revoked(line) && !of_revoked,
         certs: List::new(alloc),
     })
 }

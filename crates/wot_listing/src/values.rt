@@ -1,55 +1,112 @@
-//! The values of a line's fields.
+//! The values of a record's fields.
 
-ghost use Rattle.std.specs.Prelude.{◌≡◌, IfOk, false};
+ghost use Rattle.std.specs.Prelude.{◌≡◌, IfOk};
 ghost use Rattle.wot_types.specs.Dates.{date_or_0};
 ghost use Rattle.wot_types.specs.Fields as fields;
 ghost use Rattle.wot_types.specs.Fingerprint.{fingerprint};
-ghost use Rattle.wot_types.specs.NotBuilt as not_built;
-ghost use Rattle.wot_types.specs.Numbers.{number_or_0};
+ghost use Rattle.wot_types.specs.Numbers.{depth_and_amount, number_or_0, number_up_to};
+ghost use Rattle.wot_types.specs.Quotes.{unquoted};
 ghost use Rattle.wot_types.specs.Records as records;
-ghost use Rattle.wot_listing.specs.Answer.{Gives};
+ghost use Rattle.wot_listing.specs.Answer.{Gives, Makes};
 
 use crate::error::LineError;
 use hex::FromHex;
 use std::alloc::Global;
-use wot_fields::field::field_or_empty;
-use wot_fields::number::number_or_0;
-use wot_types::{Fpr, KeyId, ListingWhat, Mem, Text};
+use wot_fields::date::date_or_0;
+use wot_fields::fields::Fields;
+use wot_fields::number::{number, number_or_0};
+use wot_fields::unquote::unquote;
+use wot_types::{Fpr, KeyId, ListingWhat, Mem, RecordKind, Text, UserKind};
+
+/// The type of a record, by its first field.
+pub fn kind_of(line: &Fields<'_>) -> RecordKind
+    ensures { result ≡ records.kind_of line.now }
+{
+    kind_of_name(line.get_or_empty(1))
+}
+
+fn kind_of_name(name: &[u8]) -> RecordKind
+    ensures { result ≡ records.kind_of_name name.now }
+{
+    match name {
+        b"pub" => RecordKind::Primary,
+        b"fpr" => RecordKind::Fingerprint,
+        b"uid" => RecordKind::UserId(UserKind::Uid),
+        b"uat" => RecordKind::UserId(UserKind::Uat),
+        b"sig" | b"rev" => RecordKind::Signature,
+        b"sub" | b"ssb" => RecordKind::Subkey,
+        b"sec" | b"crt" | b"crs" => RecordKind::Foreign,
+        _ => RecordKind::Other,
+    }
+}
 
 /// A number; an empty field is 0.
-pub fn number_in(line: &[u8], n: u32) -> Result<u32, LineError>
+pub fn number_in(line: &Fields<'_>, n: u32) -> Result<u32, LineError>
     ensures { Gives result (number_or_0 (fields.field n line.now)) ListingWhat.BadNumber }
 {
-    number_or_0(field_or_empty(line, n)).map_err(|_e| LineError::Failed(ListingWhat::BadNumber))
+    let number = number_or_0(line.get_or_empty(n));
+    number.ok().ok_or(LineError::Failed(ListingWhat::BadNumber))
 }
 
 /// A date in seconds since 1970; an empty field is 0.
-pub fn date_in(line: &[u8], n: u32) -> Result<u32, LineError>
-    requires { not_built.holds 84 (fields.field n line.now) ≡ false }
+pub fn date_in(line: &Fields<'_>, n: u32) -> Result<u32, LineError>
     ensures { Gives result (date_or_0 (fields.field n line.now)) ListingWhat.BadDate }
 {
-    number_or_0(field_or_empty(line, n)).map_err(|_e| LineError::Failed(ListingWhat::BadDate))
+    let date = date_or_0(line.get_or_empty(n));
+    date.ok().ok_or(LineError::Failed(ListingWhat::BadDate))
+}
+
+/// The text of a quoted field.
+pub fn text_in(alloc: Global, line: &Fields<'_>, n: u32) -> Result<Text, LineError>
+    ensures { Makes result (unquoted (fields.field n line.now)) ListingWhat.BadQuote }
+{
+    Ok(unquote(alloc, line.get_or_empty(n))?)
+}
+
+/// The depth and the amount of a trust signature in field 8.
+pub fn trust_in(line: &Fields<'_>) -> Result<(u8, u8), LineError>
+    ensures { Gives result (depth_and_amount (fields.field 8 line.now)) ListingWhat.BadTrustField }
+{
+    read_trust(line.get_or_empty(8)).ok_or(LineError::Failed(ListingWhat::BadTrustField))
 }
 
 /// The key ID in field 5.
-pub fn key_id_in(line: &[u8]) -> Result<KeyId, LineError>
+pub fn key_id_in(line: &Fields<'_>) -> Result<KeyId, LineError>
     ensures { Gives result (records.key_id (fields.field 5 line.now)) ListingWhat.BadHex }
 {
-    read_key_id(field_or_empty(line, 5)).ok_or(LineError::Failed(ListingWhat::BadHex))
+    read_key_id(line.get_or_empty(5)).ok_or(LineError::Failed(ListingWhat::BadHex))
 }
 
 /// The fingerprint in field 10.
-pub fn fingerprint_in(line: &[u8]) -> Result<Fpr, LineError>
+pub fn fingerprint_in(line: &Fields<'_>) -> Result<Fpr, LineError>
     ensures { Gives result (fingerprint (fields.field 10 line.now)) ListingWhat.BadHex }
 {
-    Fpr::from_hex(field_or_empty(line, 10)).ok_or(LineError::Failed(ListingWhat::BadHex))
+    Fpr::from_hex(line.get_or_empty(10)).ok_or(LineError::Failed(ListingWhat::BadHex))
 }
 
 /// The signature class in field 11.
-pub fn class_in(line: &[u8]) -> Result<u8, LineError>
+pub fn class_in(line: &Fields<'_>) -> Result<u8, LineError>
     ensures { Gives result (records.class_of (fields.field 11 line.now)) ListingWhat.BadHex }
 {
-    read_class(field_or_empty(line, 11)).ok_or(LineError::Failed(ListingWhat::BadHex))
+    read_class(line.get_or_empty(11)).ok_or(LineError::Failed(ListingWhat::BadHex))
+}
+
+/// Nothing is no trust signature, else there are two numbers with one space between.
+fn read_trust(f: &[u8]) -> Option<(u8, u8)>
+    ensures { result ≡ depth_and_amount f.now }
+{
+    if f.is_empty() {
+        return Some((0, 0));
+    }
+    let space = f.iter().position(|b| *b == b' ')?;
+    byte(&f[..space]).zip(byte(&f[space + 1..]))
+}
+
+/// A number up to 255.
+fn byte(f: &[u8]) -> Option<u8>
+    ensures { result ≡ number_up_to 255 f.now }
+{
+    u8::try_from(number(f).ok()?).ok()
 }
 
 fn read_key_id(f: &[u8]) -> Option<KeyId>
@@ -60,7 +117,7 @@ fn read_key_id(f: &[u8]) -> Option<KeyId>
 }
 
 /// The byte that the first two digits spell.
-pub fn read_class(f: &[u8]) -> Option<u8>
+fn read_class(f: &[u8]) -> Option<u8>
     ensures { result ≡ records.class_of f.now }
 {
     match f {
@@ -72,18 +129,26 @@ pub fn read_class(f: &[u8]) -> Option<u8>
     }
 }
 
+/// A certification has a class from 0x10 to 0x13, and a revocation of one 0x30.
+pub fn is_kept_class(class: u8) -> bool
+    ensures { result ≡ records.is_kept_class class }
+{
+    matches!(class, 0x10..=0x13 | 0x30)
+}
+
 /// Whether the class in field 11 is marked local.
-pub fn is_local(line: &[u8]) -> bool
+pub fn is_local(line: &Fields<'_>) -> bool
     ensures { result ≡ records.is_local_at line.now }
 {
-    matches!(field_or_empty(line, 11), [_, _, b'l', ..])
+    matches!(line.get_or_empty(11), [_, _, b'l', ..])
 }
 
 /// The letters of field 12, without `D`.
-pub fn capabilities_in(alloc: Global, line: &[u8]) -> Result<Text, Mem>
+pub fn capabilities_in(alloc: Global, line: &Fields<'_>) -> Result<Text, Mem>
     ensures { IfOk result (λ text. text ≡ records.capabilities_at line.now) }
 {
-    let caps = field_or_empty(line, 12)
+    let caps = line
+        .get_or_empty(12)
         .iter()
         .copied()
         .filter(|b| b.is_ascii_alphabetic() && *b != b'D')
@@ -92,10 +157,11 @@ pub fn capabilities_in(alloc: Global, line: &[u8]) -> Result<Text, Mem>
 }
 
 /// The letters and digits of field 8.
-pub fn hash_in(alloc: Global, line: &[u8]) -> Result<Text, Mem>
+pub fn hash_in(alloc: Global, line: &Fields<'_>) -> Result<Text, Mem>
     ensures { IfOk result (λ text. text ≡ records.hash_at line.now) }
 {
-    let hash = field_or_empty(line, 8)
+    let hash = line
+        .get_or_empty(8)
         .iter()
         .copied()
         .filter(|b| b.is_ascii_alphanumeric())
@@ -103,23 +169,16 @@ pub fn hash_in(alloc: Global, line: &[u8]) -> Result<Text, Mem>
     Ok(Text::from_vec(hash))
 }
 
-/// Whether a field is not empty.
-pub fn is_filled(line: &[u8], n: u32) -> bool
-    ensures { result ≡ not_built.is_filled n line.now }
-{
-    !field_or_empty(line, n).is_empty()
-}
-
 /// Whether field 2 begins with `!`: a signature that was checked and is good.
-pub fn is_good(line: &[u8]) -> bool
+pub fn is_good(line: &Fields<'_>) -> bool
     ensures { result ≡ records.is_good line.now }
 {
-    matches!(field_or_empty(line, 2), [b'!', ..])
+    matches!(line.get_or_empty(2), [b'!', ..])
 }
 
 /// Whether field 2 begins with `r`.
-pub fn is_marked_revoked(line: &[u8]) -> bool
+pub fn is_marked_revoked(line: &Fields<'_>) -> bool
     ensures { result ≡ records.is_revoked_at line.now }
 {
-    matches!(field_or_empty(line, 2), [b'r', ..])
+    matches!(line.get_or_empty(2), [b'r', ..])
 }

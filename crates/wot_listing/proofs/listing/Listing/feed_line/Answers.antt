@@ -13,11 +13,11 @@ returns-in-Ok-clause-read c = λ lines read.
     let after = open_view _ c.self.inside.stop c.feed.new.self refl c.in-None.is in
     let before = open_view _ _ _ c.self.view_is c.in-None.is in
     subst (λ r. HasRead r (lines ++ c.args.line.now ∷ [])) (sym after)
-    (read_line c.args.self.now c.self.inside.so_far c.feed.new.self lines c.args.line.now before c.in-Ok.ensures.0 c.in-Ok.ensures.1 read)
+    (read_line c.args.self.now c.self.inside.progress c.feed.new.self lines c.args.line.now before c.in-Ok.ensures.0 c.in-Ok.ensures.1 read)
 
 pub returns-in-Err-clause-read : goal.returns-in-Err-clause-read
 returns-in-Err-clause-read c = λ lines read.
     let stop = c.stop_at-stop.ensures ∙ ap (λ n. stop_of n c.in-Err.e) c.saturating_add-number.ensures in
     let before = open_view _ _ _ c.self.view_is c.in-None.is in
     subst (λ (e : ListingError). HasRead (Err e) (lines ++ c.args.line.now ∷ [])) (sym stop)
-    (stopping_line c.args.self.now c.self.inside.so_far c.in-Err.e _ lines c.args.line.now before c.in-Err.ensures read)
+    (stopping_line c.args.self.now c.self.inside.progress c.in-Err.e _ lines c.args.line.now before c.in-Err.ensures read)

@@ -17,7 +17,7 @@ pub returns-in-Err-clause-finishes : goal.returns-in-Err-clause-finishes
 returns-in-Err-clause-finishes c = λ lines read.
     let stop = c.stop_at.ensures ∙ ap (λ n. stop_of n c.in-Err.e) c.saturating_add-number.ensures in
     subst (λ (e : ListingError). Finishes lines (Err e)) (sym stop)
-    (end_fails c.args.self c.self.inside.so_far c.in-Err.e _ lines (open_view _ _ _ c.self.view_is c.in-None.is) c.in-Err.ensures read)
+    (end_fails c.args.self c.self.inside.progress c.in-Err.e _ lines (open_view _ _ _ c.self.view_is c.in-None.is) c.in-Err.ensures read)
 
 pub returns-in-Ok-clause-listed : goal.returns-in-Ok-clause-listed
 returns-in-Ok-clause-listed c = λ lines read.

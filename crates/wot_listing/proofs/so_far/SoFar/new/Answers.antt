@@ -1,7 +1,0 @@
-use Rattle.std.proofs.Common.{None}
-use Rattle.wot_listing.specs.Machine.{so_far}
-use Rattle.wot_listing.proofs.so_far.SoFar.new.Goals as goal
-
-pub returns : goal.returns
-unfolding so_far
-returns c = λ i. record { lines = 0; keys = c.new.ensures i; block = None; kept = 0; passed = 0 }

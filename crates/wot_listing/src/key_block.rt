@@ -1,0 +1,223 @@
+//! The block that is being read.
+
+ghost use Rattle.std.specs.Prelude.{◌≡◌, ◌∷◌, [], ◌++◌, ◌<◌, ◌&&◌, is_none, is_some, length, nat_le, OnOk, if◌then◌else◌};
+ghost use Rattle.wot_types.specs.Listing.{certifies, first_failing, fpr_checks, most_users, most_certs, sig_checks, user_at, user_checks};
+ghost use Rattle.wot_types.specs.Records.{cert_of, fingerprint_at, is_good};
+ghost use Rattle.wot_listing.specs.Answer.{Answers};
+ghost use Rattle.wot_listing.specs.Machine.{at_primary, at_sub, after_user, key_at_end, repeats_user, users_of, with_cert, with_fpr, with_user};
+
+use crate::cert::read_cert;
+use crate::error::LineError;
+use crate::primary::Primary;
+use crate::user::{is_among, is_same_user, read_user};
+use crate::values::{fingerprint_in, is_good};
+use std::alloc::Global;
+use wot_fields::fields::Fields;
+use wot_types::{
+    Cert, Fpr, Key, KeyId, Limit, List, ListingWhat, MOST_USERS, Mem, User, UserKind, Users,
+};
+
+/// A block that no line has ended.
+#[derive(Debug, Drop)]
+pub struct KeyBlock {
+    pub primary: Primary,
+    pub fpr: Option<Fpr>,
+    /// Whether the next `fpr` is the key's own.
+    pub wants_fpr: bool,
+    /// The user IDs that a line has ended.
+    pub users: Users,
+    /// The user ID that no line has ended.
+    pub user: Option<User>,
+    /// The certifications kept so far, at most 4,194,304.
+    pub certs: u32,
+}
+
+impl KeyBlock {
+    /// A block at its `pub`.
+    pub fn new(alloc: Global, primary: Primary) -> KeyBlock
+        ensures { result ≡ at_primary primary }
+    {
+        KeyBlock {
+            primary,
+            fpr: None,
+            wants_fpr: true,
+            users: List::new(alloc),
+            user: None,
+            certs: 0,
+        }
+    }
+
+    /// Ends the block: its key ID and its key.
+    pub fn finish(mut self) -> Result<(KeyId, Key), LineError>
+        ensures { Answers result (first_failing ((is_none self.fpr, ListingWhat.NoFingerprint) ∷ []))
+            (λ p. (p.0 ≡ self.primary.id) × (p.1 ≡ key_at_end self)) }
+    {
+        self.end_user()?;
+        let KeyBlock {
+            primary,
+            fpr,
+            wants_fpr: _,
+            users,
+            user: _,
+            certs: _,
+        } = self;
+        match fpr {
+            Some(fpr) => Ok(key_of(primary, fpr, users)),
+            None => Err(LineError::Failed(ListingWhat::NoFingerprint)),
+        }
+    }
+
+    /// An `fpr` is the key's own where none has come.
+    pub fn feed_fpr(&mut self, line: &Fields<'_>) -> Result<(), LineError>
+        ensures { Answers result (first_failing (if self.old.wants_fpr then fpr_checks self.old.primary.id line.now else []))
+            (λ _. self.new ≡ with_fpr line.now self.old) }
+    {
+        if self.wants_fpr {
+            let fpr = read_fpr(self.primary.id, line)?;
+            self.fpr = Some(fpr);
+            self.wants_fpr = false;
+        }
+        Ok(())
+    }
+
+    /// A `uid` or `uat` ends the user ID before it, and begins one.
+    pub fn feed_user(
+        &mut self,
+        alloc: Global,
+        kind: UserKind,
+        line: &Fields<'_>,
+    ) -> Result<(), LineError>
+        ensures { Answers result (first_failing (user_checks line.now ++ (repeats_user self.old (user_at kind self.old.primary.revoked line.now), ListingWhat.RepeatedUser)
+            ∷ (nat_le most_users (length (users_of self.old)), ListingWhat.LimitReached Limit.Users) ∷ []))
+            (λ _. self.new ≡ with_user kind line.now self.old) }
+    {
+        let user = read_user(alloc, kind, self.primary.revoked, line)?;
+        if self.has_user(&user) {
+            return Err(LineError::Failed(ListingWhat::RepeatedUser));
+        }
+        if self.is_full() {
+            return Err(LineError::Failed(ListingWhat::LimitReached(Limit::Users)));
+        }
+        self.end_user()?;
+        self.user = Some(user);
+        Ok(())
+    }
+
+    /// A `sub` or `ssb` ends the user ID, and an `fpr` after it is not the key's own.
+    pub fn feed_sub(&mut self) -> Result<(), Mem>
+        ensures { OnOk result (self.new ≡ at_sub self.old) }
+    {
+        self.end_user()?;
+        self.wants_fpr = false;
+        Ok(())
+    }
+
+    /// A `sig` or `rev`. Answers whether it is kept.
+    pub fn feed_sig(&mut self, alloc: Global, line: &Fields<'_>) -> Result<bool, LineError>
+        ensures { Answers result (first_failing (if is_some self.old.user && is_good line.now then sig_checks self.old.primary.id self.old.certs line.now else []))
+            (λ kept. (kept ≡ is_some self.old.user && certifies self.old.primary.id line.now)
+            × (self.new ≡ (if kept then with_cert (cert_of line.now) self.old else self.old))) }
+    {
+        if self.user.is_none() || !is_good(line) {
+            return Ok(false);
+        }
+        match read_cert(alloc, self.primary.id, self.certs, line)? {
+            Some(cert) => {
+                self.push_cert(cert)?;
+                Ok(true)
+            }
+            None => Ok(false),
+        }
+    }
+
+    fn push_cert(&mut self, cert: Cert) -> Result<(), Mem>
+        requires { self.old.certs < most_certs }
+        ensures { OnOk result (self.new ≡ with_cert cert self.old) }
+    {
+        if let Some(user) = &mut self.user {
+            user.certs.push(cert)?;
+        }
+        self.certs += 1;
+        Ok(())
+    }
+
+    fn has_user(&self, user: &User) -> bool
+        ensures { result ≡ repeats_user self.now user.now }
+    {
+        let ended = is_among(self.users.as_slice(), user);
+        match &self.user {
+            Some(last) => ended || is_same_user(last, user),
+            None => ended,
+        }
+    }
+
+    /// Whether there are as many user IDs as a key may have.
+    fn is_full(&self) -> bool
+        ensures { result ≡ nat_le most_users (length (users_of self.now)) }
+    {
+        let most_ended = match self.user {
+            Some(_) => MOST_USERS - 1,
+            None => MOST_USERS,
+        };
+        self.users.len() >= most_ended
+    }
+
+    fn end_user(&mut self) -> Result<(), Mem>
+        ensures { OnOk result (self.new ≡ after_user self.old) }
+    {
+        match self.user.take() {
+            Some(user) => self.users.push(user),
+            None => Ok(()),
+        }
+    }
+}
+
+/// Reads the `fpr` of the key with this key ID.
+fn read_fpr(id: KeyId, line: &Fields<'_>) -> Result<Fpr, LineError>
+    ensures { Answers result (first_failing (fpr_checks id line.now)) (λ fpr. fpr ≡ fingerprint_at line.now) }
+{
+    if line.has_fewer(10) {
+        return Err(LineError::Failed(ListingWhat::ShortRecord));
+    }
+    let fpr = fingerprint_in(line)?;
+    if fpr.key_id() != id {
+        return Err(LineError::Failed(ListingWhat::KeyIdDiffers));
+    }
+    Ok(fpr)
+}
+
+/// The key of a `pub`, its `fpr` and its user IDs.
+fn key_of(primary: Primary, fpr: Fpr, users: Users) -> (KeyId, Key)
+    ensures id { result.0 ≡ primary.id }
+    ensures key { result.1 ≡ record {
+      fpr = fpr;
+      bits = primary.bits;
+      algo = primary.algo;
+      made = primary.made;
+      expires = primary.expires;
+      revoked = primary.revoked;
+      caps = primary.caps;
+      users = users;
+    } }
+{
+    let Primary {
+        id,
+        bits,
+        algo,
+        made,
+        expires,
+        revoked,
+        caps,
+    } = primary;
+    let key = Key {
+        fpr,
+        bits,
+        algo,
+        made,
+        expires,
+        revoked,
+        caps,
+        users,
+    };
+    (id, key)
+}

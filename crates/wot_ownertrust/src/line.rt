@@ -1,0 +1,90 @@
+//! A line of an ownertrust text: blank, a comment, or `FINGERPRINT:NUMBER:`.
+
+ghost use Rattle.std.specs.Prelude.{◌≡◌, ◌++◌, ◌∷◌, [], IfOk};
+ghost use Rattle.std.specs.List.{list_all};
+ghost use Rattle.wot_types.specs.Fingerprint.{fingerprint};
+ghost use Rattle.wot_types.specs.Lines.{is_blank, is_comment};
+ghost use Rattle.wot_types.specs.Numbers.{number};
+ghost use Rattle.wot_types.specs.Ownertrust.{kept_of, ownertrust_line};
+ghost use Rattle.wot_types.specs.OwnertrustText.{entry_by, entry_of_line, ownertrust_of_number};
+
+use std::alloc::Global;
+use wot_fields::fields::Fields;
+use wot_fields::number::number;
+use wot_fields::printed::{push_hex, push_number};
+use wot_types::{Entry, Fpr, Mem, Ownertrust, OwnertrustFault, Text, Trust};
+
+/// The entry of a line, and None for a blank line, a comment or the number 0. The line has no newline.
+#[tactic(auto, using(crate::proofs::Lines::three_fields))]
+pub fn read_line(line: &[u8]) -> Result<Option<Entry>, OwnertrustFault>
+    ensures read { result ≡ entry_of_line line.now }
+{
+    if is_blank(line) || is_comment(line) {
+        return Ok(None);
+    }
+    let fields = Fields::new(line);
+    if fields.has_fewer(3) || !fields.has_fewer(4) || !fields.get_or_empty(3).is_empty() {
+        return Err(OwnertrustFault::BadShape);
+    }
+    entry_by(fields.get_or_empty(1), fields.get_or_empty(2))
+}
+
+fn is_blank(line: &[u8]) -> bool
+    ensures { result ≡ is_blank line.now }
+{
+    line.iter().all(|b| *b == b' ')
+}
+
+fn is_comment(line: &[u8]) -> bool
+    ensures { result ≡ is_comment line.now }
+{
+    matches!(line, [b'#', ..])
+}
+
+/// The entry of a fingerprint in hexadecimal and a number.
+fn entry_by(fpr: &[u8], value: &[u8]) -> Result<Option<Entry>, OwnertrustFault>
+    ensures { result ≡ entry_by (fingerprint fpr.now) (number value.now) }
+{
+    let fpr = Fpr::from_hex(fpr).ok_or(OwnertrustFault::BadFingerprint)?;
+    let number = number(value).ok().ok_or(OwnertrustFault::BadValue)?;
+    if number == 0 {
+        return Ok(None);
+    }
+    let Ownertrust { trust, disabled } = ownertrust_of(number).ok_or(OwnertrustFault::BadValue)?;
+    Ok(Some(Entry {
+        fpr,
+        trust,
+        disabled,
+    }))
+}
+
+/// What a number of an ownertrust text says; 128 and more is of a disabled key.
+fn ownertrust_of(number: u32) -> Option<Ownertrust>
+    ensures { result ≡ ownertrust_of_number number }
+{
+    let disabled = number >= 128;
+    let number = if disabled { number - 128 } else { number };
+    let trust = Trust::from_number(u8::try_from(number).ok()?)?;
+    Some(Ownertrust { trust, disabled })
+}
+
+/// The line of an entry, without a newline.
+pub fn write_line(alloc: Global, entry: &Entry) -> Result<Text, Mem>
+    ensures printed { IfOk result (λ text. text ++ 10 ∷ [] ≡ ownertrust_line (entry.now.fpr, kept_of entry.now)) }
+{
+    let Entry {
+        fpr,
+        trust,
+        disabled,
+    } = entry;
+    let kept = Ownertrust {
+        trust: *trust,
+        disabled: *disabled,
+    };
+    let mut text = Vec::new(alloc);
+    push_hex(alloc, &mut text, fpr.as_bytes())?;
+    text.push(b':')?;
+    push_number(alloc, &mut text, u64::from(kept.number()))?;
+    text.push(b':')?;
+    Ok(Text::from_vec(text))
+}
