@@ -1,0 +1,96 @@
+-- The certification that decides among those of one issuer: the last that is not disregarded.
+use Rattle.std.proofs.Common.{◌≡◌, ◌+◌, ◌<◌, ◌≤◌, ◌==◌, ◌&&◌, not, ℕ, Bool, true, false, cond, List, [], ◌∷◌, ◌++◌, filter, take, drop, length, get_or, ◌-◌, Some, option_and_then, refl, sym, ap, subst, ◌∙◌, arith}
+use Rattle.std.specs.List.{AllByRecursion}
+use Rattle.std.proofs.lemmas.Bool.Decides.{nat_tests}
+use Rattle.std.proofs.lemmas.List.{take_more, take-append-drop}
+use Rattle.std.proofs.lemmas.List.Elements.{filter-append}
+use Rattle.wot_types.specs.declared.placed.Placed.{Placed}
+use Rattle.wot_types.specs.Selection.{counts_for, in_force, is_disregarded, is_earlier, later, latest, usable}
+use Rattle.wot_select.specs.Run.{IsBy}
+use Rattle.wot_types.specs.Arrangement.{IsRising, is_before}
+
+-- what stands before it is before it
+abbrev AllBefore : Placed → List Placed → Type 0
+AllBefore q ps = AllByRecursion (λ p. is_before p q ≡ true) ps
+
+last_of : (P : Placed → Type 0) (ps : List Placed) (q : Placed) → AllByRecursion P (ps ++ q ∷ []) → P q
+last_of P [] q h = h.0
+last_of P (p ∷ ps) q h = last_of P ps q h.1
+
+before_last : (ps : List Placed) (q : Placed) → IsRising (ps ++ q ∷ []) → AllBefore q ps
+before_last [] q h = tt
+before_last (p ∷ ps) q h = (last_of (λ x. is_before p x ≡ true) ps q h.0, before_last ps q h.1)
+
+all_front : (P : Placed → Type 0) (ps qs : List Placed) → AllByRecursion P (ps ++ qs) → AllByRecursion P ps
+all_front P [] qs h = tt
+all_front P (p ∷ ps) qs h = (h.0, all_front P ps qs h.1)
+
+all_back : (P : Placed → Type 0) (ps qs : List Placed) → AllByRecursion P (ps ++ qs) → AllByRecursion P qs
+all_back P [] qs h = h
+all_back P (p ∷ ps) qs h = all_back P ps qs h.1
+
+pub rising_front : (ps qs : List Placed) → IsRising (ps ++ qs) → IsRising ps
+rising_front [] qs h = tt
+rising_front (p ∷ ps) qs h = (all_front (λ q. is_before p q ≡ true) ps qs h.0, rising_front ps qs h.1)
+
+pub rising_back : (ps qs : List Placed) → IsRising (ps ++ qs) → IsRising qs
+rising_back [] qs h = h
+rising_back (p ∷ ps) qs h = rising_back ps qs h.1
+
+-- the last one of a run decides, unless it is disregarded
+latest_last : (level issuer : ℕ) (ps : List Placed) (q : Placed) → AllBefore q ps → IsBy issuer ps → q.cert.issuer ≡ issuer → is_disregarded level q.cert ≡ false
+    → latest (filter (counts_for level issuer) (ps ++ q ∷ [])) ≡ Some q
+latest_last level issuer [] q h by its kept = ap (λ b. latest (cond b (q ∷ []) [])) (counts q its kept)
+  where
+    counts : (p : Placed) → p.cert.issuer ≡ issuer → is_disregarded level p.cert ≡ false → counts_for level issuer p ≡ true
+    counts p e k =
+        let itself : (p.cert.issuer == issuer) ≡ true = grind (arith, nat_tests) in
+        (λ i. itself i && not (k i))
+latest_last level issuer (p ∷ ps) q h by its kept =
+    let rest = filter (counts_for level issuer) (ps ++ q ∷ []) in
+    let behind = latest_last level issuer ps q h.1 by.1 its kept in
+    elim (counts_for level issuer p) as (λ b. latest (cond b (p ∷ rest) rest) ≡ Some q) [
+      | true ↦ ap (λ o. Some (later p o)) behind ∙ ap (λ b. Some (cond b q p)) (earlier p q h.0 by.0 its)
+      | false ↦ behind
+    ]
+  where
+    earlier : (p q : Placed) → is_before p q ≡ true → p.cert.issuer ≡ issuer → q.cert.issuer ≡ issuer → is_earlier p q ≡ true
+    earlier p q h e f = grind (arith, nat_tests)
+
+-- what is disregarded at the end of a run changes nothing
+pub disregarded_last : (now level issuer : ℕ) (ps : List Placed) (q : Placed) → is_disregarded level q.cert ≡ true
+    → usable now level issuer (ps ++ q ∷ []) ≡ usable now level issuer ps
+disregarded_last now level issuer ps q h =
+    ap (λ xs. option_and_then (in_force now) (latest xs))
+    (filter-append (counts_for level issuer) ps (q ∷ []) ∙ ap (λ b. filter (counts_for level issuer) ps ++ cond b (q ∷ []) []) (left_out (q.cert.issuer == issuer) (is_disregarded level q.cert) h) ∙ append_none (filter (counts_for level issuer) ps))
+  where
+    left_out : (a b : Bool) → b ≡ true → (a && not b) ≡ false
+    left_out true b h = ap not h
+    left_out false b h = refl
+
+    append_none : (xs : List Placed) → xs ++ [] ≡ xs
+    append_none [] = refl
+    append_none (x ∷ xs) = ap (λ ys. x ∷ ys) (append_none xs)
+
+pub usable_last : (now level issuer : ℕ) (ps : List Placed) (q : Placed) → IsRising (ps ++ q ∷ []) → IsBy issuer (ps ++ q ∷ []) → is_disregarded level q.cert ≡ false
+    → usable now level issuer (ps ++ q ∷ []) ≡ in_force now q
+usable_last now level issuer ps q rising by kept =
+    ap (option_and_then (in_force now))
+    (latest_last level issuer ps q (before_last ps q rising) (all_front (λ p. p.cert.issuer ≡ issuer) ps (q ∷ []) by) (last_of (λ p. p.cert.issuer ≡ issuer) ps q by) kept)
+
+rising_take : (run : List Placed) (n : ℕ) → IsRising run → IsRising (take n run)
+rising_take run n h = rising_front (take n run) (drop n run) (subst IsRising (sym (take-append-drop n run)) h)
+
+by_take : (issuer : ℕ) (run : List Placed) (n : ℕ) → IsBy issuer run → IsBy issuer (take n run)
+by_take issuer run n h = all_front (λ p. p.cert.issuer ≡ issuer) (take n run) (drop n run) (subst (IsBy issuer) (sym (take-append-drop n run)) h)
+
+-- the last that isn't disregarded decides
+pub usable_at : (now level : ℕ) (run : List Placed) (end : ℕ) (q : Placed) → IsRising run → 0 < end → end ≤ length run → q ≡ get_or run (end - 1) q
+    → is_disregarded level q.cert ≡ false → ((issuer : ℕ) → usable now level issuer (take end run) ≡ usable now level issuer run)
+    → (issuer : ℕ) → IsBy issuer run → usable now level issuer run ≡ in_force now q
+usable_at now level run end q rising some within is kept same issuer by =
+    let one : end ≡ end - 1 + 1 = omega (arith, some) in
+    let here : end - 1 < length run = omega (arith, some, within) in
+    let split : take end run ≡ take (end - 1) run ++ q ∷ [] = ap (λ k. take k run) one ∙ take_more run (end - 1) q here ∙ ap (λ x. take (end - 1) run ++ x ∷ []) (sym is) in
+    sym (same issuer) ∙ ap (usable now level issuer) split
+    ∙ usable_last now level issuer (take (end - 1) run) q (subst IsRising split (rising_take run end rising)) (subst (IsBy issuer) split (by_take issuer run end by)) kept

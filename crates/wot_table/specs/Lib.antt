@@ -1,0 +1,4 @@
+pub mod Kept
+pub mod Weights
+pub mod Held
+pub mod Heads
