@@ -1,0 +1,151 @@
+//! Why an edit can't be made.
+
+ghost use Rattle.std.specs.Prelude.{◌≡◌};
+ghost use Rattle.std.specs.Option.{option_or};
+ghost use Rattle.wot_types.specs.Keyring.{is_taken, taken_id};
+ghost use Rattle.wot_types.specs.Limits.{limit_passed, record_passed};
+ghost use Rattle.wot_types.specs.Outcome.{missing_key, refusal_of, state_limit, taken_key};
+ghost use Rattle.wot_types.specs.Payload.{IsProper, payload};
+ghost use Rattle.wot_commands.specs.Counted.{count_passed};
+
+use crate::entries::{count_with, count_with_all, ownertrust_of};
+use wot_live::Engine;
+use wot_spelling::payload_length;
+use wot_table::Table;
+use wot_types::{
+    Edit, Key, KeyId, Keys, Limit, MOST_CERTS, MOST_KEYRING_USERS, MOST_KEYS, MOST_RECORD,
+    MOST_TEXT, MOST_TRUSTS, Ownertrust, Refusal, Totals,
+};
+
+/// Why this edit can't be made: its key isn't there, a limit is passed by the state after it or by its record, a key ID is
+/// taken. It takes no memory, and a look-up for each key and entry of the edit.
+pub fn refusal(engine: &Engine, edit: &Edit) -> Option<Refusal>
+    requires proper { IsProper edit.now }
+    ensures { result ≡ refusal_of engine.now edit.now }
+{
+    if let Some(refusal) = missing_key(engine, edit) {
+        return Some(refusal);
+    }
+    if let Some(limit) = limit_passed(engine, edit) {
+        return Some(Refusal::Full(limit));
+    }
+    taken_key(engine, edit).map(Refusal::KeyIdTaken)
+}
+
+fn missing_key(engine: &Engine, edit: &Edit) -> Option<Refusal>
+    ensures { result ≡ missing_key engine.now edit.now }
+{
+    match edit {
+        Edit::Delete(id) if engine.table().key(*id).is_none() => Some(Refusal::NoSuchKey),
+        _ => None,
+    }
+}
+
+/// The limit that the state after it passes, or else its record.
+fn limit_passed(engine: &Engine, edit: &Edit) -> Option<Limit>
+    requires proper { IsProper edit.now }
+    ensures { result ≡ option_or (state_limit engine.now edit.now) (record_passed (payload edit.now)) }
+{
+    match state_limit(engine, edit) {
+        Some(limit) => Some(limit),
+        None => record_limit(edit),
+    }
+}
+
+fn state_limit(engine: &Engine, edit: &Edit) -> Option<Limit>
+    requires proper { IsProper edit.now }
+    ensures { result ≡ state_limit engine.now edit.now }
+{
+    let trusts = engine.trusts();
+    match edit {
+        Edit::Import(keys) => totals_limit(engine.table().totals_with(keys)),
+        Edit::Ownertrust(entries) => trusts_limit(count_with_all(trusts, entries)),
+        Edit::Set(fpr, trust) => {
+            let disabled = ownertrust_of(trusts, fpr).disabled;
+            trusts_limit(count_with(
+                trusts,
+                fpr,
+                Ownertrust {
+                    trust: *trust,
+                    disabled,
+                },
+            ))
+        }
+        Edit::Flag(fpr, disabled) => {
+            let trust = ownertrust_of(trusts, fpr).trust;
+            trusts_limit(count_with(
+                trusts,
+                fpr,
+                Ownertrust {
+                    trust,
+                    disabled: *disabled,
+                },
+            ))
+        }
+        Edit::Delete(_) | Edit::Date(_) | Edit::Options(_) => None,
+    }
+}
+
+fn totals_limit(totals: Totals) -> Option<Limit>
+    ensures { result ≡ limit_passed totals }
+{
+    if totals.keys > MOST_KEYS {
+        Some(Limit::Keys)
+    } else if totals.users > MOST_KEYRING_USERS {
+        Some(Limit::Users)
+    } else if totals.certs > u64::from(MOST_CERTS) {
+        Some(Limit::Certs)
+    } else if totals.text > MOST_TEXT {
+        Some(Limit::Text)
+    } else {
+        None
+    }
+}
+
+fn trusts_limit(count: u128) -> Option<Limit>
+    ensures { result ≡ count_passed count }
+{
+    if count > u128::from(MOST_TRUSTS) {
+        Some(Limit::Trusts)
+    } else {
+        None
+    }
+}
+
+fn record_limit(edit: &Edit) -> Option<Limit>
+    ensures { result ≡ record_passed (payload edit.now) }
+{
+    if payload_length(edit) > MOST_RECORD {
+        Some(Limit::Record)
+    } else {
+        None
+    }
+}
+
+fn taken_key(engine: &Engine, edit: &Edit) -> Option<KeyId>
+    ensures { result ≡ taken_key engine.now edit.now }
+{
+    match edit {
+        Edit::Import(keys) => taken_id(engine.table(), keys),
+        _ => None,
+    }
+}
+
+/// The first of these keys under whose key ID there is a key with another fingerprint.
+fn taken_id(table: &Table, keys: &Keys) -> Option<KeyId>
+    ensures { result ≡ taken_id table.now keys.now }
+{
+    keys.as_slice()
+        .iter()
+        .find(|key| is_taken(table, key))
+        .map(|key| key.fpr.key_id())
+}
+
+fn is_taken(table: &Table, key: &Key) -> bool
+    ensures { result ≡ is_taken table.now key.now }
+{
+    match table.key(key.fpr.key_id()) {
+        Some(other) => key.fpr != *other.fpr,
+        None => false,
+    }
+}

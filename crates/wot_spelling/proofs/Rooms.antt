@@ -1,0 +1,78 @@
+-- What is short where its spelling is.
+use Rattle.std.proofs.Common.{◌≡◌, ℕ, ◌+◌, ◌^◌, ◌<◌, List, ◌∷◌, ◌++◌, length, Option, Some, None, true, arith}
+use Rattle.std.specs.Prelude.{IfSome}
+use Rattle.std.proofs.lemmas.List.{length-append}
+use Rattle.wot_types.specs.declared.cert.Cert.{Cert}
+use Rattle.wot_types.specs.declared.user.User.{User}
+use Rattle.wot_types.specs.declared.user.UserKind.{UserKind}
+use Rattle.wot_types.specs.declared.user.UserKind.TheVariants.{Uid, Uat}
+use Rattle.wot_types.specs.declared.ownertrust.Entry.{Entry}
+use Rattle.wot_types.specs.declared.key.Key.{Key}
+use Rattle.wot_types.specs.Spelling.{entry_bytes, IsShort, number_4, number_8, flag_bytes, text_bytes, scope_bytes, fpr_bytes, kind_bytes, list_bytes, cert_bytes, user_bytes, key_bytes}
+use Rattle.wot_spelling.proofs.Lists.{few_parts}
+
+text_len : (t : List ℕ) → length (text_bytes t) ≡ 4 + length t
+unfolding text_bytes number_4
+text_len t = omega (arith, length-append (number_4 (length t)) t)
+
+scope_room : (o : Option (List ℕ)) → length (scope_bytes o) < 2 ^ 32 → IfSome o IsShort
+unfolding scope_bytes
+scope_room None h = tt
+scope_room (Some t) h = omega (arith, text_len t, length-append (flag_bytes true) (text_bytes t))
+
+some_front : (a b : List ℕ) → 0 < length a → 0 < length (a ++ b)
+some_front a b h = omega (arith, length-append a b)
+
+number_8_some : (n : ℕ) → 0 < length (number_8 n)
+unfolding number_8
+number_8_some n = omega arith
+
+kind_some : (k : UserKind) → 0 < length (kind_bytes k)
+unfolding kind_bytes
+kind_some Uid = omega arith
+kind_some Uat = omega arith
+
+cert_some : (c : Cert) → 0 < length (cert_bytes c)
+unfolding cert_bytes
+cert_some c = some_front (number_8 c.issuer) _ (number_8_some c.issuer)
+
+user_some : (u : User) → 0 < length (user_bytes u)
+unfolding user_bytes
+user_some u = some_front (kind_bytes u.kind) _ (kind_some u.kind)
+
+pub key_some : (k : Key) → 0 < length (key_bytes k)
+unfolding key_bytes fpr_bytes
+key_some k = some_front (length k.fpr ∷ k.fpr) _ (omega arith)
+
+pub entry_some : (e : Entry) → 0 < length (entry_bytes e)
+unfolding entry_bytes fpr_bytes
+entry_some e = some_front (length e.fpr ∷ e.fpr) _ (omega arith)
+
+pub cert_room : (c : Cert) → length (cert_bytes c) < 2 ^ 32 → IfSome c.scope IsShort
+unfolding cert_bytes
+cert_room c h = let k = simp length-append at h in scope_room c.scope (omega arith)
+
+pub record UserRoom (u : User) : Type 0 where
+  pub text : IsShort u.text
+  pub hash : IsShort u.hash
+  pub few : length u.certs < 2 ^ 32
+  pub certs : length (list_bytes cert_bytes u.certs) < 2 ^ 32
+
+pub user_room : (u : User) → length (user_bytes u) < 2 ^ 32 → UserRoom u
+unfolding user_bytes
+user_room u h =
+    let k = simp length-append at h in
+    let certs : length (list_bytes cert_bytes u.certs) < 2 ^ 32 = omega arith in
+    record { text = omega (arith, text_len u.text); hash = omega (arith, text_len u.hash); few = few_parts cert_bytes u.certs cert_some certs; certs = certs }
+
+pub record KeyRoom (k : Key) : Type 0 where
+  pub caps : IsShort k.caps
+  pub few : length k.users < 2 ^ 32
+  pub users : length (list_bytes user_bytes k.users) < 2 ^ 32
+
+pub key_room : (k : Key) → length (key_bytes k) < 2 ^ 32 → KeyRoom k
+unfolding key_bytes
+key_room k h =
+    let w = simp length-append at h in
+    let users : length (list_bytes user_bytes k.users) < 2 ^ 32 = omega arith in
+    record { caps = omega (arith, text_len k.caps); few = few_parts user_bytes k.users user_some users; users = users }

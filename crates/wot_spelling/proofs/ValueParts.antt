@@ -1,0 +1,283 @@
+-- The values of the store as parts of a format.
+use Rattle.std.proofs.Common.{◌≡◌, ℕ, zero, suc, ◌^◌, ◌<◌, ◌≤◌, Bool, true, false, cond, List, [], ◌∷◌, ◌++◌, length, Option, Some, None, refl, sym, ap, subst, ◌∙◌, append_assoc, arith}
+use Rattle.std.specs.Prelude.{IfSome, nat_lt}
+use Rattle.std.specs.List.{flat_map, AllByRecursion}
+use Rattle.std.proofs.lemmas.List.Concat.{flat_map-cons}
+use Rattle.std.proofs.lemmas.List.Elements.{All-from_recursion, recursion_from_All}
+use Rattle.std.proofs.lemmas.Bool.Decides.{nat_tests}
+use Rattle.wot_types.specs.declared.cert.Cert.{Cert}
+use Rattle.wot_types.specs.declared.user.User.{User}
+use Rattle.wot_types.specs.declared.user.UserKind.{UserKind}
+use Rattle.wot_types.specs.declared.user.UserKind.TheVariants.{Uid, Uat}
+use Rattle.wot_types.specs.declared.key.Key.{Key}
+use Rattle.wot_types.specs.declared.options.Options.{Options}
+use Rattle.wot_types.specs.declared.ownertrust.Entry.{Entry}
+use Rattle.wot_types.specs.declared.ownertrust.Ownertrust.{Ownertrust}
+use Rattle.wot_types.specs.Ownertrust.{kept_of, ownertrust_number}
+use Rattle.wot_types.specs.OwnertrustText.{of_trust, ownertrust_of_number}
+use Rattle.std.proofs.lemmas.Bool.{ltb-false}
+use Rattle.std.proofs.Common.{◌-◌}
+use Rattle.wot_types.specs.declared.trust.Trust.{Trust}
+use Rattle.wot_types.specs.declared.trust.Trust.TheVariants.{Unknown, Undefined, Never, Marginal, Full, Ultimate}
+use Rattle.wot_types.specs.Fingerprint.{IsFprLength}
+use Rattle.wot_types.specs.Trust.{trust_number, trust_of_number}
+use Rattle.wot_types.specs.Spelling.{entry_bytes, EntryFits, number_1, number_4, flag_bytes, text_bytes, scope_bytes, fpr_bytes, trust_bytes, kind_bytes, list_bytes, cert_bytes, user_bytes, key_bytes, options_bytes, CertFits, UserFits, KeyFits, ListFits, OptionsFit}
+use Rattle.wot_spelling.specs.Reading.{◌>>=◌, Read, kept, bytes_at, number_1_at, number_4_at, flag_at, text_at, option_at, scope_at, is_fpr, fpr_at, or_none, coded_at, ownertrust_at, entry_of, entry_at, trust_at, user_kind_at, many_at, list_at, CertParts, cert_of, cert_at, UserParts, user_of, user_at, KeyParts, key_of, key_at, OptionsParts, options_of, options_at}
+use Rattle.wot_spelling.proofs.Lengths.{fpr_yes, fpr_is}
+use Rattle.wot_spelling.proofs.Parts.{IsBytes, Taken, IsPart, bind_some, some_is, both_part, made_part, part_of, bytes_take, bytes_again, number_1_part, number_4_part, number_8_part, flag_part, text_part}
+
+-- a part that passes a test
+pub kept_part : {A : Type 0} {s : A → List ℕ} {F : A → Type 0} {a : Read A} (test : A → Bool) → IsPart s F a → IsPart s (λ x. F x × (test x ≡ true)) (kept test a)
+kept_part {A = A} {s = s} {F = F} {a = a} test part = record {
+  takes = λ bytes x rest fits e.
+      let y = bind_some (a bytes) (λ (y : A × List ℕ). cond (test y.0) (Some y) None) (x, rest) e in
+      go bytes y.0 (x, rest) (part.takes bytes y.0.0 y.0.1 fits y.1) (test y.0.0) refl y.2;
+  again = λ x rest fits. rw (part.again x rest fits.0, fits.1) refl;
+}
+  where
+    go : (bytes : List ℕ) (y x : A × List ℕ) → Taken s F bytes y.0 y.1 → (b : Bool) → test y.0 ≡ b → cond {A = Option (A × List ℕ)} b (Some y) None ≡ Some x → Taken s (λ x. F x × (test x ≡ true)) bytes x.0 x.1
+    go bytes y x taken true is e =
+        subst (λ (q : A × List ℕ). Taken s (λ x. F x × (test x ≡ true)) bytes q.0 q.1) (some_is y x e) (record { parts = taken.parts; rest_fits = taken.rest_fits; fits = (taken.fits, is) })
+    go bytes y x taken false is e = absurd cc
+
+-- ---- lists
+
+many_take : {A : Type 0} (s : A → List ℕ) (F : A → Type 0) (a : Read A) → IsPart s F a → (n : ℕ) (bytes : List ℕ) (x : List A × List ℕ) → IsBytes bytes → many_at a n bytes ≡ Some x
+    → Taken (flat_map s) (AllByRecursion F) bytes x.0 x.1 × (length x.0 ≡ n)
+unfolding many_at
+many_take {A = A} s F a part zero bytes x fits e =
+    subst (λ (y : List A × List ℕ). Taken (flat_map s) (AllByRecursion F) bytes y.0 y.1 × (length y.0 ≡ 0)) (some_is ([], bytes) x e) (record { parts = refl; rest_fits = fits; fits = tt }, refl)
+many_take {A = A} s F a part (suc n) bytes x fits e =
+    let p = bind_some (a bytes) (λ (p : A × List ℕ). many_at a n p.1 >>= λ q. Some (p.0 ∷ q.0, q.1)) x e in
+    let q = bind_some (many_at a n p.0.1) (λ (q : List A × List ℕ). Some (p.0.0 ∷ q.0, q.1)) x p.2 in
+    let one = part.takes bytes p.0.0 p.0.1 fits p.1 in
+    let two = many_take s F a part n p.0.1 q.0 one.rest_fits q.1 in
+    let whole : Taken (flat_map s) (AllByRecursion F) bytes (p.0.0 ∷ q.0.0) q.0.1 = record {
+      parts = one.parts ∙ ap (λ (r : List ℕ). s p.0.0 ++ r) two.0.parts ∙ sym (append_assoc (s p.0.0) (flat_map s q.0.0) q.0.1) ∙ ap (λ (r : List ℕ). r ++ q.0.1) (sym (flat_map-cons s p.0.0 q.0.0));
+      rest_fits = two.0.rest_fits;
+      fits = (one.fits, two.0.fits);
+    } in
+    subst (λ (y : List A × List ℕ). Taken (flat_map s) (AllByRecursion F) bytes y.0 y.1 × (length y.0 ≡ suc n)) (some_is (p.0.0 ∷ q.0.0, q.0.1) x q.2) (whole, ap suc two.1)
+
+many_again : {A : Type 0} (s : A → List ℕ) (F : A → Type 0) (a : Read A) → IsPart s F a → (xs : List A) (rest : List ℕ) → AllByRecursion F xs → many_at a (length xs) (flat_map s xs ++ rest) ≡ Some (xs, rest)
+unfolding many_at
+many_again s F a part [] rest fits = refl
+many_again s F a part (x ∷ xs) rest fits =
+    let regrouped : flat_map s (x ∷ xs) ++ rest ≡ s x ++ (flat_map s xs ++ rest) = ap (λ (r : List ℕ). r ++ rest) (flat_map-cons s x xs) ∙ append_assoc (s x) (flat_map s xs) rest in
+    ap (many_at a (suc (length xs))) regrouped ∙ rw (part.again x (flat_map s xs ++ rest) fits.0, many_again s F a part xs rest fits.1) refl
+
+pub list_part : {A : Type 0} {s : A → List ℕ} {F : A → Type 0} {a : Read A} → IsPart s F a → IsPart (list_bytes s) (ListFits F) (list_at a)
+unfolding list_bytes list_at
+list_part {A = A} {s = s} {F = F} {a = a} part = record {
+  takes = λ bytes xs rest fits e.
+      let n = bind_some (number_4_at bytes) (λ (n : ℕ × List ℕ). many_at a n.0 n.1) (xs, rest) e in
+      let one = number_4_part.takes bytes n.0.0 n.0.1 fits n.1 in
+      let two = many_take s F a part n.0.0 n.0.1 (xs, rest) one.rest_fits n.2 in
+      record {
+        parts = one.parts ∙ ap (λ (r : List ℕ). number_4 n.0.0 ++ r) two.0.parts ∙ ap (λ (k : ℕ). number_4 k ++ (flat_map s xs ++ rest)) (sym two.1) ∙ sym (append_assoc (number_4 (length xs)) (flat_map s xs) rest);
+        rest_fits = two.0.rest_fits;
+        fits = (omega (arith, one.fits, two.1), All-from_recursion F xs two.0.fits);
+      };
+  again = λ xs rest fits.
+      ap (list_at a) (append_assoc (number_4 (length xs)) (flat_map s xs) rest)
+      ∙ rw (number_4_part.again (length xs) (flat_map s xs ++ rest) fits.0, many_again s F a part xs rest (recursion_from_All F xs fits.1)) refl;
+}
+
+-- ---- scopes, fingerprints, trust values, kinds of user IDs
+
+pub scope_part : IsPart scope_bytes (λ o. IfSome o (λ t. length t < 2 ^ 32)) scope_at
+unfolding scope_bytes scope_at
+scope_part = record { takes = takes; again = again }
+  where
+    after : (bytes : List ℕ) (b : Bool) (mid : List ℕ) (o : Option (List ℕ)) (rest : List ℕ) → Taken flag_bytes (λ b. Unit {0}) bytes b mid → option_at text_at b mid ≡ Some (o, rest) → Taken scope_bytes (λ o. IfSome o (λ t. length t < 2 ^ 32)) bytes o rest
+    after bytes false mid o rest one e =
+        subst (λ (q : Option (List ℕ) × List ℕ). Taken scope_bytes (λ o. IfSome o (λ t. length t < 2 ^ 32)) bytes q.0 q.1) (some_is (None, mid) (o, rest) e) (record { parts = one.parts; rest_fits = one.rest_fits; fits = tt })
+    after bytes true mid o rest one e =
+        let t = bind_some (text_at mid) (λ (t : List ℕ × List ℕ). Some (Some t.0, t.1)) (o, rest) e in
+        let two = text_part.takes mid t.0.0 t.0.1 one.rest_fits t.1 in
+        let whole : Taken scope_bytes (λ o. IfSome o (λ t. length t < 2 ^ 32)) bytes (Some t.0.0) t.0.1 = record {
+          parts = one.parts ∙ ap (λ (r : List ℕ). flag_bytes true ++ r) two.parts ∙ sym (append_assoc (flag_bytes true) (text_bytes t.0.0) t.0.1);
+          rest_fits = two.rest_fits;
+          fits = two.fits;
+        } in
+        subst (λ (q : Option (List ℕ) × List ℕ). Taken scope_bytes (λ o. IfSome o (λ t. length t < 2 ^ 32)) bytes q.0 q.1) (some_is (Some t.0.0, t.0.1) (o, rest) t.2) whole
+
+    takes : (bytes : List ℕ) (o : Option (List ℕ)) (rest : List ℕ) → IsBytes bytes → scope_at bytes ≡ Some (o, rest) → Taken scope_bytes (λ o. IfSome o (λ t. length t < 2 ^ 32)) bytes o rest
+    takes bytes o rest fits e =
+        let f = bind_some (flag_at bytes) (λ (f : Bool × List ℕ). option_at text_at f.0 f.1) (o, rest) e in
+        after bytes f.0.0 f.0.1 o rest (flag_part.takes bytes f.0.0 f.0.1 fits f.1) f.2
+
+    again : (o : Option (List ℕ)) (rest : List ℕ) → IfSome o (λ t. length t < 2 ^ 32) → scope_at (scope_bytes o ++ rest) ≡ Some (o, rest)
+    again None rest fits = rw (flag_part.again false rest tt) refl
+    again (Some t) rest fits =
+        ap scope_at (append_assoc (flag_bytes true) (text_bytes t) rest) ∙ rw (flag_part.again true (text_bytes t ++ rest) tt, text_part.again t rest fits) refl
+
+pub fpr_part : IsPart fpr_bytes IsFprLength fpr_at
+unfolding fpr_bytes fpr_at number_1_at
+fpr_part = record { takes = takes; again = again }
+  where
+    go : (n : ℕ) (mid : List ℕ) (f y : List ℕ) (rest after : List ℕ) → IsBytes mid → (mid ≡ y ++ after) × IsBytes after × IsBytes y × (length y ≡ n) → (b : Bool) → is_fpr y ≡ b
+        → cond {A = Option (List ℕ × List ℕ)} b (Some (y, after)) None ≡ Some (f, rest) → Taken fpr_bytes IsFprLength (n ∷ mid) f rest
+    go n mid f y rest after fits t true is e =
+        let whole : Taken fpr_bytes IsFprLength (n ∷ mid) y after = record { parts = ap (λ (k : ℕ). k ∷ mid) (sym t.3) ∙ ap (λ (r : List ℕ). length y ∷ r) t.0; rest_fits = t.1; fits = fpr_is y is } in
+        subst (λ (q : List ℕ × List ℕ). Taken fpr_bytes IsFprLength (n ∷ mid) q.0 q.1) (some_is (y, after) (f, rest) e) whole
+    go n mid f y rest after fits t false is e = absurd cc
+
+    takes : (bytes : List ℕ) (f : List ℕ) (rest : List ℕ) → IsBytes bytes → fpr_at bytes ≡ Some (f, rest) → Taken fpr_bytes IsFprLength bytes f rest
+    takes [] f rest fits e = absurd cc
+    takes (n ∷ mid) f rest fits e =
+        let y = bind_some (bytes_at n mid) (λ (y : List ℕ × List ℕ). cond (is_fpr y.0) (Some y) None) (f, rest) e in
+        let mid_fits : IsBytes mid = λ i. fits (suc i) in
+        go n mid f y.0.0 rest y.0.1 mid_fits (bytes_take n mid y.0.0 y.0.1 mid_fits y.1) (is_fpr y.0.0) refl y.2
+
+    again : (f : List ℕ) (rest : List ℕ) → IsFprLength f → fpr_at (fpr_bytes f ++ rest) ≡ Some (f, rest)
+    again f rest fits = rw (bytes_again (length f) f rest refl, fpr_yes f fits) refl
+
+no_trust : (n : ℕ) → 7 ≤ n → trust_of_number n ≡ None
+no_trust n h = grind (arith, nat_tests)
+
+-- a value that one byte stands for
+pub coded_part : {A : Type 0} (code : A → ℕ) (of : ℕ → Option A) → ((n : ℕ) (x : A) → of n ≡ Some x → n ≡ code x) → ((x : A) → of (code x) ≡ Some x) → IsPart {A = A} (λ x. number_1 (code x)) (λ x. Unit {0}) (coded_at of)
+coded_part {A = A} code of back there = record {
+  takes = λ bytes x rest fits e.
+      let n = bind_some (number_1_at bytes) (λ (n : ℕ × List ℕ). or_none (of n.0) n.1) (x, rest) e in
+      let one = number_1_part.takes bytes n.0.0 n.0.1 fits n.1 in
+      go bytes x rest n.0.0 n.0.1 one (of n.0.0) refl n.2;
+  again = λ x rest fits. rw (number_1_part.again (code x) rest tt, there x) refl;
+}
+  where
+    go : (bytes : List ℕ) (x : A) (rest : List ℕ) (n : ℕ) (mid : List ℕ) → Taken number_1 (λ n. Unit {0}) bytes n mid → (o : Option A) → of n ≡ o → or_none o mid ≡ Some (x, rest) → Taken (λ y. number_1 (code y)) (λ y. Unit {0}) bytes x rest
+    go bytes x rest n mid one None is e = absurd cc
+    go bytes x rest n mid one (Some y) is e =
+        let whole : Taken (λ y. number_1 (code y)) (λ y. Unit {0}) bytes y mid = record { parts = one.parts ∙ ap (λ (k : ℕ). number_1 k ++ mid) (back n y is); rest_fits = one.rest_fits; fits = tt } in
+        subst (λ (q : A × List ℕ). Taken (λ y. number_1 (code y)) (λ y. Unit {0}) bytes q.0 q.1) (some_is (y, mid) (x, rest) e) whole
+
+trust_is : (n : ℕ) (t : Trust) → trust_of_number n ≡ Some t → n ≡ trust_number t
+trust_is zero t e = ap trust_number (some_is Unknown t e)
+trust_is (suc zero) t e = absurd cc
+trust_is (suc (suc zero)) t e = ap trust_number (some_is Undefined t e)
+trust_is (suc (suc (suc zero))) t e = ap trust_number (some_is Never t e)
+trust_is (suc (suc (suc (suc zero)))) t e = ap trust_number (some_is Marginal t e)
+trust_is (suc (suc (suc (suc (suc zero))))) t e = ap trust_number (some_is Full t e)
+trust_is (suc (suc (suc (suc (suc (suc zero)))))) t e = ap trust_number (some_is Ultimate t e)
+trust_is (suc (suc (suc (suc (suc (suc (suc n))))))) t e = (let none = no_trust (suc (suc (suc (suc (suc (suc (suc n))))))) (omega arith) in absurd cc)
+
+trust_there : (t : Trust) → trust_of_number (trust_number t) ≡ Some t
+trust_there Unknown = refl
+trust_there Undefined = refl
+trust_there Never = refl
+trust_there Marginal = refl
+trust_there Full = refl
+trust_there Ultimate = refl
+
+pub trust_part : IsPart trust_bytes (λ t. Unit {0}) trust_at
+unfolding trust_bytes trust_at number_1
+trust_part = coded_part trust_number trust_of_number trust_is trust_there
+
+flagged_is : (b : Bool) (o : Option Trust) (v : Ownertrust) → of_trust b o ≡ Some v → (o ≡ Some v.trust) × (v.disabled ≡ b)
+flagged_is b None v e = absurd cc
+flagged_is b (Some t) v e = let same = some_is (record { trust = t; disabled = b }) v e in (ap (λ (w : Ownertrust). Some w.trust) same, sym (ap (λ (w : Ownertrust). w.disabled) same))
+
+ownertrust_is : (n : ℕ) (v : Ownertrust) → ownertrust_of_number n ≡ Some v → n ≡ ownertrust_number v
+ownertrust_is n v e = go (nat_lt n 128) refl e
+  where
+    go : (b : Bool) → nat_lt n 128 ≡ b → cond {A = Option Ownertrust} b (of_trust false (trust_of_number n)) (of_trust true (trust_of_number (n - 128))) ≡ Some v → n ≡ ownertrust_number v
+    go true is e =
+        let f = flagged_is false (trust_of_number n) v e in
+        let t = trust_is n v.trust f.0 in
+        rw f.1 t
+    go false is e =
+        let f = flagged_is true (trust_of_number (n - 128)) v e in
+        let t = trust_is (n - 128) v.trust f.0 in
+        let most : 128 ≤ n = ltb-false n 128 is in
+        rw f.1 (omega arith)
+
+ownertrust_there : (v : Ownertrust) → ownertrust_of_number (ownertrust_number v) ≡ Some v
+ownertrust_there v = go v.trust v.disabled
+  where
+    go : (t : Trust) (b : Bool) → ownertrust_of_number (ownertrust_number (record { trust = t; disabled = b })) ≡ Some (record { trust = t; disabled = b })
+    go Unknown false = refl
+    go Undefined false = refl
+    go Never false = refl
+    go Marginal false = refl
+    go Full false = refl
+    go Ultimate false = refl
+    go Unknown true = refl
+    go Undefined true = refl
+    go Never true = refl
+    go Marginal true = refl
+    go Full true = refl
+    go Ultimate true = refl
+
+pub ownertrust_part : IsPart {A = Ownertrust} (λ v. number_1 (ownertrust_number v)) (λ v. Unit {0}) ownertrust_at
+unfolding ownertrust_at
+ownertrust_part = coded_part ownertrust_number ownertrust_of_number ownertrust_is ownertrust_there
+
+entry_parts : Entry → List ℕ × Ownertrust
+entry_parts e = (e.fpr, kept_of e)
+
+pub entry_part : IsPart entry_bytes EntryFits entry_at
+unfolding entry_bytes entry_at entry_parts
+entry_part = part_of (λ e f. record { fpr = f.0 }) (λ e f. (f.fpr, tt)) (made_part entry_of entry_parts (λ p. refl) (λ e. refl) (both_part fpr_part ownertrust_part))
+
+flag_of_kind : UserKind → Bool
+unfolding kind_bytes
+flag_of_kind Uid = false
+flag_of_kind Uat = true
+
+pub user_kind_part : IsPart kind_bytes (λ k. Unit {0}) user_kind_at
+unfolding kind_bytes user_kind_at flag_bytes flag_at
+user_kind_part = record { takes = takes; again = again }
+  where
+    takes : (bytes : List ℕ) (k : UserKind) (rest : List ℕ) → IsBytes bytes → user_kind_at bytes ≡ Some (k, rest) → Taken kind_bytes (λ k. Unit {0}) bytes k rest
+    takes [] k rest fits e = absurd cc
+    takes (zero ∷ bytes) k rest fits e = subst (λ (q : UserKind × List ℕ). Taken kind_bytes (λ k. Unit {0}) (0 ∷ bytes) q.0 q.1) (some_is (Uid, bytes) (k, rest) e) (record { parts = refl; rest_fits = λ i. fits (suc i); fits = tt })
+    takes (suc zero ∷ bytes) k rest fits e = subst (λ (q : UserKind × List ℕ). Taken kind_bytes (λ k. Unit {0}) (1 ∷ bytes) q.0 q.1) (some_is (Uat, bytes) (k, rest) e) (record { parts = refl; rest_fits = λ i. fits (suc i); fits = tt })
+    takes (suc (suc n) ∷ bytes) k rest fits e = absurd cc
+
+    again : (k : UserKind) (rest : List ℕ) → Unit {0} → user_kind_at (kind_bytes k ++ rest) ≡ Some (k, rest)
+    again Uid rest fits = refl
+    again Uat rest fits = refl
+
+-- ---- certifications, user IDs, keys and options
+
+cert_parts : Cert → CertParts
+cert_parts c = (c.issuer, (c.class, (c.local, (c.made, (c.expires, (c.depth, (c.amount, c.scope)))))))
+
+pub cert_part : IsPart cert_bytes CertFits cert_at
+unfolding cert_bytes cert_at cert_parts
+cert_part =
+    part_of (λ c f. record { issuer = f.0; made = f.1.1.1.0; expires = f.1.1.1.1.0; scope = f.1.1.1.1.1.1.1 }) (λ c f. (f.issuer, (tt, (tt, (f.made, (f.expires, (tt, (tt, f.scope))))))))
+    (made_part cert_of cert_parts (λ p. refl) (λ c. refl)
+    (both_part number_8_part (both_part number_1_part (both_part flag_part (both_part number_4_part (both_part number_4_part (both_part number_1_part (both_part number_1_part scope_part))))))))
+
+user_parts : User → UserParts
+user_parts u = (u.kind, (u.text, (u.hash, (u.made, (u.expires, (u.revoked, u.certs))))))
+
+pub user_part : IsPart user_bytes UserFits user_at
+unfolding user_bytes user_at user_parts
+user_part =
+    part_of (λ u f. record { text = f.1.0; hash = f.1.1.0; made = f.1.1.1.0; expires = f.1.1.1.1.0; certs = f.1.1.1.1.1.1 }) (λ u f. (tt, (f.text, (f.hash, (f.made, (f.expires, (tt, f.certs)))))))
+    (made_part user_of user_parts (λ p. refl) (λ u. refl)
+    (both_part user_kind_part (both_part text_part (both_part text_part (both_part number_4_part (both_part number_4_part (both_part flag_part (list_part cert_part))))))))
+
+key_parts : Key → KeyParts
+key_parts k = (k.fpr, (k.bits, (k.algo, (k.made, (k.expires, (k.revoked, (k.caps, k.users)))))))
+
+pub key_part : IsPart key_bytes KeyFits key_at
+unfolding key_bytes key_at key_parts
+key_part =
+    part_of (λ k f. record { fpr = f.0; bits = f.1.0; algo = f.1.1.0; made = f.1.1.1.0; expires = f.1.1.1.1.0; caps = f.1.1.1.1.1.1.0; users = f.1.1.1.1.1.1.1 })
+    (λ k f. (f.fpr, (f.bits, (f.algo, (f.made, (f.expires, (tt, (f.caps, f.users))))))))
+    (made_part key_of key_parts (λ p. refl) (λ k. refl)
+    (both_part fpr_part (both_part number_4_part (both_part number_4_part (both_part number_4_part (both_part number_4_part (both_part flag_part (both_part text_part (list_part user_part)))))))))
+
+options_parts : Options → OptionsParts
+options_parts o = (o.pgp, (o.completes, (o.marginals, (o.depth, o.level))))
+
+pub options_part : IsPart options_bytes OptionsFit options_at
+unfolding options_bytes options_at options_parts
+options_part =
+    part_of (λ o f. record { completes = f.1.0; marginals = f.1.1.0 }) (λ o f. (tt, (f.completes, (f.marginals, (tt, tt)))))
+    (made_part options_of options_parts (λ p. refl) (λ o. refl)
+    (both_part flag_part (both_part number_4_part (both_part number_4_part (both_part number_1_part number_1_part)))))

@@ -1,0 +1,218 @@
+//! What is tested of the values that were read.
+
+ghost use Rattle.std.specs.Prelude.{◌≡◌, ◌==◌, ◌&&◌, not};
+ghost use Rattle.std.specs.List.{list_all, list_any};
+ghost use Rattle.wot_types.specs.Listing.{is_same_user};
+ghost use Rattle.wot_types.specs.Ownertrust.{is_unset, kept_of};
+ghost use Rattle.wot_types.specs.Records.{is_capability, is_hash_byte, is_kept_class};
+ghost use Rattle.wot_spelling.specs.Checks.{are_rising_entries, are_settable, are_distinct, are_importable, has_few_certs, has_scope, is_cert, is_in_range, is_marked_once, is_rising, is_user, is_well_formed};
+
+use wot_types::{Cert, Entry, Key, KeyId, MOST_CERTS, MOST_USERS, Options, Text, Trust, User};
+
+fn is_hash_byte(b: u8) -> bool
+    ensures { result ≡ is_hash_byte b }
+{
+    matches!(b, b'A'..=b'Z' | b'a'..=b'z' | b'0'..=b'9')
+}
+
+fn is_capability(b: u8) -> bool
+    ensures { result ≡ is_capability b }
+{
+    matches!(b, b'A'..=b'Z' | b'a'..=b'z') && b != b'D'
+}
+
+fn is_kept_class(class: u8) -> bool
+    ensures { result ≡ is_kept_class class }
+{
+    matches!(class, 0x10..=0x13 | 0x30)
+}
+
+fn has_scope(scope: &Option<Text>) -> bool
+    ensures { result ≡ has_scope scope.now }
+{
+    match scope {
+        None => true,
+        Some(scope) => matches!(scope.as_bytes().len(), 1..=255),
+    }
+}
+
+#[tactic(auto, unfolding(crate::specs::Checks::is_cert))]
+fn is_cert(id: KeyId, cert: &Cert) -> bool
+    ensures { result ≡ is_cert id cert.now }
+{
+    cert.issuer != id && is_kept_class(cert.class) && has_scope(&cert.scope)
+}
+
+fn is_hash(bytes: &[u8]) -> bool
+    ensures { result ≡ list_all is_hash_byte bytes.now }
+{
+    bytes.iter().all(|b| is_hash_byte(*b))
+}
+
+fn are_capabilities(bytes: &[u8]) -> bool
+    ensures { result ≡ list_all is_capability bytes.now }
+{
+    bytes.iter().all(|b| is_capability(*b))
+}
+
+fn are_certs(id: KeyId, certs: &[Cert]) -> bool
+    ensures { result ≡ list_all (is_cert id) certs.now }
+{
+    certs.iter().all(|cert| is_cert(id, cert))
+}
+
+#[tactic(auto, unfolding(crate::specs::Checks::is_user))]
+fn is_user(id: KeyId, user: &User) -> bool
+    ensures { result ≡ is_user id user.now }
+{
+    is_hash(user.hash.as_bytes()) && are_certs(id, user.certs.as_slice())
+}
+
+fn are_users(id: KeyId, users: &[User]) -> bool
+    ensures { result ≡ list_all (is_user id) users.now }
+{
+    users.iter().all(|user| is_user(id, user))
+}
+
+fn are_unmarked(users: &[User]) -> bool
+    ensures { result ≡ list_all (λ user. not user.revoked) users.now }
+{
+    users.iter().all(|user| !user.revoked)
+}
+
+fn is_same_user(a: &User, b: &User) -> bool
+    ensures { result ≡ is_same_user a.now b.now }
+{
+    a.kind == b.kind
+        && a.text.as_bytes() == b.text.as_bytes()
+        && a.hash.as_bytes() == b.hash.as_bytes()
+}
+
+fn is_among(users: &[User], user: &User) -> bool
+    ensures { result ≡ list_any (is_same_user user.now) users.now }
+{
+    users.iter().any(|other| is_same_user(user, other))
+}
+
+/// Whether no two agree in kind, text and hash. Each is compared with all later ones: a key has at most 1,024.
+#[tactic(auto, unfolding(crate::specs::Checks::are_distinct))]
+fn are_distinct(users: &[User]) -> bool
+    ensures { result ≡ are_distinct users.now }
+{
+    let mut left = users;
+    while let [user, rest @ ..] = left {
+        if is_among(rest, user) {
+            return false;
+        }
+        left = rest;
+    }
+    true
+}
+
+#[tactic(auto, unfolding(crate::specs::Checks::has_few_certs))]
+fn has_few_certs(key: &Key) -> bool
+    ensures { result ≡ has_few_certs key.now }
+{
+    let mut room = MOST_CERTS as usize;
+    for user in key.users.as_slice() {
+        match room.checked_sub(user.certs.len()) {
+            Some(left) => room = left,
+            None => return false,
+        }
+    }
+    true
+}
+
+#[tactic(auto, unfolding(crate::specs::Checks::is_marked_once))]
+fn is_marked_once(key: &Key) -> bool
+    ensures { result ≡ is_marked_once key.now }
+{
+    !key.revoked || are_unmarked(key.users.as_slice())
+}
+
+#[tactic(auto, unfolding(crate::specs::Checks::is_well_formed))]
+fn is_well_formed(key: &Key) -> bool
+    ensures { result ≡ is_well_formed key.now }
+{
+    let id = key.fpr.key_id();
+    are_capabilities(key.caps.as_bytes())
+        && key.users.len() <= MOST_USERS
+        && has_few_certs(key)
+        && are_distinct(key.users.as_slice())
+        && are_users(id, key.users.as_slice())
+        && is_marked_once(key)
+}
+
+fn are_well_formed(keys: &[Key]) -> bool
+    ensures { result ≡ list_all is_well_formed keys.now }
+{
+    keys.iter().all(|key| is_well_formed(key))
+}
+
+#[tactic(auto, unfolding(crate::specs::Checks::is_rising))]
+fn is_rising(keys: &[Key]) -> bool
+    ensures { result ≡ is_rising keys.now }
+{
+    let mut left = keys;
+    while let [key, rest @ ..] = left {
+        if let [next, ..] = rest {
+            if key.fpr.key_id() >= next.fpr.key_id() {
+                return false;
+            }
+        }
+        left = rest;
+    }
+    true
+}
+
+#[tactic(auto, unfolding(crate::specs::Checks::are_importable))]
+pub fn are_importable(keys: &[Key]) -> bool
+    ensures { result ≡ are_importable keys.now }
+{
+    are_well_formed(keys) && is_rising(keys)
+}
+
+#[tactic(auto, unfolding(crate::specs::Checks::is_in_range))]
+pub fn is_in_range(options: &Options) -> bool
+    ensures { result ≡ is_in_range options.now }
+{
+    options.completes >= 1
+        && options.marginals >= 2
+        && options.depth >= 1
+        && matches!(options.level, 1..=3)
+}
+
+fn is_set(entry: &Entry) -> bool
+    ensures { result ≡ not (is_unset (kept_of entry.now)) }
+{
+    entry.disabled || !matches!(entry.trust, Trust::Unknown)
+}
+
+fn are_set(entries: &[Entry]) -> bool
+    ensures { result ≡ list_all (λ entry. not (is_unset (kept_of entry))) entries.now }
+{
+    entries.iter().all(|entry| is_set(entry))
+}
+
+#[tactic(auto, unfolding(crate::specs::Checks::are_rising_entries))]
+fn are_rising_entries(entries: &[Entry]) -> bool
+    ensures { result ≡ are_rising_entries entries.now }
+{
+    let mut left = entries;
+    while let [entry, rest @ ..] = left {
+        if let [next, ..] = rest {
+            if !entry.fpr.cmp(&next.fpr).is_lt() {
+                return false;
+            }
+        }
+        left = rest;
+    }
+    true
+}
+
+#[tactic(auto, unfolding(crate::specs::Checks::are_settable))]
+pub fn are_settable(entries: &[Entry]) -> bool
+    ensures { result ≡ are_settable entries.now }
+{
+    are_set(entries) && are_rising_entries(entries)
+}

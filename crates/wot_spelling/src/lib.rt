@@ -1,0 +1,13 @@
+//! The bytes of the store's values: each edit has one spelling, the payload of its record.
+#![tactic(auto)]
+
+mod checks; // what is tested of the values that are read
+mod payload; // the payloads of edits
+mod reader; // reading parts from the front
+mod sizes; // how many bytes a payload has
+mod stop; // why a value could not be read
+mod values; // the values that stand in lists
+mod writer; // writing parts at the end
+
+pub use payload::{decode, encode, one_payload};
+pub use sizes::payload_length;

@@ -1,0 +1,162 @@
+//! The payloads of the journal's records.
+
+ghost use Rattle.std.specs.Prelude.{◌≡◌, ◌++◌, ◌≤◌, List, ℕ, length, OnOk, IfOk, IfSome, IfNone};
+ghost use Rattle.wot_types.specs.declared.edit.Edit.{Edit};
+ghost use Rattle.wot_spelling.specs.Reading.{Gives};
+ghost use Rattle.wot_types.specs.Limits.{most_record};
+ghost use Rattle.wot_types.specs.Payload.{EditFits, IsPayload, IsProper, payload};
+ghost use Rattle.wot_spelling.specs.Edits.{GivesAll, edit_at, edit_of, entries_at, keys_at, range_at};
+
+use crate::checks::{are_importable, are_settable, is_in_range};
+use crate::reader::Reader;
+use crate::stop::Stop;
+use crate::writer::Writer;
+use std::alloc::Global;
+use wot_types::{Edit, Entries, Entry, Key, Keys, Mem, Options};
+
+impl<'a> Reader<'a> {
+    /// Keys to import: well formed, in strictly rising order of their key IDs.
+    #[tactic(auto, unfolding(crate::specs::Edits::keys_at))]
+    fn keys(&mut self, alloc: Global) -> Result<Keys, Stop>
+        ensures { Gives (keys_at self.old) result self.new }
+    {
+        let keys = self.list::<Key>(alloc)?;
+        if are_importable(keys.as_slice()) {
+            Ok(keys)
+        } else {
+            Err(Stop::NoSpelling)
+        }
+    }
+
+    /// Options in their ranges.
+    #[tactic(auto, unfolding(crate::specs::Edits::range_at))]
+    fn range(&mut self) -> Result<Options, Stop>
+        ensures { Gives (range_at self.old) result self.new }
+    {
+        let options = self.options()?;
+        if is_in_range(&options) {
+            Ok(options)
+        } else {
+            Err(Stop::NoSpelling)
+        }
+    }
+
+    /// Entries to set, in strictly rising order of their fingerprints.
+    #[tactic(auto, unfolding(crate::specs::Edits::entries_at))]
+    fn entries(&mut self, alloc: Global) -> Result<Entries, Stop>
+        ensures { Gives (entries_at self.old) result self.new }
+    {
+        let entries = self.list::<Entry>(alloc)?;
+        if are_settable(entries.as_slice()) {
+            Ok(entries)
+        } else {
+            Err(Stop::NoSpelling)
+        }
+    }
+
+    #[tactic(auto, unfolding(crate::specs::Edits::edit_at))]
+    fn edit(&mut self, alloc: Global) -> Result<Edit, Stop>
+        ensures { Gives (edit_at self.old) result self.new }
+    {
+        match self.number_1()? {
+            1 => Ok(Edit::Import(self.keys(alloc)?)),
+            2 => Ok(Edit::Ownertrust(self.entries(alloc)?)),
+            3 => {
+                let fpr = self.fpr()?;
+                let trust = self.trust()?;
+                Ok(Edit::Set(fpr, trust))
+            }
+            4 => {
+                let fpr = self.fpr()?;
+                let disabled = self.flag()?;
+                Ok(Edit::Flag(fpr, disabled))
+            }
+            5 => Ok(Edit::Delete(self.key_id()?)),
+            6 => Ok(Edit::Date(self.number_4()?)),
+            7 => Ok(Edit::Options(self.range()?)),
+            _ => Err(Stop::NoSpelling),
+        }
+    }
+}
+
+#[tactic(auto, unfolding(crate::specs::Edits::edit_of))]
+fn read_edit(alloc: Global, bytes: &[u8]) -> Result<Edit, Stop>
+    ensures { GivesAll (edit_of bytes.now) result }
+{
+    let mut reader = Reader::new(bytes);
+    let edit = reader.edit(alloc)?;
+    if reader.is_empty() {
+        Ok(edit)
+    } else {
+        Err(Stop::NoSpelling)
+    }
+}
+
+#[tactic(auto, unfolding(wot_types::specs::Payload::payload))]
+fn write_edit(writer: &mut Writer, edit: &Edit) -> Result<(), Mem>
+    requires { length (payload edit.now) ≤ most_record }
+    ensures ok { OnOk result (writer.new ≡ writer.old ++ payload edit.now) }
+    ensures fits { OnOk result (EditFits edit.now) }
+{
+    match edit {
+        Edit::Import(keys) => {
+            writer.number_1(1)?;
+            writer.list(keys)?;
+        }
+        Edit::Ownertrust(entries) => {
+            writer.number_1(2)?;
+            writer.list(entries)?;
+        }
+        Edit::Set(fpr, trust) => {
+            writer.number_1(3)?;
+            writer.fpr(fpr)?;
+            writer.trust(*trust)?;
+        }
+        Edit::Flag(fpr, disabled) => {
+            writer.number_1(4)?;
+            writer.fpr(fpr)?;
+            writer.flag(*disabled)?;
+        }
+        Edit::Delete(id) => {
+            writer.number_1(5)?;
+            writer.key_id(*id)?;
+        }
+        Edit::Date(date) => {
+            writer.number_1(6)?;
+            writer.number_4(*date)?;
+        }
+        Edit::Options(options) => {
+            writer.number_1(7)?;
+            writer.options(options)?;
+        }
+    }
+    Ok(())
+}
+
+/// The one payload of an edit. The journal writes it into the edit's record.
+pub fn encode(alloc: Global, edit: &Edit) -> Result<Vec<u8>, Mem>
+    requires proper { IsProper edit.now }
+    requires room { length (payload edit.now) ≤ most_record }
+    ensures spelled { IfOk result (λ bytes. IsPayload bytes.items edit.now) }
+{
+    let mut writer = Writer::new(alloc);
+    write_edit(&mut writer, edit)?;
+    Ok(writer.into_vec())
+}
+
+/// The edit that the bytes spell, all of them, and None where they spell none. What it takes of memory grows with the bytes, whatever counts they hold.
+pub fn decode(alloc: Global, bytes: &[u8]) -> Result<Option<Edit>, Mem>
+    ensures found { IfOk result (λ found. IfSome found (λ edit. IsPayload bytes.now edit)) }
+    ensures none { IfOk result (λ found. IfNone found ((edit : Edit) → IsPayload bytes.now edit → ⊥)) }
+{
+    match read_edit(alloc, bytes) {
+        Ok(edit) => Ok(Some(edit)),
+        Err(Stop::NoSpelling) => Ok(None),
+        Err(Stop::Memory) => Err(Mem::Memory),
+    }
+}
+
+/// No payload begins another, and each spells one edit.
+pub fn one_payload()
+    ensures alone { (a b r s : List ℕ) (x y : Edit) → IsPayload a x → IsPayload b y → a ++ r ≡ b ++ s → (a ≡ b) × (x ≡ y) }
+{}

@@ -1,0 +1,212 @@
+//! Reading the parts of a spelling, from the front.
+
+ghost use Rattle.std.specs.Prelude.{◌≡◌, ◌==◌, ◌<◌, ◌^◌, ◌++◌, OnOk, length};
+ghost use Rattle.wot_spelling.specs.Reading.{Gives, GivesSeen, bytes_at, number_1_at, number_4_at, number_8_at, flag_at, text_at, scope_at, fpr_at, trust_at, ownertrust_at, user_kind_at, options_at, list_at};
+
+use crate::stop::Stop;
+use crate::writer::Writer;
+use std::alloc::Global;
+use std::marker::Model;
+use wot_types::{Fpr, KeyId, List, Mem, Options, Ownertrust, Text, Trust, UserKind};
+
+/// The bytes that are left to read.
+#[derive(Drop)]
+pub struct Reader<'a> {
+    rest: &'a [u8],
+}
+
+impl<'a> Model for Reader<'a> {
+    ghost use Rattle.std.specs.Prelude.{List, ℕ};
+
+    ghost Value = { List ℕ };
+
+    ghost view = { λ r. r.rest.now };
+}
+
+/// What stands in a list: a value that is read from the front, and written at the end.
+pub trait Part: Drop {
+    ghost use Rattle.std.specs.Prelude.{List, ℕ, Option};
+
+    /// Its spelling.
+    ghost bytes: { Self → List ℕ };
+
+    /// Its numbers and lengths are within their bytes.
+    ghost Fits: { Self → Type 0 };
+
+    /// The part at the front of the bytes.
+    ghost at: { List ℕ → Option (Self × List ℕ) };
+
+    fn read(alloc: Global, reader: &mut Reader<'_>) -> Result<Self, Stop>
+        ensures { Gives (at reader.old) result reader.new };
+
+    fn write(&self, writer: &mut Writer) -> Result<(), Mem>
+        requires { length (bytes self.now) < 2 ^ 32 }
+        ensures ok { OnOk result (writer.new ≡ writer.old ++ bytes self.now) }
+        ensures fits { OnOk result (Fits self.now) };
+}
+
+impl<'a> Reader<'a> {
+    pub fn new(bytes: &'a [u8]) -> Reader<'a>
+        ensures { result ≡ bytes.now }
+    {
+        Reader { rest: bytes }
+    }
+
+    /// Whether nothing is left.
+    pub fn is_empty(&self) -> bool
+        ensures { result ≡ (length self.now == 0) }
+    {
+        self.rest.is_empty()
+    }
+
+    #[tactic(auto, unfolding(crate::specs::Reading::bytes_at))]
+    fn bytes(&mut self, n: usize) -> Result<&'a [u8], Stop>
+        ensures { GivesSeen (λ b. b.now) (bytes_at n self.old) result self.new }
+    {
+        let (front, rest) = self.rest.split_at_checked(n).ok_or(Stop::NoSpelling)?;
+        self.rest = rest;
+        Ok(front)
+    }
+
+    #[tactic(auto, unfolding(crate::specs::Reading::number_1_at))]
+    pub fn number_1(&mut self) -> Result<u8, Stop>
+        ensures { Gives (number_1_at self.old) result self.new }
+    {
+        match self.rest {
+            [] => Err(Stop::NoSpelling),
+            [byte, rest @ ..] => {
+                self.rest = rest;
+                Ok(*byte)
+            }
+        }
+    }
+
+    #[tactic(auto, unfolding(crate::specs::Reading::number_4_at, crate::specs::Reading::bytes_at))]
+    pub fn number_4(&mut self) -> Result<u32, Stop>
+        ensures { Gives (number_4_at self.old) result self.new }
+    {
+        let (front, rest) = self.rest.split_first_chunk::<4>().ok_or(Stop::NoSpelling)?;
+        self.rest = rest;
+        Ok(u32::from_be_bytes(*front))
+    }
+
+    #[tactic(auto, unfolding(crate::specs::Reading::number_8_at, crate::specs::Reading::bytes_at))]
+    pub fn number_8(&mut self) -> Result<u64, Stop>
+        ensures { Gives (number_8_at self.old) result self.new }
+    {
+        let (front, rest) = self.rest.split_first_chunk::<8>().ok_or(Stop::NoSpelling)?;
+        self.rest = rest;
+        Ok(u64::from_be_bytes(*front))
+    }
+
+    pub fn key_id(&mut self) -> Result<KeyId, Stop>
+        ensures { Gives (number_8_at self.old) result self.new }
+    {
+        Ok(KeyId(self.number_8()?))
+    }
+
+    #[tactic(auto, unfolding(crate::specs::Reading::flag_at))]
+    pub fn flag(&mut self) -> Result<bool, Stop>
+        ensures { Gives (flag_at self.old) result self.new }
+    {
+        let (flag, rest) = match self.rest {
+            [0, rest @ ..] => (false, rest),
+            [1, rest @ ..] => (true, rest),
+            _ => return Err(Stop::NoSpelling),
+        };
+        self.rest = rest;
+        Ok(flag)
+    }
+
+    #[tactic(auto, unfolding(crate::specs::Reading::text_at))]
+    pub fn text(&mut self, alloc: Global) -> Result<Text, Stop>
+        ensures { Gives (text_at self.old) result self.new }
+    {
+        let length = self.number_4()?;
+        let bytes = self.bytes(length as usize)?;
+        Ok(Text::from_bytes(alloc, bytes)?)
+    }
+
+    #[tactic(auto, unfolding(crate::specs::Reading::scope_at))]
+    pub fn scope(&mut self, alloc: Global) -> Result<Option<Text>, Stop>
+        ensures { Gives (scope_at self.old) result self.new }
+    {
+        if !self.flag()? {
+            return Ok(None);
+        }
+        Ok(Some(self.text(alloc)?))
+    }
+
+    #[tactic(auto, unfolding(crate::specs::Reading::fpr_at))]
+    pub fn fpr(&mut self) -> Result<Fpr, Stop>
+        ensures { Gives (fpr_at self.old) result self.new }
+    {
+        let length = self.number_1()?;
+        let bytes = self.bytes(usize::from(length))?;
+        Fpr::from_bytes(bytes).ok_or(Stop::NoSpelling)
+    }
+
+    #[tactic(auto, unfolding(crate::specs::Reading::trust_at))]
+    pub fn trust(&mut self) -> Result<Trust, Stop>
+        ensures { Gives (trust_at self.old) result self.new }
+    {
+        let number = self.number_1()?;
+        Trust::from_number(number).ok_or(Stop::NoSpelling)
+    }
+
+    /// A trust number, plus 128 where the key is disabled.
+    #[tactic(auto, unfolding(crate::specs::Reading::ownertrust_at))]
+    pub fn ownertrust(&mut self) -> Result<Ownertrust, Stop>
+        ensures { Gives (ownertrust_at self.old) result self.new }
+    {
+        let number = self.number_1()?;
+        let disabled = number >= 128;
+        let trust = Trust::from_number(if disabled { number - 128 } else { number }).ok_or(
+            Stop::NoSpelling,
+        )?;
+        Ok(Ownertrust { trust, disabled })
+    }
+
+    #[tactic(auto, unfolding(crate::specs::Reading::user_kind_at))]
+    pub fn user_kind(&mut self) -> Result<UserKind, Stop>
+        ensures { Gives (user_kind_at self.old) result self.new }
+    {
+        if self.flag()? {
+            Ok(UserKind::Uat)
+        } else {
+            Ok(UserKind::Uid)
+        }
+    }
+
+    #[tactic(auto, unfolding(crate::specs::Reading::options_at))]
+    pub fn options(&mut self) -> Result<Options, Stop>
+        ensures { Gives (options_at self.old) result self.new }
+    {
+        let pgp = self.flag()?;
+        let completes = self.number_4()?;
+        let marginals = self.number_4()?;
+        let depth = self.number_1()?;
+        let level = self.number_1()?;
+        Ok(Options {
+            pgp,
+            completes,
+            marginals,
+            depth,
+            level,
+        })
+    }
+
+    #[tactic(auto, unfolding(crate::specs::Reading::list_at))]
+    /// A count, and that many parts. What is kept grows with the bytes that are read, and not with the count.
+    pub fn list<T: Part>(&mut self, alloc: Global) -> Result<List<T>, Stop>
+        ensures { Gives (list_at T.at self.old) result self.new }
+    {
+        let count = self.number_4()?;
+        let mut parts = List::new(alloc);
+        for _ in 0..count {
+            let part = T::read(alloc, self)?;
+            parts.push(part)?;
+        }
+        Ok(parts)
+    }
+}

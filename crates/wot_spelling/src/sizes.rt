@@ -1,0 +1,115 @@
+//! How many bytes a spelling has. A count above 2^64 - 1 is given as 2^64 - 1.
+
+ghost use Rattle.std.specs.Prelude.{◌≡◌, length, sum_by};
+ghost use Rattle.wot_types.specs.Payload.{payload};
+ghost use Rattle.wot_types.specs.Totals.{capped};
+ghost use Rattle.wot_spelling.specs.Sizes.{cert_size, entry_size, key_size, payload_size, scope_size, user_size};
+
+use wot_types::{Cert, Edit, Entry, Key, Text, User};
+
+#[tactic(auto, unfolding(crate::specs::Sizes::scope_size))]
+fn scope_size(scope: &Option<Text>) -> u64
+    ensures { result ≡ capped (scope_size scope.now) }
+{
+    match scope {
+        None => 1,
+        Some(text) => 5u64.saturating_add(text.as_bytes().len() as u64),
+    }
+}
+
+#[tactic(auto, unfolding(crate::specs::Sizes::cert_size))]
+fn cert_size(cert: &Cert) -> u64
+    ensures { result ≡ capped (cert_size cert.now) }
+{
+    20u64.saturating_add(scope_size(&cert.scope))
+}
+
+fn certs_size(certs: &[Cert]) -> u64
+    ensures { result ≡ capped (sum_by cert_size certs.now) }
+{
+    let mut size = 0u64;
+    for cert in certs {
+        size = size.saturating_add(cert_size(cert));
+    }
+    size
+}
+
+#[tactic(auto, unfolding(crate::specs::Sizes::user_size))]
+fn user_size(user: &User) -> u64
+    ensures { result ≡ capped (user_size user.now) }
+{
+    22u64
+        .saturating_add(user.text.as_bytes().len() as u64)
+        .saturating_add(user.hash.as_bytes().len() as u64)
+        .saturating_add(certs_size(user.certs.as_slice()))
+}
+
+fn users_size(users: &[User]) -> u64
+    ensures { result ≡ capped (sum_by user_size users.now) }
+{
+    let mut size = 0u64;
+    for user in users {
+        size = size.saturating_add(user_size(user));
+    }
+    size
+}
+
+#[tactic(auto, unfolding(crate::specs::Sizes::key_size))]
+fn key_size(key: &Key) -> u64
+    ensures { result ≡ capped (key_size key.now) }
+{
+    26u64
+        .saturating_add(key.fpr.as_bytes().len() as u64)
+        .saturating_add(key.caps.as_bytes().len() as u64)
+        .saturating_add(users_size(key.users.as_slice()))
+}
+
+fn keys_size(keys: &[Key]) -> u64
+    ensures { result ≡ capped (sum_by key_size keys.now) }
+{
+    let mut size = 0u64;
+    for key in keys {
+        size = size.saturating_add(key_size(key));
+    }
+    size
+}
+
+#[tactic(auto, unfolding(crate::specs::Sizes::entry_size))]
+fn entry_size(entry: &Entry) -> u64
+    ensures { result ≡ capped (entry_size entry.now) }
+{
+    2u64.saturating_add(entry.fpr.as_bytes().len() as u64)
+}
+
+fn entries_size(entries: &[Entry]) -> u64
+    ensures { result ≡ capped (sum_by entry_size entries.now) }
+{
+    let mut size = 0u64;
+    for entry in entries {
+        size = size.saturating_add(entry_size(entry));
+    }
+    size
+}
+
+#[tactic(auto, unfolding(crate::specs::Sizes::payload_size))]
+fn edit_size(edit: &Edit) -> u64
+    ensures { result ≡ capped (payload_size edit.now) }
+{
+    match edit {
+        Edit::Import(keys) => 5u64.saturating_add(keys_size(keys.as_slice())),
+        Edit::Set(fpr, _) => 3 + fpr.as_bytes().len() as u64,
+        Edit::Ownertrust(entries) => 5u64.saturating_add(entries_size(entries.as_slice())),
+        Edit::Flag(fpr, _) => 3 + fpr.as_bytes().len() as u64,
+        Edit::Date(_) => 5,
+        Edit::Delete(_) => 9,
+        Edit::Options(_) => 12,
+    }
+}
+
+/// How many bytes the payload of an edit has, counted without making it; a count above 2^64 - 1 is given as that.
+#[tactic(auto, using(crate::proofs::SizeLaws::payload_is))]
+pub fn payload_length(edit: &Edit) -> u64
+    ensures counted { result ≡ capped (length (payload edit.now)) }
+{
+    edit_size(edit)
+}

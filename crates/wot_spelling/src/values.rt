@@ -1,0 +1,165 @@
+//! Reading the values that stand in lists.
+
+ghost use Rattle.wot_types.specs.Spelling.{cert_bytes, user_bytes, key_bytes, entry_bytes, EntryFits, CertFits, UserFits, KeyFits};
+ghost use Rattle.wot_spelling.specs.Reading.{cert_at, user_at, key_at, entry_at};
+
+use crate::reader::{Part, Reader};
+use crate::stop::Stop;
+use crate::writer::Writer;
+use std::alloc::Global;
+use wot_types::{Cert, Entry, Key, Mem, Ownertrust, User, UserKind};
+
+impl Part for Cert {
+    ghost bytes = { cert_bytes };
+
+    ghost Fits = { CertFits };
+
+    ghost at = { cert_at };
+
+    #[tactic(auto, unfolding(crate::specs::Reading::cert_at))]
+    fn read(alloc: Global, reader: &mut Reader<'_>) -> Result<Cert, Stop> {
+        let issuer = reader.key_id()?;
+        let class = reader.number_1()?;
+        let local = reader.flag()?;
+        let made = reader.number_4()?;
+        let expires = reader.number_4()?;
+        let depth = reader.number_1()?;
+        let amount = reader.number_1()?;
+        let scope = reader.scope(alloc)?;
+        Ok(Cert {
+            issuer,
+            class,
+            local,
+            made,
+            expires,
+            depth,
+            amount,
+            scope,
+        })
+    }
+
+    #[tactic(auto, unfolding(wot_types::specs::Spelling::cert_bytes))]
+    fn write(&self, writer: &mut Writer) -> Result<(), Mem> {
+        writer.key_id(self.issuer)?;
+        writer.number_1(self.class)?;
+        writer.flag(self.local)?;
+        writer.number_4(self.made)?;
+        writer.number_4(self.expires)?;
+        writer.number_1(self.depth)?;
+        writer.number_1(self.amount)?;
+        writer.scope(&self.scope)?;
+        Ok(())
+    }
+}
+
+impl Part for User {
+    ghost bytes = { user_bytes };
+
+    ghost Fits = { UserFits };
+
+    ghost at = { user_at };
+
+    #[tactic(auto, unfolding(crate::specs::Reading::user_at))]
+    fn read(alloc: Global, reader: &mut Reader<'_>) -> Result<User, Stop> {
+        let kind = reader.user_kind()?;
+        let text = reader.text(alloc)?;
+        let hash = reader.text(alloc)?;
+        let made = reader.number_4()?;
+        let expires = reader.number_4()?;
+        let revoked = reader.flag()?;
+        let certs = reader.list::<Cert>(alloc)?;
+        Ok(User {
+            kind,
+            text,
+            hash,
+            made,
+            expires,
+            revoked,
+            certs,
+        })
+    }
+
+    #[tactic(auto, unfolding(wot_types::specs::Spelling::user_bytes))]
+    fn write(&self, writer: &mut Writer) -> Result<(), Mem> {
+        writer.user_kind(self.kind)?;
+        writer.text(&self.text)?;
+        writer.text(&self.hash)?;
+        writer.number_4(self.made)?;
+        writer.number_4(self.expires)?;
+        writer.flag(self.revoked)?;
+        writer.list(&self.certs)?;
+        Ok(())
+    }
+}
+
+impl Part for Key {
+    ghost bytes = { key_bytes };
+
+    ghost Fits = { KeyFits };
+
+    ghost at = { key_at };
+
+    #[tactic(auto, unfolding(crate::specs::Reading::key_at))]
+    fn read(alloc: Global, reader: &mut Reader<'_>) -> Result<Key, Stop> {
+        let fpr = reader.fpr()?;
+        let bits = reader.number_4()?;
+        let algo = reader.number_4()?;
+        let made = reader.number_4()?;
+        let expires = reader.number_4()?;
+        let revoked = reader.flag()?;
+        let caps = reader.text(alloc)?;
+        let users = reader.list::<User>(alloc)?;
+        Ok(Key {
+            fpr,
+            bits,
+            algo,
+            made,
+            expires,
+            revoked,
+            caps,
+            users,
+        })
+    }
+
+    #[tactic(auto, unfolding(wot_types::specs::Spelling::key_bytes))]
+    fn write(&self, writer: &mut Writer) -> Result<(), Mem> {
+        writer.fpr(&self.fpr)?;
+        writer.number_4(self.bits)?;
+        writer.number_4(self.algo)?;
+        writer.number_4(self.made)?;
+        writer.number_4(self.expires)?;
+        writer.flag(self.revoked)?;
+        writer.text(&self.caps)?;
+        writer.list(&self.users)?;
+        Ok(())
+    }
+}
+
+impl Part for Entry {
+    ghost bytes = { entry_bytes };
+
+    ghost Fits = { EntryFits };
+
+    ghost at = { entry_at };
+
+    #[tactic(auto, unfolding(crate::specs::Reading::entry_at))]
+    fn read(_alloc: Global, reader: &mut Reader<'_>) -> Result<Entry, Stop> {
+        let fpr = reader.fpr()?;
+        let Ownertrust { trust, disabled } = reader.ownertrust()?;
+        Ok(Entry {
+            fpr,
+            trust,
+            disabled,
+        })
+    }
+
+    #[tactic(auto, unfolding(wot_types::specs::Spelling::entry_bytes))]
+    fn write(&self, writer: &mut Writer) -> Result<(), Mem> {
+        writer.fpr(&self.fpr)?;
+        writer.ownertrust(&Ownertrust {
+            trust: self.trust,
+            disabled: self.disabled,
+        })?;
+        Ok(())
+    }
+}
