@@ -1,27 +1,34 @@
-//! A site over a reader and a writer of the system.
+//! A site over a reader and a writer of the system and two files.
 
-ghost use Rattle.std.specs.Prelude.{◌≡◌, ◌<◌, ◌≤◌, length, None, IfOk};
+ghost use Rattle.std.specs.Prelude.{◌≡◌, ◌<◌, ◌≤◌, ◌+◌, ◌-◌, ◌^◌, length, None, Ok, IfOk};
 ghost use Rattle.std.specs.Io.KnownBytes.{ReadConsumes, WriteAppends};
-ghost use Rattle.wot_site.specs.Site.{HasCause, take_faults, tell_faults};
+ghost use Rattle.wot_site.specs.Site.{HasCause, take_faults, tell_faults, disk_faults};
 ghost use Rattle.wot_file.specs.FileSite.{input_of, output_of, faults_of};
 
+use crate::sides::Sides;
+use crate::streams::{read_some, write_some};
+use std::fs::Files;
 use std::io;
-use std::io::{ErrorKind, Read, Write};
-use wot_site::{Failed, Site};
+use std::io::{Read, Write};
+use wot_site::{Failed, Side, Site};
 
-/// A site whose input and output are the system's. It tells nothing of what they hold; its counts stand for
-/// the errors that the system gave, and stay at 2^64 - 1.
+/// A site whose input and output are the system's, and whose store is the files `wot.0` and `wot.1` of the
+/// current folder. It tells nothing of what they hold; its counts stand for the calls that an error of the
+/// system made fail, and stay at 2^64 - 1.
 #[derive(Drop)]
-pub struct FileSite<I, O> {
+pub struct FileSite<F: Files, I, O> {
     input: I,
     output: O,
+    sides: Sides<F>,
     take_faults: u64,
     tell_faults: u64,
+    disk_faults: u64,
 }
 
-impl<I: Read, O: Write> FileSite<I, O> {
-    /// Takes what the runtime lends: `FileSite::new(rt.reader(), io::writer(&rt))` in a program.
-    pub fn new(input: I, output: O) -> FileSite<I, O>
+impl<F: Files, I: Read, O: Write> FileSite<F, I, O> {
+    /// Takes what the runtime lends: `FileSite::new(&rt, rt.reader(), io::writer(&rt))` in a program. No file
+    /// is touched before the first call of the disk.
+    pub fn new(files: F, input: I, output: O) -> FileSite<F, I, O>
         ensures input { input_of result ≡ input }
         ensures output { output_of result ≡ output }
         ensures faults { faults_of result ≡ record { take = 0; tell = 0; disk = 0 } }
@@ -29,39 +36,51 @@ impl<I: Read, O: Write> FileSite<I, O> {
         FileSite {
             input,
             output,
+            sides: Sides::new(files),
             take_faults: 0,
             tell_faults: 0,
+            disk_faults: 0,
+        }
+    }
+
+    // Hands a call of the disk on, and counts its error.
+    fn counted<T>(&mut self, answer: io::Result<T>) -> Result<T, Failed>
+        ensures value { IfOk result (λ x. answer ≡ Ok x) }
+        ensures cause { HasCause disk_faults (faults_of self.old) (faults_of self.new) result }
+        ensures input { input_of self.new ≡ input_of self.old }
+        ensures output { output_of self.new ≡ output_of self.old }
+    {
+        match answer {
+            Ok(x) => Ok(x),
+            Err(_) => {
+                self.disk_faults = self.disk_faults.saturating_add(1);
+                Err(Failed)
+            }
         }
     }
 }
 
-impl<I: Read, O: Write> Site for FileSite<I, O> {
+impl<F: Files, I: Read, O: Write> Site for FileSite<F, I, O> {
     ghost seen = { λ _. None };
 
     ghost faults = { faults_of };
 
-    /// One read, tried again where a signal cut it short.
     fn take(&mut self, buf: &mut [u8]) -> Result<usize, Failed>
         ensures fits { IfOk result (λ n. n ≤ length buf.old) }
         ensures cause { HasCause take_faults (faults_of self.old) (faults_of self.new) result }
         ensures input { ReadConsumes (I.remaining (input_of self.old)) (I.remaining (input_of self.new)) result buf.new }
         ensures output { output_of self.new ≡ output_of self.old }
     {
-        for _turn in 0..u64::MAX {
-            match self.input.read(buf) {
-                Ok(n) => return Ok(n),
-                Err(e) => {
-                    self.take_faults = self.take_faults.saturating_add(1);
-                    if !is_interrupted(&e) {
-                        return Err(Failed);
-                    }
-                }
+        match read_some(&mut self.input, buf) {
+            Ok(n) => Ok(n),
+            Err(_) => {
+                self.take_faults = self.take_faults.saturating_add(1);
+                Err(Failed)
             }
         }
-        Err(Failed)
     }
 
-    /// One write, tried again where a signal cut it short. A write that takes none of some bytes is a fault.
+    /// A write that takes none of some bytes is a fault.
     fn tell(&mut self, bytes: &[u8]) -> Result<usize, Failed>
         ensures fits { IfOk result (λ n. n ≤ length bytes.now) }
         ensures some { IfOk result (λ n. 0 < length bytes.now → 0 < n) }
@@ -69,99 +88,49 @@ impl<I: Read, O: Write> Site for FileSite<I, O> {
         ensures output { WriteAppends (O.contents (output_of self.old)) (O.contents (output_of self.new)) result bytes.now }
         ensures input { input_of self.new ≡ input_of self.old }
     {
-        for _turn in 0..u64::MAX {
-            match self.output.write(bytes) {
-                Ok(n) => {
-                    if n == 0 && !bytes.is_empty() {
-                        self.tell_faults = self.tell_faults.saturating_add(1);
-                        return Err(Failed);
-                    }
-                    return Ok(n);
-                }
-                Err(e) => {
-                    self.tell_faults = self.tell_faults.saturating_add(1);
-                    if !is_interrupted(&e) {
-                        return Err(Failed);
-                    }
-                }
-            }
-        }
-        Err(Failed)
-    }
-}
-
-fn is_interrupted(e: &io::Error) -> bool {
-    e.kind() == ErrorKind::Interrupted
-}
-
-#[cfg(test)]
-mod tests {
-    use super::*;
-    use std::test::Fail;
-
-    // Answers its calls in turn: a byte, an interruption, a byte, a fault, a byte, and then nothing.
-    #[derive(Drop)]
-    struct Stream {
-        calls: u32,
-    }
-
-    impl Stream {
-        fn answer(&mut self, len: usize) -> io::Result<usize>
-            ensures { IfOk result (λ n. n ≤ len) }
-        {
-            self.calls = self.calls.saturating_add(1);
-            match self.calls {
-                2 => Err(io::Error::from(ErrorKind::Interrupted)),
-                4 => Err(io::Error::from(ErrorKind::BrokenPipe)),
-                1 | 3 | 5 => Ok(len.min(1)),
-                _ => Ok(0),
+        match write_some(&mut self.output, bytes) {
+            Ok(n) if n > 0 || bytes.is_empty() => Ok(n),
+            _ => {
+                self.tell_faults = self.tell_faults.saturating_add(1);
+                Err(Failed)
             }
         }
     }
 
-    impl Read for Stream {
-        fn read(&mut self, buf: &mut [u8]) -> io::Result<usize> {
-            let n = self.answer(buf.len())?;
-            if n > 0 {
-                buf[0] = b'a';
-            }
-            Ok(n)
-        }
+    fn size(&mut self, side: Side) -> Result<u64, Failed>
+        ensures cause { HasCause disk_faults (faults_of self.old) (faults_of self.new) result }
+        ensures input { input_of self.new ≡ input_of self.old }
+        ensures output { output_of self.new ≡ output_of self.old }
+    {
+        let answer = self.sides.size(side);
+        self.counted(answer)
     }
 
-    impl Write for Stream {
-        fn write(&mut self, buf: &[u8]) -> io::Result<usize> {
-            self.answer(buf.len())
-        }
-
-        fn flush(&mut self) -> io::Result<()> {
-            Ok(())
-        }
+    fn read(&mut self, side: Side, at: u64, buf: &mut [u8]) -> Result<usize, Failed>
+        ensures fits { IfOk result (λ n. n ≤ length buf.old) }
+        ensures cause { HasCause disk_faults (faults_of self.old) (faults_of self.new) result }
+        ensures input { input_of self.new ≡ input_of self.old }
+        ensures output { output_of self.new ≡ output_of self.old }
+    {
+        let answer = self.sides.read(side, at, buf);
+        self.counted(answer)
     }
 
-    #[test]
-    fn faults_are_counted(rt: HostRuntime) -> Result<(), Fail> {
-        let mut site = FileSite::new(Stream { calls: 0 }, Stream { calls: 0 });
-        let mut buf = [0u8; 4];
-        // What each call answers, and how many faults were counted by then.
-        let answers = [(Ok(1), 0), (Ok(1), 1), (Err(Failed), 2), (Ok(1), 2)];
-        for (answer, faults) in answers {
-            assert_eq!(rt; site.take(&mut buf), answer);
-            assert_eq!(rt; site.take_faults, faults);
-            assert_eq!(rt; site.tell(b"ok\n"), answer);
-            assert_eq!(rt; site.tell_faults, faults);
-        }
-        assert_eq!(rt; buf, [b'a', 0, 0, 0]);
-        // The end of the input is no fault; a write of nothing is one.
-        assert_eq!(rt; site.take(&mut buf), Ok(0));
-        assert_eq!(rt; site.tell(b"ok\n"), Err(Failed));
-        assert_eq!(rt; (site.take_faults, site.tell_faults), (2, 3));
-        Ok(())
+    fn write(&mut self, side: Side, at: u64, bytes: &[u8]) -> Result<(), Failed>
+        ensures cause { HasCause disk_faults (faults_of self.old) (faults_of self.new) result }
+        ensures input { input_of self.new ≡ input_of self.old }
+        ensures output { output_of self.new ≡ output_of self.old }
+    {
+        let answer = self.sides.write(side, at, bytes);
+        self.counted(answer)
     }
 
-    #[test]
-    fn stands_over_the_system(rt: HostRuntime) {
-        let mut site = FileSite::new(rt.reader(), io::writer(&rt));
-        assert_eq!(rt; site.tell(b""), Ok(0));
+    fn sync(&mut self, side: Side) -> Result<(), Failed>
+        ensures cause { HasCause disk_faults (faults_of self.old) (faults_of self.new) result }
+        ensures input { input_of self.new ≡ input_of self.old }
+        ensures output { output_of self.new ≡ output_of self.old }
+    {
+        let answer = self.sides.sync(side);
+        self.counted(answer)
     }
 }

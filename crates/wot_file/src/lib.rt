@@ -1,6 +1,11 @@
-//! The real outside of the program: its standard input and output.
+//! The real outside of the program: its standard input and output, and the two files of its store.
 #![tactic(auto)]
 
-pub mod file;
+mod file; // the site
+mod sides; // the two files
+mod streams; // one call of a reader or a writer, tried again where a signal cut it short
 
 pub use file::FileSite;
+
+#[cfg(test)]
+mod tests;

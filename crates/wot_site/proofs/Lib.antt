@@ -1,3 +1,9 @@
+pub mod Calls
 pub mod Counts
 pub mod Honest
+pub mod Images
 pub mod Outcome
+pub mod Pending
+pub mod Plans
+pub mod Sides
+pub mod Works

@@ -1,4 +1,10 @@
+pub mod Calls
+pub mod Disk
+pub mod MemorySide
 pub mod MemorySite
+pub mod Notes
 pub mod Passed
 pub mod Seen
 pub mod Site
+pub mod Stop
+pub mod Work

@@ -1,12 +1,20 @@
--- What a site tells of itself: what was read and told, and how often its calls failed.
+-- What a site tells of itself: what was read, told and written, what a crash might have left, and how often its calls failed.
 use Rattle.std.specs.Prelude.{ℕ, List, Option, Some, None}
+use Rattle.wot_site.specs.Disk.{Disks}
 use Rattle.wot_site.specs.declared.site.Asked.{Asked}
+
+-- a point of the one clock: the sides, and the bytes told by then
+pub record Moment : Type 0 where
+  pub disks : Disks
+  pub told : List ℕ
 
 pub record Seen : Type 0 where
   pub left : List ℕ  -- the input left
   pub told : List ℕ  -- the bytes told
   pub taken : ℕ  -- how many bytes were taken
   pub asks : List Asked  -- each call of `take`: how many bytes were taken and told before it
+  pub disks : Disks  -- the two sides of the store
+  pub moments : List Moment  -- a moment in each write and sync and for each byte told, the oldest first
 
 -- how often the calls of each kind have failed
 pub record Faults : Type 0 where

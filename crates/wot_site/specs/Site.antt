@@ -1,7 +1,9 @@
 -- What the calls of a site do, as steps between what it tells before and after.
-use Rattle.std.specs.Prelude.{ℕ, ◌≡◌, ◌⊎◌, ◌+◌, ◌-◌, ◌^◌, ◌<◌, ◌≤◌, List, [], ◌∷◌, ◌++◌, length, take, drop, Result, IsErr}
-use Rattle.wot_site.specs.Seen.{Seen, Faults}
+use Rattle.std.specs.Prelude.{ℕ, ◌≡◌, ◌⊎◌, ◌+◌, ◌-◌, ◌^◌, ◌<◌, ◌≤◌, List, [], ◌∷◌, ◌++◌, length, take, drop, Result, IsErr, OnOk}
+use Rattle.wot_site.specs.Disk.{Disk, Disks, disk_of, with_disk, after_write, after_sync}
+use Rattle.wot_site.specs.Seen.{Seen, Moment, Faults}
 use Rattle.wot_site.specs.declared.site.Asked.{Asked}
+use Rattle.wot_site.specs.declared.site.Side.{Side}
 
 -- a call of `take` here
 abbrev pub asked_at : Seen → Asked
@@ -15,9 +17,21 @@ asked s = record s { asks = s.asks ++ asked_at s ∷ [] }
 abbrev pub after_take : ℕ → Seen → Seen
 after_take n s = record s { left = drop n s.left; taken = s.taken + n; asks = s.asks ++ asked_at s ∷ [] }
 
+-- a moment for each byte told, where these were told before
+abbrev pub telling : Disks → List ℕ → List ℕ → List Moment
+telling disks told [] = []
+telling disks told (b ∷ bytes) = record { disks = disks; told = told ++ b ∷ [] } ∷ telling disks (told ++ b ∷ []) bytes
+
 -- after these bytes were told
 abbrev pub after_tell : List ℕ → Seen → Seen
-after_tell bytes s = record s { told = s.told ++ bytes }
+after_tell bytes s = record s { told = s.told ++ bytes; moments = s.moments ++ telling s.disks s.told bytes }
+
+-- after the disk came to this
+abbrev pub with_disks : Disks → Seen → Seen
+with_disks disks s = record s { disks = disks; moments = s.moments ++ record { disks = disks; told = s.told } ∷ [] }
+
+abbrev pub on_disk : Side → (Disk → Disk) → Seen → Seen
+on_disk side f s = with_disks (with_disk side (f (disk_of side s.disks)) s.disks) s
 
 -- `take` moved the first n bytes that were left into the front of the buffer, and none only where none was left
 pub record Takes (n : ℕ) (buf : List ℕ) (old new : Seen) : Type 0 where
@@ -38,6 +52,28 @@ Tells n bytes old new = new ≡ after_tell (take n bytes) old
 abbrev pub Stays : Seen → Seen → Type 0
 Stays old new = new ≡ old
 
+-- the side has n bytes
+pub record Sizes (side : Side) (n : ℕ) (old new : Seen) : Type 0 where
+  pub stays : new ≡ old
+  pub size : n ≡ length (disk_of side old.disks).reads
+
+-- n bytes of the side from a place on stand in the front of the buffer, and none only where none is there
+pub record Reads (side : Side) (at n : ℕ) (buf : List ℕ) (old new : Seen) : Type 0 where
+  pub stays : new ≡ old
+  pub front : take n buf ≡ take n (drop at (disk_of side old.disks).reads)
+  pub within : n ≤ length (drop at (disk_of side old.disks).reads)
+  pub last : n ≡ 0 → 0 < length buf → length (disk_of side old.disks).reads ≤ at
+
+abbrev pub Writes : Side → ℕ → List ℕ → Seen → Seen → Type 0
+Writes side at bytes old new = new ≡ on_disk side (after_write at bytes) old
+
+-- a write that failed: it counts as made, or there was no memory for its note
+abbrev pub WritesOrNot : Side → ℕ → List ℕ → Seen → Seen → Type 0
+WritesOrNot side at bytes old new = (new ≡ on_disk side (after_write at bytes) old) ⊎ (new ≡ old)
+
+abbrev pub Syncs : Side → Seen → Seen → Type 0
+Syncs side old new = new ≡ on_disk side after_sync old
+
 -- no count fell
 pub record NoneFell (old new : Faults) : Type 0 where
   pub take : old.take ≤ new.take
@@ -48,10 +84,11 @@ pub record NoneFell (old new : Faults) : Type 0 where
 abbrev pub Rose : ℕ → ℕ → Type 0
 Rose old new = old < 2 ^ 64 - 1 → old < new
 
--- no count fell, and a call fails only where its count rose
+-- no count fell, a call fails only where its count rose, and one that succeeds leaves every count
 pub record HasCause {T E : Type 0} (count : Faults → ℕ) (old new : Faults) (result : Result T E) : Type 0 where
   pub counts : NoneFell old new
   pub failed : IsErr result → Rose (count old) (count new)
+  pub quiet : OnOk result (new ≡ old)
 
 -- the count of the calls of `take` that failed
 abbrev pub take_faults : Faults → ℕ

@@ -1,77 +1,103 @@
 //! A site in memory, whose calls fail where they are planned to.
 
-ghost use Rattle.std.specs.Prelude.{◌≡◌, ◌⊎◌, ◌↔◌, ◌<◌, ◌≤◌, [], length, min, vec_len, Some, None, IsTrue, IfOk, OnOk, OnErr, IsErr};
-ghost use Rattle.std.specs.Option.{ForSome};
-ghost use Rattle.std.specs.List.{Contains};
+ghost use Rattle.std.specs.Prelude.{◌≡◌, ◌⊎◌, ◌↔◌, ◌<◌, ◌≤◌, ◌+◌, [], length, min, vec_len, Some, None, IsTrue, IfOk, OnOk, OnErr, IsErr};
+ghost use Rattle.wot_site.specs.Notes.{IsNoted};
 
-use crate::bytes::{copy_front, passed};
-use crate::site::{Asked, Failed, Site};
+mod calls; // how many calls there were
+mod crash; // what a crash may leave
+mod notes; // the record of calls
+mod plan; // which calls fail
+mod side; // a side of the store
+
+use crate::bytes::{copy_front, passed, read_at};
+use crate::memory::calls::Calls;
+use crate::memory::crash::image_of;
+use crate::memory::notes::Note;
+use crate::memory::plan::Plan;
+use crate::memory::side::MemorySide;
+use crate::site::{Asked, Failed, Side, Site};
+pub use crash::Pick;
+pub use plan::CallKind;
 use std::alloc::Global;
 use wot_types::Mem;
-
-/// The kinds of calls, whose numbers are counted apart.
-#[derive(Clone, Copy, Debug, PartialEq, Eq)]
-pub enum CallKind {
-    Take,
-    Tell,
-}
 
 /// A site that tells all that it sees and does. A count of it that comes to 2^64 - 1 stays there.
 #[derive(Drop)]
 pub struct MemorySite {
+    alloc: Global,
     input: Vec<u8>,
     taken: usize,
     told: Vec<u8>,
     asks: Vec<Asked>,
-    // The two sides of the store, kept for who reads them.
-    zero: Vec<u8>,
-    one: Vec<u8>,
-    // The calls that fail, each by its kind and its number from 1.
-    fails: Vec<(CallKind, u32)>,
-    // At most how many bytes pass in one call.
-    cut: Option<u32>,
-    takes: u64,
-    tells: u64,
+    zero: MemorySide,
+    one: MemorySide,
+    // What the sides had at the start, and what was done since.
+    first_zero: Vec<u8>,
+    first_one: Vec<u8>,
+    notes: Vec<Note>,
+    plan: Plan,
+    calls: Calls,
     take_faults: u64,
     tell_faults: u64,
+    disk_faults: u64,
     starved: u64,
     ghost taken_of_input: { taken ≤ vec_len input },
-    ghost some_pass: { ForSome cut (λ most. 0 < most) },
+    ghost noted: { IsNoted first_zero.items first_one.items notes.items zero one told.items },
 }
 
 impl MemorySite {
-    ghost use Rattle.wot_site.specs.MemorySite.{seen_of, starved_of, plan_of, cut_of, calls_of, sides_of, IsPlanned, SameRun};
+    ghost use Rattle.wot_site.specs.Disk.{IsImageOf};
+    ghost use Rattle.wot_site.specs.MemorySite.{seen_of, first_seen, starved_of, plan_of, stop_of, cut_of, calls_of, device_of, IsPickedOf, IsPlanned, IsDue, SameRun};
 
-    /// A site over this input, with nothing told, no call planned to fail and no cut.
+    /// A site over this input and these sides, with nothing told, nothing pending, no call planned to fail and no cut.
     pub fn new(
         alloc: Global,
         input: Vec<u8>,
         zero: Vec<u8>,
         one: Vec<u8>,
     ) -> Result<MemorySite, Mem>
-        ensures seen { IfOk result (λ site. ⟦<MemorySite as Site>⟧.seen site
-            ≡ Some (record { left = input.items; told = []; taken = 0; asks = [] })) }
+        ensures seen { IfOk result (λ site. ⟦<MemorySite as Site>⟧.seen site ≡ Some (first_seen input.items zero.items one.items)) }
         ensures faults { IfOk result (λ site. ⟦<MemorySite as Site>⟧.faults site
             ≡ record { take = 0; tell = 0; disk = 0 }) }
         ensures starved { IfOk result (λ site. starved_of site ≡ 0) }
         ensures calls { IfOk result (λ site. (kind : _) → calls_of kind site ≡ 0) }
+        ensures device { IfOk result (λ site. device_of site ≡ 0) }
         ensures plan { IfOk result (λ site. plan_of site ≡ []) }
+        ensures stop { IfOk result (λ site. stop_of site ≡ None) }
         ensures cut { IfOk result (λ site. cut_of site ≡ None) }
-        ensures sides { IfOk result (λ site. sides_of site ≡ (zero.items, one.items)) }
     {
+        let first_zero = Vec::from_slice(alloc, &zero)?;
+        let first_one = Vec::from_slice(alloc, &one)?;
+        let zero = MemorySide::new(alloc, zero)?;
+        let one = MemorySide::new(alloc, one)?;
         Ok(MemorySite {
+            alloc,
             input,
             taken: 0,
             told: Vec::new(alloc),
             asks: Vec::new(alloc),
             zero,
             one,
-            fails: Vec::new(alloc),
-            cut: None,
-            takes: 0,
-            tells: 0,
+            first_zero,
+            first_one,
+            notes: Vec::new(alloc),
+            plan: Plan {
+                fails: Vec::new(alloc),
+                stop: None,
+                cut: None,
+            },
+            calls: Calls {
+                takes: 0,
+                tells: 0,
+                sizes: 0,
+                reads: 0,
+                writes: 0,
+                syncs: 0,
+                device: 0,
+            },
             take_faults: 0,
             tell_faults: 0,
+            disk_faults: 0,
             starved: 0,
         })
     }
@@ -79,21 +105,34 @@ impl MemorySite {
     /// Lets the n-th call of a kind fail for each pair of a kind and a number n, counted from 1 since `new`.
     pub fn with_failures(mut self, fails: Vec<(CallKind, u32)>) -> MemorySite
         ensures plan { plan_of result ≡ fails.items }
+        ensures stop { stop_of result ≡ stop_of self }
         ensures cut { cut_of result ≡ cut_of self }
         ensures run { SameRun self result }
     {
-        self.fails = fails;
+        self.plan.fails = fails;
         self
     }
 
-    /// Lets at most that many bytes pass in one call.
+    /// Lets every device call from the n-th on fail, counted together from 1 since `new`.
+    pub fn with_stop(mut self, n: u32) -> MemorySite
+        ensures stop { stop_of result ≡ Some n }
+        ensures plan { plan_of result ≡ plan_of self }
+        ensures cut { cut_of result ≡ cut_of self }
+        ensures run { SameRun self result }
+    {
+        self.plan.stop = Some(n);
+        self
+    }
+
+    /// Lets at most that many bytes pass in one call of `take` or `tell`.
     pub fn with_cut(mut self, most: u32) -> MemorySite
         requires { 1 ≤ most }
         ensures cut { cut_of result ≡ Some most }
         ensures plan { plan_of result ≡ plan_of self }
+        ensures stop { stop_of result ≡ stop_of self }
         ensures run { SameRun self result }
     {
-        self.cut = Some(most);
+        self.plan.cut = Some(most);
         self
     }
 
@@ -112,29 +151,40 @@ impl MemorySite {
         self.starved
     }
 
-    // How many calls of a kind there were.
-    fn calls(&self, kind: CallKind) -> u64
-        ensures { result ≡ calls_of kind self.now }
+    /// One image of the two sides that a crash may leave now.
+    pub fn crash(&self, pick: Pick) -> Result<(Vec<u8>, Vec<u8>), Mem>
+        ensures image { IfOk result (λ p. IsImageOf (seen_of self.now).disks (record { zero = p.0.items; one = p.1.items })) }
+        ensures picked { IfOk result (λ p. IsPickedOf pick self.now (record { zero = p.0.items; one = p.1.items })) }
     {
-        match kind {
-            CallKind::Take => self.takes,
-            CallKind::Tell => self.tells,
-        }
+        let zero = image_of(self.alloc, &self.zero, pick)?;
+        let one = image_of(self.alloc, &self.one, pick)?;
+        Ok((zero, one))
     }
 
     // Whether the next call of that kind is planned to fail.
     fn is_planned(&self, kind: CallKind) -> bool
         ensures { IsTrue result ↔ IsPlanned kind self.now }
     {
-        has_call(&self.fails, kind, self.calls(kind).saturating_add(1))
+        self.plan
+            .has_call(kind, self.calls.of(kind).saturating_add(1))
+    }
+
+    // Whether the next call of the device, being of that kind, is to fail.
+    fn is_due(&self, kind: CallKind) -> bool
+        ensures { IsTrue result ↔ IsDue kind self.now }
+    {
+        self.is_planned(kind) || self.plan.is_stopped(self.calls.device.saturating_add(1))
     }
 }
 
 impl Site for MemorySite {
+    ghost use Rattle.std.specs.Prelude.{◌^◌, ◌-◌};
+    ghost use Rattle.wot_site.specs.Disk.{disk_of};
     ghost use Rattle.wot_site.specs.Passed.{passed};
-    ghost use Rattle.wot_site.specs.Site.{asked, Takes, TakesNothing, Tells, Stays, HasCause, Rose, take_faults, tell_faults};
-    ghost use Rattle.wot_site.specs.MemorySite.{seen_of, faults_of, starved_of, cut_of, one_more, IsPlanned, counted, OneCall};
-    ghost use Rattle.wot_site.specs.declared.memory.CallKind.TheVariants.{Take, Tell};
+    ghost use Rattle.wot_site.specs.Site.{asked, Takes, TakesNothing, Tells, Stays, Sizes, Reads, Writes, WritesOrNot, Syncs, HasCause, Rose, take_faults, tell_faults, disk_faults};
+    ghost use Rattle.wot_site.specs.MemorySite.{seen_of, faults_of, starved_of, cut_of, IsPlanned, IsDue, counted, OneCall};
+    ghost use Rattle.wot_site.specs.Calls.{one_more};
+    ghost use Rattle.wot_site.specs.declared.memory.plan.CallKind.TheVariants.{Take, Tell, Size, Read, Write, Sync};
 
     ghost seen = { λ site. Some (seen_of site) };
 
@@ -149,15 +199,14 @@ impl Site for MemorySite {
         ensures moved { IfOk result (λ n. n ≡ passed (cut_of self.old) (min (length buf.old) (length (seen_of self.old).left))) }
         ensures noted { OnErr result ((seen_of self.new ≡ asked (seen_of self.old)) ⊎ Rose (starved_of self.old) (starved_of self.new)) }
         ensures planned { IsPlanned Take self.old → IsErr result }
-        ensures starves { starved_of self.old < starved_of self.new → IsErr result }
+        ensures starves { starved_of self.old < starved_of self.new → IsErr result × (seen_of self.new ≡ seen_of self.old) }
         ensures failed { IsErr result → IsPlanned Take self.old ⊎ Rose (starved_of self.old) (starved_of self.new) }
-        ensures faults_same { OnOk result (faults_of self.new ≡ faults_of self.old) }
         ensures faults_rise { OnErr result (faults_of self.new ≡ counted Take (faults_of self.old)) }
         ensures starved { (starved_of self.new ≡ starved_of self.old) ⊎ (starved_of self.new ≡ one_more (starved_of self.old)) }
         ensures called { OneCall Take self.old self.new }
     {
         let planned = self.is_planned(CallKind::Take);
-        self.takes = self.takes.saturating_add(1);
+        self.calls.count(CallKind::Take);
         let asked = Asked {
             taken: self.taken,
             told: self.told.len(),
@@ -172,12 +221,13 @@ impl Site for MemorySite {
             return Err(Failed);
         }
         let left = &self.input[self.taken..];
-        let n = passed(self.cut, buf.len().min(left.len()));
+        let n = passed(self.plan.cut, buf.len().min(left.len()));
         copy_front(buf, left, n);
         self.taken += n;
         Ok(n)
     }
 
+    /// Fails where it is planned to, and else notes what it tells.
     fn tell(&mut self, bytes: &[u8]) -> Result<usize, Failed>
         ensures fits { IfOk result (λ n. n ≤ length bytes.now) }
         ensures some { IfOk result (λ n. 0 < length bytes.now → 0 < n) }
@@ -187,32 +237,125 @@ impl Site for MemorySite {
         ensures moved { IfOk result (λ n. n ≡ passed (cut_of self.old) (length bytes.now)) }
         ensures planned { IsPlanned Tell self.old → IsErr result }
         ensures starves { starved_of self.old < starved_of self.new → IsErr result }
+        ensures fed { IsPlanned Tell self.old → starved_of self.new ≡ starved_of self.old }
         ensures failed { IsErr result → IsPlanned Tell self.old ⊎ Rose (starved_of self.old) (starved_of self.new) }
-        ensures faults_same { OnOk result (faults_of self.new ≡ faults_of self.old) }
         ensures faults_rise { OnErr result (faults_of self.new ≡ counted Tell (faults_of self.old)) }
         ensures starved { (starved_of self.new ≡ starved_of self.old) ⊎ (starved_of self.new ≡ one_more (starved_of self.old)) }
         ensures called { OneCall Tell self.old self.new }
     {
         let planned = self.is_planned(CallKind::Tell);
-        self.tells = self.tells.saturating_add(1);
+        self.calls.count(CallKind::Tell);
         if planned {
             self.tell_faults = self.tell_faults.saturating_add(1);
             return Err(Failed);
         }
-        let n = passed(self.cut, bytes.len());
-        if self.told.extend_from_slice(&bytes[..n]).is_err() {
+        let n = passed(self.plan.cut, bytes.len());
+        if self.note_told(&bytes[..n]).is_err() {
             self.starved = self.starved.saturating_add(1);
             self.tell_faults = self.tell_faults.saturating_add(1);
             return Err(Failed);
         }
         Ok(n)
     }
-}
 
-// Whether the plan has the call of that kind and number.
-fn has_call(plan: &[(CallKind, u32)], kind: CallKind, number: u64) -> bool
-    ensures { IsTrue result ↔ Contains plan.now (kind, number) }
-{
-    plan.iter()
-        .any(|call| call.0 == kind && u64::from(call.1) == number)
+    fn size(&mut self, side: Side) -> Result<u64, Failed>
+        ensures ok { IfOk result (λ n. Sizes side n (seen_of self.old) (seen_of self.new)) }
+        ensures err { OnErr result (Stays (seen_of self.old) (seen_of self.new)) }
+        ensures cause { HasCause disk_faults (faults_of self.old) (faults_of self.new) result }
+        ensures planned { IsDue Size self.old → IsErr result }
+        ensures failed { IsErr result → IsDue Size self.old }
+        ensures faults_rise { OnErr result (faults_of self.new ≡ counted Size (faults_of self.old)) }
+        ensures starved { starved_of self.new ≡ starved_of self.old }
+        ensures called { OneCall Size self.old self.new }
+    {
+        let due = self.is_due(CallKind::Size);
+        self.calls.count(CallKind::Size);
+        if due {
+            self.disk_faults = self.disk_faults.saturating_add(1);
+            return Err(Failed);
+        }
+        match side {
+            Side::Zero => Ok(self.zero.bytes().len() as u64),
+            Side::One => Ok(self.one.bytes().len() as u64),
+        }
+    }
+
+    fn read(&mut self, side: Side, at: u64, buf: &mut [u8]) -> Result<usize, Failed>
+        ensures fits { IfOk result (λ n. n ≤ length buf.old) }
+        ensures ok { IfOk result (λ n. Reads side at n buf.new (seen_of self.old) (seen_of self.new)) }
+        ensures err { OnErr result (Stays (seen_of self.old) (seen_of self.new)) }
+        ensures cause { HasCause disk_faults (faults_of self.old) (faults_of self.new) result }
+        ensures planned { IsDue Read self.old → IsErr result }
+        ensures failed { IsErr result → IsDue Read self.old }
+        ensures faults_rise { OnErr result (faults_of self.new ≡ counted Read (faults_of self.old)) }
+        ensures starved { starved_of self.new ≡ starved_of self.old }
+        ensures called { OneCall Read self.old self.new }
+    {
+        let due = self.is_due(CallKind::Read);
+        self.calls.count(CallKind::Read);
+        if due {
+            self.disk_faults = self.disk_faults.saturating_add(1);
+            return Err(Failed);
+        }
+        match side {
+            Side::Zero => Ok(read_at(self.zero.bytes(), at, buf)),
+            Side::One => Ok(read_at(self.one.bytes(), at, buf)),
+        }
+    }
+
+    /// A write that is to fail is made and noted all the same: the layers above take either.
+    fn write(&mut self, side: Side, at: u64, bytes: &[u8]) -> Result<(), Failed>
+        requires fits { at + length bytes.now ≤ 2 ^ 32 - 1 }
+        requires within { at ≤ length (disk_of side (seen_of self.old).disks).reads }
+        ensures ok { OnOk result (Writes side at bytes.now (seen_of self.old) (seen_of self.new)) }
+        ensures err { OnErr result (WritesOrNot side at bytes.now (seen_of self.old) (seen_of self.new)) }
+        ensures cause { HasCause disk_faults (faults_of self.old) (faults_of self.new) result }
+        ensures noted { Writes side at bytes.now (seen_of self.old) (seen_of self.new) ⊎ Rose (starved_of self.old) (starved_of self.new) }
+        ensures planned { IsDue Write self.old → IsErr result }
+        ensures starves { starved_of self.old < starved_of self.new → IsErr result × (seen_of self.new ≡ seen_of self.old) }
+        ensures failed { IsErr result → IsDue Write self.old ⊎ Rose (starved_of self.old) (starved_of self.new) }
+        ensures faults_rise { OnErr result (faults_of self.new ≡ counted Write (faults_of self.old)) }
+        ensures starved { (starved_of self.new ≡ starved_of self.old) ⊎ (starved_of self.new ≡ one_more (starved_of self.old)) }
+        ensures called { OneCall Write self.old self.new }
+    {
+        let due = self.is_due(CallKind::Write);
+        self.calls.count(CallKind::Write);
+        if self.note_write(side, at, bytes).is_err() {
+            self.starved = self.starved.saturating_add(1);
+            self.disk_faults = self.disk_faults.saturating_add(1);
+            return Err(Failed);
+        }
+        if due {
+            self.disk_faults = self.disk_faults.saturating_add(1);
+            return Err(Failed);
+        }
+        Ok(())
+    }
+
+    /// A sync that is to fail does nothing.
+    fn sync(&mut self, side: Side) -> Result<(), Failed>
+        ensures ok { OnOk result (Syncs side (seen_of self.old) (seen_of self.new)) }
+        ensures err { OnErr result (Stays (seen_of self.old) (seen_of self.new)) }
+        ensures cause { HasCause disk_faults (faults_of self.old) (faults_of self.new) result }
+        ensures planned { IsDue Sync self.old → IsErr result }
+        ensures starves { starved_of self.old < starved_of self.new → IsErr result }
+        ensures fed { IsDue Sync self.old → starved_of self.new ≡ starved_of self.old }
+        ensures failed { IsErr result → IsDue Sync self.old ⊎ Rose (starved_of self.old) (starved_of self.new) }
+        ensures faults_rise { OnErr result (faults_of self.new ≡ counted Sync (faults_of self.old)) }
+        ensures starved { (starved_of self.new ≡ starved_of self.old) ⊎ (starved_of self.new ≡ one_more (starved_of self.old)) }
+        ensures called { OneCall Sync self.old self.new }
+    {
+        let due = self.is_due(CallKind::Sync);
+        self.calls.count(CallKind::Sync);
+        if due {
+            self.disk_faults = self.disk_faults.saturating_add(1);
+            return Err(Failed);
+        }
+        if self.note_sync(side).is_err() {
+            self.starved = self.starved.saturating_add(1);
+            self.disk_faults = self.disk_faults.saturating_add(1);
+            return Err(Failed);
+        }
+        Ok(())
+    }
 }

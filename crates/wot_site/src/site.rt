@@ -1,8 +1,16 @@
 //! The calls of the outside, and what each tells of itself.
 
-ghost use Rattle.std.specs.Prelude.{◌<◌, ◌≤◌, Option, length, IfOk, OnErr};
-ghost use Rattle.wot_site.specs.Seen.{Seen, Faults, Honestly};
-ghost use Rattle.wot_site.specs.Site.{Takes, TakesNothing, Tells, Stays, HasCause, take_faults, tell_faults};
+ghost use Rattle.std.specs.Prelude.{◌≡◌, ◌+◌, ◌-◌, ◌^◌, ◌<◌, ◌≤◌, Option, length, IfOk, OnOk, OnErr};
+ghost use Rattle.wot_site.specs.Seen.{Seen, Faults, Honestly, IfHonest};
+ghost use Rattle.wot_site.specs.Disk.{disk_of};
+ghost use Rattle.wot_site.specs.Site.{Takes, TakesNothing, Tells, Stays, Sizes, Reads, Writes, WritesOrNot, Syncs, HasCause, take_faults, tell_faults, disk_faults};
+
+/// One of the two sides of the store.
+#[derive(Clone, Copy, Debug, PartialEq, Eq)]
+pub enum Side {
+    Zero,
+    One,
+}
 
 /// A call of `take`: how many bytes were taken and told before it.
 #[derive(Clone, Copy, Debug, PartialEq, Eq)]
@@ -11,11 +19,23 @@ pub struct Asked {
     pub told: usize,
 }
 
-/// A call that did nothing, since the input, the output or memory failed it.
+/// So many bytes from a place on.
+#[derive(Clone, Copy, Debug, PartialEq, Eq)]
+pub struct Range {
+    pub at: u64,
+    pub len: usize,
+}
+
+/// A call that the input, the output, the disk or memory failed.
 #[derive(Clone, Copy, Debug, PartialEq, Eq)]
 pub struct Failed;
 
-/// The input and the output of the program as one object, so that what was read and what was told have one order.
+/// A call of the disk failed.
+#[derive(Clone, Copy, Debug, PartialEq, Eq)]
+pub struct DiskFault;
+
+/// The input, the output and the two sides of the store as one object, so that what was told and what a crash
+/// may leave have one clock.
 pub trait Site {
     /// What an honest site tells of itself. A site that is not honest tells nothing.
     ghost seen: { Self → Option Seen };
@@ -38,4 +58,32 @@ pub trait Site {
         ensures ok { IfOk result (λ n. Honestly (seen self.old) (seen self.new) (Tells n bytes.now)) }
         ensures err { OnErr result (Honestly (seen self.old) (seen self.new) Stays) }
         ensures cause { HasCause tell_faults (faults self.old) (faults self.new) result };
+
+    /// How many bytes a side has.
+    fn size(&mut self, side: Side) -> Result<u64, Failed>
+        ensures ok { IfOk result (λ n. Honestly (seen self.old) (seen self.new) (Sizes side n)) }
+        ensures err { OnErr result (Honestly (seen self.old) (seen self.new) Stays) }
+        ensures cause { HasCause disk_faults (faults self.old) (faults self.new) result };
+
+    /// Reads the bytes of a side from a place on into the front of the buffer and answers how many: 0 only at or
+    /// past the end or for an empty buffer.
+    fn read(&mut self, side: Side, at: u64, buf: &mut [u8]) -> Result<usize, Failed>
+        ensures fits { IfOk result (λ n. n ≤ length buf.old) }
+        ensures ok { IfOk result (λ n. Honestly (seen self.old) (seen self.new) (Reads side at n buf.new)) }
+        ensures err { OnErr result (Honestly (seen self.old) (seen self.new) Stays) }
+        ensures cause { HasCause disk_faults (faults self.old) (faults self.new) result };
+
+    /// Writes over what is there, and past the end. Until the next sync of that side a crash may leave any bytes in the range.
+    fn write(&mut self, side: Side, at: u64, bytes: &[u8]) -> Result<(), Failed>
+        requires fits { at + length bytes.now ≤ 2 ^ 32 - 1 }
+        requires within { IfHonest (seen self.old) (λ s. at ≤ length (disk_of side s.disks).reads) }
+        ensures ok { OnOk result (Honestly (seen self.old) (seen self.new) (Writes side at bytes.now)) }
+        ensures err { OnErr result (Honestly (seen self.old) (seen self.new) (WritesOrNot side at bytes.now)) }
+        ensures cause { HasCause disk_faults (faults self.old) (faults self.new) result };
+
+    /// After it a crash leaves of that side what a read gives.
+    fn sync(&mut self, side: Side) -> Result<(), Failed>
+        ensures ok { OnOk result (Honestly (seen self.old) (seen self.new) (Syncs side)) }
+        ensures err { OnErr result (Honestly (seen self.old) (seen self.new) Stays) }
+        ensures cause { HasCause disk_faults (faults self.old) (faults self.new) result };
 }

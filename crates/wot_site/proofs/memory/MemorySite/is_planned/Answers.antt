@@ -1,16 +1,8 @@
-use Rattle.std.proofs.Common.{◌≡◌, ◌∙◌, ℕ, Bool, List, ap, subst}
-use Rattle.std.specs.Prelude.{◌↔◌, IsTrue}
-use Rattle.std.specs.List.{Contains}
-use Rattle.wot_site.specs.MemorySite.{one_more}
-use Rattle.wot_site.specs.declared.memory.CallKind.{CallKind}
+use Rattle.std.proofs.Common.{◌∙◌, ap, refl}
+use Rattle.wot_site.specs.Calls.{one_more}
+use Rattle.wot_site.specs.MemorySite.{plan_of}
+use Rattle.wot_site.proofs.Plans.{planned}
 use Rattle.wot_site.proofs.memory.MemorySite.is_planned.Goals as goal
 
--- a test of equal plans for equal calls
-same_test : (test : Bool) (plan same : List (CallKind × ℕ)) (kind : CallKind) (number next : ℕ) → plan ≡ same → number ≡ next
-    → (IsTrue test ↔ Contains plan (kind, number)) → IsTrue test ↔ Contains same (kind, next)
-same_test test plan same kind number next e f decides =
-    subst (λ (p : List (CallKind × ℕ)). IsTrue test ↔ Contains p (kind, next)) e
-    (subst (λ (n : ℕ). IsTrue test ↔ Contains plan (kind, n)) f decides)
-
 pub returns : goal.returns
-returns c = same_test _ _ _ c.args.kind _ _ c.deref.ensures.value (c.saturating_add.ensures ∙ ap one_more c.calls.ensures) c.has_call.ensures
+returns c = planned c.has_call.result (plan_of c.args.self.now) (plan_of c.args.self.now) c.args.kind _ _ refl (c.saturating_add.ensures ∙ ap one_more c.of.ensures) c.has_call.ensures

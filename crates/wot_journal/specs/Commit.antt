@@ -1,0 +1,35 @@
+-- What putting a record onto the disk does.
+use Rattle.std.specs.Prelude.{ℕ, ◌≡◌, ◌⊎◌, ◌≢◌, ◌+◌, ◌<◌, List, length, take, slice_index}
+use Rattle.wot_site.specs.Disk.{Disk, Disks, IsImage, disk_of, with_disk, after_write, after_sync, settled}
+use Rattle.wot_site.specs.Seen.{Seen}
+use Rattle.wot_site.specs.Site.{on_disk}
+use Rattle.wot_site.specs.declared.site.Side.{Side}
+use Rattle.wot_journal.specs.Record.{Framed, IsClosed, with_record}
+
+-- written, and then synced
+abbrev pub Puts : Side → ℕ → List ℕ → Seen → Seen → Type 0
+Puts side at bytes old new = new ≡ on_disk side after_sync (on_disk side (after_write at bytes) old)
+
+-- written and not synced, or not written
+abbrev pub PutsNot : Side → ℕ → List ℕ → Seen → Seen → Type 0
+PutsNot side at bytes old new = (new ≡ on_disk side (after_write at bytes) old) ⊎ (new ≡ old)
+
+-- the journal of a side ends here: nothing is pending, and the gate is closed
+pub record IsEnd (at : ℕ) (d : Disk) : Type 0 where
+  pub settled : d ≡ settled d.reads
+  pub gate : IsClosed d.reads at
+
+-- the record stands on the side with a closed gate behind it, nothing is pending there, and the other side is as it was
+abbrev pub Commits : Side → Framed → Seen → Seen → Type 0
+Commits side built old new = new.disks ≡ with_disk side (settled (with_record (disk_of side old.disks).reads built.end built.payload)) old.disks
+
+-- the bytes before the journal's end are these, and its gate is closed
+pub record IsUnchanged (bytes : List ℕ) (end : ℕ) (c : List ℕ) : Type 0 where
+  pub front : take end c ≡ take end bytes
+  pub gate : IsClosed c end
+
+-- in each image the journal is as it was, or the record has come to its end; the other side is as it was
+pub record IsCommitting (side : Side) (built : Framed) (old new : Disks) : Type 0 where
+  pub other : new ≡ with_disk side (disk_of side new) old
+  pub images : (c : List ℕ) → IsImage (disk_of side new) c
+      → IsUnchanged (disk_of side old).reads built.end c ⊎ (c ≡ with_record (disk_of side old).reads built.end built.payload)

@@ -1,0 +1,52 @@
+//! Putting a record onto the disk.
+
+ghost use Rattle.std.specs.Prelude.{◌≡◌, ◌+◌, ◌-◌, ◌^◌, ◌<◌, ◌≤◌, length, IfOk, OnOk, OnErr};
+ghost use Rattle.wot_site.specs.Disk.{disk_of};
+ghost use Rattle.wot_site.specs.Seen.{Honestly, IfHonest};
+ghost use Rattle.wot_site.specs.Site.{HasCause, disk_faults};
+ghost use Rattle.wot_site.specs.Work.{Works};
+ghost use Rattle.wot_journal.specs.Record.{most};
+ghost use Rattle.wot_journal.specs.Commit.{Puts, PutsNot, IsEnd, Commits, IsCommitting};
+
+use crate::record::{Built, OPEN};
+use wot_site::{DiskFault, Failed, Side, Site};
+
+/// Writes, and has it on the disk before it answers.
+pub fn put<S: Site>(site: &mut S, side: Side, at: u64, bytes: &[u8]) -> Result<(), DiskFault>
+    requires fits { at + length bytes.now ≤ 2 ^ 32 - 1 }
+    requires within { IfHonest (S.seen site.old) (λ s. at ≤ length (disk_of side s.disks).reads) }
+    ensures ok { OnOk result (Honestly (S.seen site.old) (S.seen site.new) (Puts side at bytes.now)) }
+    ensures err { OnErr result (Honestly (S.seen site.old) (S.seen site.new) (PutsNot side at bytes.now)) }
+    ensures cause { HasCause disk_faults (S.faults site.old) (S.faults site.new) result }
+{
+    match site.write(side, at, bytes) {
+        Ok(()) => {}
+        Err(Failed) => return Err(DiskFault),
+    }
+    match site.sync(side) {
+        Ok(()) => Ok(()),
+        Err(Failed) => Err(DiskFault),
+    }
+}
+
+/// Puts a record at the journal's end and opens its gate; it answers the new end.
+pub fn commit<S: Site>(site: &mut S, side: Side, built: &Built) -> Result<u64, DiskFault>
+    requires at_end { IfHonest (S.seen site.old) (λ s. IsEnd built.now.end (disk_of side s.disks)) }
+    ensures end { IfOk result (λ end. end ≡ built.now.end + length built.now.payload + 5) }
+    ensures room { built.now.end + length built.now.payload + 6 ≤ most }
+    ensures committed { OnOk result (Honestly (S.seen site.old) (S.seen site.new) (Commits side built.now)) }
+    // At each moment of it each image has the journal as it was, or the record too.
+    ensures any_moment { Honestly (S.seen site.old) (S.seen site.new) (λ old new. Works (IsCommitting side built.now old.disks) old new) }
+    ensures cause { HasCause disk_faults (S.faults site.old) (S.faults site.new) result }
+{
+    let body = built.body();
+    let end = built.end();
+    match put(site, side, end + 1, body) {
+        Ok(()) => {}
+        Err(DiskFault) => return Err(DiskFault),
+    }
+    match put(site, side, end, &[OPEN]) {
+        Ok(()) => Ok(end + body.len() as u64),
+        Err(DiskFault) => Err(DiskFault),
+    }
+}

@@ -1,0 +1,97 @@
+//! The record of calls of a site in memory.
+
+ghost use Rattle.std.specs.Prelude.{◌≡◌, ◌≤◌, length, OnOk, OnErr};
+ghost use Rattle.wot_site.specs.Disk.{disk_of, after_write, after_sync};
+ghost use Rattle.wot_site.specs.Site.{on_disk, after_tell};
+
+use crate::memory::MemorySite;
+use crate::site::Side;
+use wot_types::Mem;
+
+/// A call that told, wrote or synced.
+#[derive(Debug, Drop)]
+pub enum Note {
+    /// These bytes were told.
+    Told(Vec<u8>),
+    /// These bytes were written on a side from that place on.
+    Wrote(Side, u64, Vec<u8>),
+    /// A side was synced.
+    Synced(Side),
+}
+
+impl MemorySite {
+    ghost use Rattle.wot_site.specs.MemorySite.{seen_of, SameCounts, SamePlan};
+
+    // Writes, and notes it; want of memory leaves all as it was.
+    #[tactic(auto, using(crate::specs::Notes::replay_push))]
+    pub(super) fn note_write(&mut self, side: Side, at: u64, bytes: &[u8]) -> Result<(), Mem>
+        requires { at ≤ length (disk_of side (seen_of self.old).disks).reads }
+        ensures ok { OnOk result (seen_of self.new ≡ on_disk side (after_write at bytes.now) (seen_of self.old)) }
+        ensures err { OnErr result (seen_of self.new ≡ seen_of self.old) }
+        ensures counts { SameCounts self.old self.new }
+        ensures plan { SamePlan self.old self.new }
+    {
+        let copy = Vec::from_slice(self.alloc, bytes)?;
+        self.notes.push(Note::Wrote(side, at, copy))?;
+        match side {
+            Side::Zero => {
+                if self.zero.write(self.alloc, at as usize, bytes).is_err() {
+                    let _ = self.notes.pop();
+                    return Err(Mem::Memory);
+                }
+                Ok(())
+            }
+            Side::One => {
+                if self.one.write(self.alloc, at as usize, bytes).is_err() {
+                    let _ = self.notes.pop();
+                    return Err(Mem::Memory);
+                }
+                Ok(())
+            }
+        }
+    }
+
+    // Tells, and notes it; want of memory leaves all as it was.
+    #[tactic(auto, using(crate::specs::Notes::replay_push))]
+    pub(super) fn note_told(&mut self, bytes: &[u8]) -> Result<(), Mem>
+        ensures ok { OnOk result (seen_of self.new ≡ after_tell bytes.now (seen_of self.old)) }
+        ensures err { OnErr result (seen_of self.new ≡ seen_of self.old) }
+        ensures counts { SameCounts self.old self.new }
+        ensures plan { SamePlan self.old self.new }
+    {
+        let copy = Vec::from_slice(self.alloc, bytes)?;
+        self.notes.push(Note::Told(copy))?;
+        if self.told.extend_from_slice(bytes).is_err() {
+            let _ = self.notes.pop();
+            return Err(Mem::Memory);
+        }
+        Ok(())
+    }
+
+    // Syncs, and notes it; want of memory leaves all as it was.
+    #[tactic(auto, using(crate::specs::Notes::replay_push))]
+    pub(super) fn note_sync(&mut self, side: Side) -> Result<(), Mem>
+        ensures ok { OnOk result (seen_of self.new ≡ on_disk side after_sync (seen_of self.old)) }
+        ensures err { OnErr result (seen_of self.new ≡ seen_of self.old) }
+        ensures counts { SameCounts self.old self.new }
+        ensures plan { SamePlan self.old self.new }
+    {
+        self.notes.push(Note::Synced(side))?;
+        match side {
+            Side::Zero => {
+                if self.zero.sync(self.alloc).is_err() {
+                    let _ = self.notes.pop();
+                    return Err(Mem::Memory);
+                }
+                Ok(())
+            }
+            Side::One => {
+                if self.one.sync(self.alloc).is_err() {
+                    let _ = self.notes.pop();
+                    return Err(Mem::Memory);
+                }
+                Ok(())
+            }
+        }
+    }
+}

@@ -1,0 +1,188 @@
+-- What a crash leaves while a store is opened.
+use Rattle.std.proofs.Common.{◌≡◌, ◌≢◌, ◌⊎◌, inl, inr, ⊎_elim, ℕ, ◌+◌, ◌<◌, ◌≤◌, Bool, true, false, List, [], ◌∷◌, ◌++◌, length, get_or, take, drop, refl, sym, ◌∙◌, ap, subst, arith, Option, None, Some}
+use Rattle.std.proofs.lemmas.List.{get_or-take}
+use Rattle.std.proofs.lemmas.Bool.Decides.{nat_tests}
+use Rattle.wot_types.specs.State.{opening_state}
+use Rattle.wot_site.specs.Disk.{Disk, Disks, Image, IsImage, IsImageOf, Leaves, disk_of, with_disk, settled, after_sync, reads_of}
+use Rattle.wot_site.specs.Seen.{Honestly, IfHonest, Seen}
+use Rattle.wot_site.specs.Site.{Syncs, Stays, on_disk}
+use Rattle.wot_site.specs.Work.{Works}
+use Rattle.wot_site.specs.declared.site.Side.{Side}
+use Rattle.wot_site.specs.declared.site.Side.TheVariants.{Zero, One}
+use Rattle.wot_site.proofs.Calls.{syncs_work, stays_work}
+use Rattle.wot_site.proofs.Images.{reads_image, settled_image}
+use Rattle.wot_site.proofs.Works.{works_then, works_weaker, works_start, works_to}
+use Rattle.wot_journal.specs.Record.{IsClosed, open_gate}
+use Rattle.wot_journal.specs.Commit.{IsEnd}
+use Rattle.wot_store.specs.Base.{IsBlank, IsOpened, base_fault, header_fault, header_of, header_tail, epoch_of}
+use Rattle.wot_store.specs.Journal.{Ends, Fails, FailsAt, Replays}
+use Rattle.wot_types.specs.Store.{Store}
+use Rattle.wot_store.specs.Shows.{Shows, ShowsBase, ShowsAs, IsBad, IsStored, all_settled, fresh}
+use Rattle.wot_store.specs.Writing.{OnSide, Becomes, IsKnown, Writing, base_bytes}
+use Rattle.wot_store.specs.Opening.{Settles, Settling, Keeping, Opening, Opens, FindsBad, IsSettled, IsReady, Inspects, Looks, Says}
+use Rattle.wot_store.specs.declared.header.Look.{Look}
+use Rattle.wot_store.specs.declared.header.Look.TheVariants.{Blank, Bad, Base}
+use Rattle.wot_store.specs.declared.error.BadStore.{BadStore}
+use Rattle.wot_types.specs.declared.state.State.{State}
+use Rattle.wot_store.proofs.Replaying.{reaches_start}
+
+-- with nothing pending an image is what the sides read
+pub settled_images : (d : Disks) (c : Image) → IsImageOf (all_settled d) c → c ≡ reads_of d
+settled_images d c image =
+    let zero : c.zero ≡ d.zero.reads = settled_image d.zero.reads c.zero image.zero in
+    let one : c.one ≡ d.one.reads = settled_image d.one.reads c.one image.one in
+    λ i. record { zero = zero i; one = one i }
+
+pub reads_images : (d : Disks) → IsImageOf d (reads_of d)
+reads_images d = record { zero = reads_image d.zero; one = reads_image d.one }
+
+pub settling_first : (x y : Seen) → Syncs Zero x y → Settling x y
+settling_first x y syncs = syncs_work (Leaves (IsImageOf x.disks)) Zero x y (λ c image. image)
+    (λ c image. record { zero = subst (IsImage x.disks.zero) (sym (settled_image x.disks.zero.reads c.zero image.zero)) (reads_image x.disks.zero); one = image.one }) syncs
+
+pub settling_both : (x y z : Seen) → Syncs Zero x y → Syncs One y z → Settling x z
+settling_both x y z first second = works_then (Leaves (IsImageOf x.disks)) x y z (settling_first x y first)
+    (syncs_work (Leaves (IsImageOf x.disks)) One y z (settling_first x y first).last
+    (subst (λ (s : Seen). Leaves (IsImageOf x.disks) (with_disk One (after_sync (disk_of One s.disks)) s.disks)) (sym first) (λ c image. subst (IsImageOf x.disks) (sym (settled_images x.disks c image)) (reads_images x.disks))) second)
+
+pub settling_stays : (x y z w : Seen) → Syncs Zero x y → Syncs One y z → Stays z w → Settling x w
+settling_stays x y z w first second stays = works_then (Leaves (IsImageOf x.disks)) x z w (settling_both x y z first second)
+    (stays_work (Leaves (IsImageOf x.disks)) z w (settling_both x y z first second).last stays)
+
+-- a side that was written whole shows a new store
+pub base_shows : (r : List ℕ) → ShowsBase Zero (base_bytes 1 r) fresh
+base_shows r = record {
+  opened = record { long = omega arith; gate = refl };
+  sound = grind (arith, nat_tests);
+  epoch = refl;
+  journal = record {
+    edits = [];
+    reaches = reaches_start (base_bytes 1 r) 24 opening_state (omega arith) (omega arith);
+    gate = record { within = omega arith; closed = λ e. absurd (omega (arith, e)) };
+  };
+}
+
+pub blank_shows : (c : Image) → IsBlank c.zero → Shows c fresh
+blank_shows c blank = inl (blank, refl)
+
+not_short : (side : Side) (header : List ℕ) (size : ℕ) → header_fault side header size ≡ None → 24 ≤ size → 24 < size
+not_short side header size none low = grind (arith, nat_tests)
+
+pub says_there : (side : Side) (R : List ℕ) (size : ℕ) (header : List ℕ) (look : Look) → size ≡ length R → 24 ≤ size → header ≡ take 24 (drop 0 R) → Looks side header size look → Says side R look
+says_there side R size header Blank is low there looks = inr (λ e. looks (ap (λ (l : List ℕ). get_or l 0 0) there ∙ (get_or-take 24 R 0 0 (omega arith) ∙ e)))
+says_there side R size header (Bad bad) is low there looks = (
+  record { long = omega arith; gate = sym (ap (λ (l : List ℕ). get_or l 0 0) there ∙ get_or-take 24 R 0 0 (omega arith)) ∙ looks.0 },
+  (λ i. header_fault side (sym there i) (sym is i)) ∙ looks.1,
+)
+says_there side R size header (Base epoch) is low there looks = (
+  record { long = omega arith; gate = sym (ap (λ (l : List ℕ). get_or l 0 0) there ∙ get_or-take 24 R 0 0 (omega arith)) ∙ looks.0 },
+  (λ i. header_fault side (sym there i) (sym is i)) ∙ looks.1,
+  looks.2 ∙ ap epoch_of there,
+  (let long = not_short side header size looks.1 low in omega arith),
+)
+
+-- a first side is written
+module _ (is_closed : Bool) (x y : Seen) (ready : IsReady is_closed x.disks) where
+  pub create_moments : Writing Zero 1 x y → Keeping x y
+  create_moments works = works_weaker _ _ x y (λ d on c image. inr (record {
+    shown = fresh;
+    here = shows c (on.images c.zero image.zero);
+    there = blank_shows (reads_of x.disks) ready.blank;
+  })) works
+    where
+      shows : (c : Image) → (c.zero ≡ x.disks.zero.reads) ⊎ (IsBlank c.zero ⊎ (c.zero ≡ base_bytes 1 x.disks.zero.reads)) → Shows c fresh
+      shows c (inl same) = blank_shows c (subst IsBlank (sym same) ready.blank)
+      shows c (inr (inl blank)) = blank_shows c blank
+      shows c (inr (inr whole)) = inr (subst (λ (l : List ℕ). ShowsBase Zero l fresh) (sym whole) (base_shows x.disks.zero.reads))
+
+  pub create_opens : Becomes Zero (base_bytes 1) x y → Opens fresh x y
+  create_opens becomes =
+      let r = x.disks.zero.reads in
+      let zero : y.disks.zero ≡ settled (base_bytes 1 r) = ap (λ (d : Disks). d.zero) becomes in
+      let one : y.disks.one ≡ x.disks.one = ap (λ (d : Disks). d.one) becomes in
+      let zero_settled : y.disks.zero ≡ settled y.disks.zero.reads = zero ∙ ap (λ (d : Disk). settled d.reads) (sym zero) in
+      let one_settled : y.disks.one ≡ settled y.disks.one.reads = one ∙ ready.one ∙ ap (λ (d : Disk). settled d.reads) (sym one) in
+      record {
+        before = blank_shows (reads_of x.disks) ready.blank;
+        stored = record { shows = subst (λ (d : Disk). ShowsBase Zero d.reads fresh) (sym zero) (base_shows r); settled = λ i. record { zero = zero_settled i; one = one_settled i } };
+      }
+
+-- from the start of the opening
+pub opening_stays : (x y z : Seen) → Settling x y → y.disks ≡ all_settled x.disks → Stays y z → Opening x z
+opening_stays x y z works disks stays = inr (
+  y,
+  works,
+  disks,
+  works_to _ y y z stays (works_start _ y
+      (λ c image. inl (settled_images x.disks c (subst (λ (d : Disks). IsImageOf d c) disks image) ∙ ap reads_of (sym disks)))),
+)
+
+pub same_reads : (x y : Seen) → y.disks ≡ all_settled x.disks → reads_of y.disks ≡ reads_of x.disks
+same_reads x y disks = ap (λ (d : Disks). reads_of d) disks
+
+pub opening_then : (x y z : Seen) → Settling x y → y.disks ≡ all_settled x.disks → Keeping y z → Opening x z
+opening_then x y z works disks keeps = inr (y, works, disks, keeps)
+
+pub ready_then : (is_closed : Bool) (n : ℕ) (x y : Seen) → Settles n x y → IsBlank y.disks.zero.reads → (is_closed ≡ true → 24 ≤ n) → (is_closed ≡ false → n < 24) → IsReady is_closed y.disks
+ready_then is_closed n x y settles blank high low =
+    let zero : y.disks.zero ≡ settled y.disks.zero.reads = ap (λ (d : Disks). d.zero) settles.disks ∙ ap (λ (d : Disks). settled d.zero.reads) (sym settles.disks) in
+    let one : y.disks.one ≡ settled y.disks.one.reads = ap (λ (d : Disks). d.one) settles.disks ∙ ap (λ (d : Disks). settled d.one.reads) (sym settles.disks) in
+    let long : length y.disks.zero.reads ≡ n = ap (λ (d : Disks). length d.zero.reads) settles.disks ∙ sym settles.size in
+    record {
+      known = record {
+        settled = zero;
+        closed = λ e. record { within = omega (arith, high e, long); closed = ⊎_elim (λ short. absurd (omega (arith, high e, long))) (λ shut. shut) blank };
+        not_closed = λ e. inl (omega (arith, low e, long));
+      };
+      one = one;
+      blank = blank;
+    }
+
+-- what was found on the settled sides is what the start's sides read
+module _ (n : ℕ) (x y z : Seen) (settles : Settles n x y) where
+  pub opens_then : (shown : Store) → Opens shown y z → Opens shown x z
+  opens_then shown opens = record { before = subst (λ (c : Image). Shows c shown) (same_reads x y settles.disks) opens.before; stored = opens.stored }
+
+  pub finds_bad : (bad : BadStore) → Inspects Zero (Bad bad) y z → FindsBad bad x z
+  finds_bad bad found = record {
+    bad = subst (λ (c : Image). IsBad c bad) (same_reads x y settles.disks) (record { opened = found.says.0; first = rw found.says.1 refl });
+    disks = ap (λ (s : Seen). s.disks) found.stays ∙ settles.disks;
+  }
+
+  pub finds_fault : (w : Seen) (epoch : ℕ) (bad : BadStore) → Inspects Zero (Base epoch) y z → FailsAt Zero 24 opening_state bad z w → FindsBad bad x w
+  finds_fault w epoch bad found fails =
+      let same : z.disks ≡ y.disks = ap (λ (s : Seen). s.disks) found.stays in
+      record {
+        bad = subst (λ (c : Image). IsBad c bad) (same_reads x y settles.disks) (record { opened = found.says.0; first = rw found.says.1 (subst (λ (d : Disks). Fails Zero d.zero.reads 24 opening_state bad) same fails.fails) });
+        disks = ap (λ (s : Seen). s.disks) fails.stays ∙ same ∙ settles.disks;
+      }
+
+  pub opens_base : (w : Seen) (state : State) (epoch end : ℕ) → Inspects Zero (Base epoch) y z → Replays Zero 24 opening_state state end z w → Opens (record { state = state; epoch = epoch; end = end }) x w
+  opens_base w state epoch end found replays =
+      let disks : w.disks ≡ all_settled x.disks = ap (λ (s : Seen). s.disks) (replays.stays ∙ found.stays) ∙ settles.disks in
+      let old : y.disks.zero.reads ≡ x.disks.zero.reads = ap (λ (d : Disks). d.zero.reads) settles.disks in
+      let same : z.disks.zero.reads ≡ y.disks.zero.reads = ap (λ (s : Seen). s.disks.zero.reads) found.stays in
+      let shows : ShowsBase Zero x.disks.zero.reads (record { state = state; epoch = epoch; end = end }) = subst (λ (l : List ℕ). ShowsBase Zero l (record { state = state; epoch = epoch; end = end })) old
+      (record { opened = found.says.0; sound = found.says.1; epoch = found.says.2; journal = subst (λ (l : List ℕ). Ends l 24 opening_state state end) same replays.ends }) in
+      record {
+        before = inr shows;
+        stored = record {
+          shows = subst (λ (d : Disks). ShowsBase Zero d.zero.reads (record { state = state; epoch = epoch; end = end })) (sym disks) shows;
+          settled = disks ∙ ap all_settled (sym disks);
+        };
+      }
+
+pub works_stays : (x y z : Seen) → Settling x y → Stays y z → Settling x z
+works_stays x y z works stays = works_to (Leaves (IsImageOf x.disks)) x y z stays works
+
+-- nothing was done to sides that are ready
+keeps : (is_closed : Bool) (x : Seen) → IsReady is_closed x.disks → Keeping x x
+keeps is_closed x ready =
+    works_start _ x (λ c is. inl (settled_images x.disks c (record {
+      zero = subst (λ (d : Disk). IsImage d c.zero) ready.known.settled is.zero;
+      one = subst (λ (d : Disk). IsImage d c.one) ready.one is.one;
+    })))
+
+pub still_keeping : (is_closed : Bool) (seen : Option Seen) → IfHonest seen (λ s. IsReady is_closed s.disks) → Honestly seen seen Keeping
+still_keeping is_closed None ready = tt
+still_keeping is_closed (Some x) ready = keeps is_closed x ready

@@ -1,0 +1,6 @@
+pub mod Base
+pub mod Journal
+pub mod Shows
+pub mod Writing
+pub mod Opening
+pub mod Appending
