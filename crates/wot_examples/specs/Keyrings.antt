@@ -4,7 +4,7 @@ use Rattle.std.specs.FinMap as finmap
 use Rattle.wot_types.specs.declared.cert.Cert.{Cert}
 use Rattle.wot_types.specs.declared.key.Key.{Key}
 use Rattle.wot_types.specs.declared.options.Options.{Options}
-use Rattle.wot_types.specs.declared.row.Letter.{Letter}
+use Rattle.wot_types.specs.declared.letter.Letter.{Letter}
 use Rattle.wot_types.specs.declared.row.Row.{Row}
 use Rattle.wot_types.specs.declared.state.State.{State}
 use Rattle.wot_types.specs.declared.trust.Trust.{Trust}

@@ -1,1 +1,2 @@
 pub mod Keyrings
+pub mod Replies

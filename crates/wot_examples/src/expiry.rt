@@ -1,7 +1,7 @@
 //! What has ended, and when validity may change next.
 
 ghost use Rattle.std.specs.Prelude.{◌≡◌, ◌∷◌, [], true, false};
-ghost use Rattle.wot_types.specs.declared.row.Letter.TheVariants.{E};
+ghost use Rattle.wot_types.specs.declared.letter.Letter.TheVariants.{E};
 ghost use Rattle.wot_types.specs.declared.state.State.{State};
 ghost use Rattle.wot_types.specs.Candidates.{RowMap};
 ghost use Rattle.wot_types.specs.Expiry.{key_is_live};

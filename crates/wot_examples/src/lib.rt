@@ -1,14 +1,18 @@
 //! Worked examples of the rules of validity that no command reaches yet: each clause evaluates definitions.
 //!
+//! `replies` is a law of all commands: where a reply ends.
+//!
 //! A key is named by a number. Key 10 is ultimately trusted where it stands among the introducers.
 #![tactic(auto)]
 
 mod expiry;
+mod replies;
 mod scopes;
 mod selection;
 mod trust_signatures;
 
 pub use expiry::{keys_end_at_their_expiry, next_check_is_at_the_next_expiry};
+pub use replies::{last_lines_count_the_replies, replies_end_at_their_last_line};
 pub use scopes::scopes_admit_their_domain;
 pub use selection::{latest_certification_decides, low_levels_are_disregarded};
 pub use trust_signatures::{

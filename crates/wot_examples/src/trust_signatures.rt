@@ -1,7 +1,7 @@
 //! What trust signatures make of keys.
 
 ghost use Rattle.std.specs.Prelude.{◌≡◌, ◌∷◌, [], false, codes};
-ghost use Rattle.wot_types.specs.declared.row.Letter.TheVariants.{Dash, F, M, Q};
+ghost use Rattle.wot_types.specs.declared.letter.Letter.TheVariants.{Dash, F, M, Q};
 ghost use Rattle.wot_types.specs.declared.trust.Trust.TheVariants.{Unknown, Marginal, Full};
 ghost use Rattle.wot_types.specs.Candidates.{RowMap};
 ghost use Rattle.wot_types.specs.State.{opening_options};

@@ -1,0 +1,317 @@
+-- The reply to each command ends at its last line.
+use Rattle.std.proofs.Common.{◌≡◌, ℕ, ◌+◌, ◌-◌, ◌==◌, Bool, true, false, not, ◌&&◌, List, [], ◌∷◌, ◌++◌, length, append_assoc, append-nil, refl, sym, ap, ◌∙◌, arith, true≢false, All, IfSome, Option, Some, None, Result, Ok, Err, codes, decimal}
+use Rattle.std.specs.Prelude.{if◌then◌else◌, unwrap_or, option_map, option_to_list}
+use Rattle.std.specs.FinMap as map
+use Rattle.std.specs.FinMap.{nat_cmp-IsAntisymmetric}
+use Rattle.std.specs.List.{flat_map, list_any, slice_split}
+use Rattle.std.specs.Cmp.{nat_cmp_total}
+use Rattle.std.proofs.lemmas.Bool.{cond_both, eqb-true, or_parts}
+use Rattle.std.proofs.lemmas.Grind.{flat_map-append}
+use Rattle.std.proofs.lemmas.List.Elements.{All-cons, All-head, All-nil, All-tail}
+use Rattle.std.proofs.lemmas.List.Splits.{slice_split_at}
+use Rattle.wot_types.specs.declared.edit.Edit.{Edit}
+use Rattle.wot_types.specs.declared.edit.Edit.TheVariants.{Import, Ownertrust, Delete}
+use Rattle.wot_types.specs.declared.edit.Head.{Head}
+use Rattle.wot_types.specs.declared.edit.Head.TheVariants.{Edit as EditHead, Query as QueryHead, DeleteKey, Import as ImportHead, Ownertrust as OwnertrustHead}
+use Rattle.wot_types.specs.declared.edit.Query.{Query}
+use Rattle.wot_types.specs.declared.edit.Query.TheVariants.{List as ListAll, ListOne, Sigs, SigsOne, Export, Why, Quit}
+use Rattle.wot_types.specs.declared.fault.ListingFault.{ListingFault}
+use Rattle.wot_types.specs.declared.fault.ListingWhat.{ListingWhat}
+use Rattle.wot_types.specs.declared.fault.ListingWhat.TheVariants.{ShortRecord, BadNumber, BadDate, BadHex, BadQuote, NoFingerprint, KeyIdDiffers, RepeatedKey, RepeatedUser, BadTrustField, LimitReached}
+use Rattle.wot_types.specs.declared.fault.OwnertrustFault.{OwnertrustFault}
+use Rattle.wot_types.specs.declared.fault.OwnertrustFault.TheVariants.{BadFingerprint, BadValue, BadShape}
+use Rattle.wot_types.specs.declared.key.Key.{Key}
+use Rattle.wot_types.specs.declared.limit.Limit.{Limit}
+use Rattle.wot_types.specs.declared.limit.Limit.TheVariants.{Keys, Users, Certs, Text, Trusts, Record, Scope}
+use Rattle.wot_types.specs.declared.refusal.Refusal.{Refusal}
+use Rattle.wot_types.specs.declared.refusal.Refusal.TheVariants.{LineTooLong, UnknownCommand, BadArgument, UnendedBlock, Listing, Ownertrust as OwnertrustRefusal, NoSuchKey, NoSuchUser, Full, KeyIdTaken, JournalFull}
+use Rattle.wot_types.specs.declared.state.State.{State}
+use Rattle.wot_types.specs.declared.user.User.{User}
+use Rattle.wot_types.specs.Candidates.{RowMap}
+use Rattle.wot_types.specs.Commands.{Command, block_texts}
+use Rattle.wot_types.specs.CutState.{cut}
+use Rattle.wot_types.specs.Explanation.{count_by_trust, direct, explained_rows, explanation}
+use Rattle.wot_types.specs.Fingerprint.{key_id_of}
+use Rattle.wot_types.specs.Grammar.{command_of}
+use Rattle.wot_types.specs.Keyring.{has_fpr}
+use Rattle.wot_types.specs.Letters.{key_letter}
+use Rattle.wot_types.specs.Levels.{rows_of}
+use Rattle.wot_types.specs.Lines.{front_of, is_newline, last_of, open_line, whole_lines}
+use Rattle.wot_types.specs.Listing.{fault_at_end, kept_of, listed_keys, passed_of}
+use Rattle.wot_types.specs.NextCheck.{next_check}
+use Rattle.wot_types.specs.Outcome.{Outcome, answer_to, block_outcome, edit_outcome, entries_outcome, has_long_line, head_outcome, is_past, listing_outcome, ok_line, outcome, query_refusal, refusal_of, refuse, unless_refused, unless_unanswered, words_outcome}
+use Rattle.wot_types.specs.Ownertrust.{ownertrust_of, ownertrust_line}
+use Rattle.wot_types.specs.OwnertrustText.{listed_entries, ownertrust_fault}
+use Rattle.wot_types.specs.Printing.{cert_line, key_id_text, key_lines, list_text, listed, user_lines}
+use Rattle.wot_types.specs.Refusals.{fault_name, limit_name, ownertrust_fault_name, refusal_text, reply_line}
+use Rattle.wot_types.specs.Selection.{spots_from}
+use Rattle.wot_types.specs.Store.{Store}
+use Rattle.wot_types.specs.Store.Change.{makes}
+use Rattle.wot_types.specs.WellFormed.{IsUser, IsWellFormed}
+use Rattle.wot_types.specs.WhyText.{by_line, letter_of, row_line, why_text}
+use Rattle.wot_types.proofs.FinMaps.{IfSome-get}
+use Rattle.wot_examples.specs.Replies.{AreWellFormed, IsReply, ends_reply, is_silent, tells}
+use Rattle.wot_examples.proofs.PlainTexts.{ArePlain, IsPlain, joined, plain_decimal, plain_joined, plain_key_id}
+use Rattle.wot_examples.proofs.ReplyLines.{GoesOn, all_plain, both, by_goes_on, cert_goes_on, cut_goes_on, each, each_of, entry_goes_on, fpr_goes_on, nothing, pub_goes_on, row_goes_on, tru_goes_on, user_goes_on, why_goes_on}
+
+-- ---- whole lines, cut again
+
+free_of_newline : (line : List ℕ) → IsPlain line → All (λ b. is_newline b ≡ false) line
+free_of_newline [] h = All-nil (λ b. is_newline b ≡ false)
+free_of_newline (b ∷ line) h =
+    let parts = or_parts (is_newline b) (list_any is_newline line) h in
+    All-cons (λ b. is_newline b ≡ false) b line parts.0 (free_of_newline line parts.1)
+
+split_lines : (lines : List (List ℕ)) → ArePlain lines → slice_split is_newline (flat_map reply_line lines) ≡ lines ++ [] ∷ []
+split_lines [] h = refl
+split_lines (line ∷ lines) h =
+    ap (slice_split is_newline) (append_assoc line (10 ∷ []) (flat_map reply_line lines))
+    ∙ slice_split_at is_newline line 10 (flat_map reply_line lines) (free_of_newline line h.0) refl
+    ∙ ap (λ l. line ∷ l) (split_lines lines h.1)
+
+front_of_more : {X : Type 0} (xs : List X) (x : X) → front_of (xs ++ x ∷ []) ≡ xs
+front_of_more [] x = refl
+front_of_more (y ∷ []) x = refl
+front_of_more (y ∷ z ∷ xs) x = ap (λ l. y ∷ l) (front_of_more (z ∷ xs) x)
+
+last_of_more : {X : Type 0} (xs : List X) (x d : X) → last_of (xs ++ x ∷ []) d ≡ x
+last_of_more [] x d = refl
+last_of_more (y ∷ xs) x d = last_of_more xs x y
+
+pub whole_lines_are : (lines : List (List ℕ)) → ArePlain lines → whole_lines (flat_map reply_line lines) ≡ lines
+whole_lines_are lines h = ap front_of (split_lines lines h) ∙ front_of_more lines []
+
+open_line_is : (lines : List (List ℕ)) → ArePlain lines → open_line (flat_map reply_line lines) ≡ []
+open_line_is lines h = ap (λ l. last_of l []) (split_lines lines h) ∙ last_of_more lines [] []
+
+-- ---- a reply by its front and its last line
+
+-- a last line of a reply
+record Ends (refused : Bool) (line : List ℕ) : Type 0 where
+  plain : IsPlain line
+  ends : ends_reply line ≡ true
+  told : tells refused line ≡ true
+
+-- lines that go on, and a last line
+pub record Answered (refused : Bool) (text : List ℕ) : Type 0 where
+  pub lines : List (List ℕ)
+  pub last : List ℕ
+  pub is : text ≡ flat_map reply_line (lines ++ last ∷ [])
+  pub plain : ArePlain (lines ++ last ∷ [])
+  pub none : list_any ends_reply lines ≡ false
+  pub ends : ends_reply last ≡ true
+  pub told : tells refused last ≡ true
+
+reply : (refused : Bool) (front line : List ℕ) → GoesOn front → Ends refused line → Answered refused (front ++ reply_line line)
+reply refused front line p q = record {
+  lines = p.lines;
+  last = line;
+  is = ap (λ l. l ++ reply_line line) p.is ∙ sym (flat_map-append reply_line p.lines (line ∷ []) ∙ ap (λ l. flat_map reply_line p.lines ++ l) (append-nil (reply_line line)));
+  plain = all_plain p.lines (line ∷ []) p.plain (q.plain, tt);
+  none = p.none;
+  ends = q.ends;
+  told = q.told;
+}
+
+-- a reply of one line
+one_line : (refused : Bool) (line : List ℕ) → Ends refused line → Answered refused (reply_line line)
+one_line refused line q = reply refused [] line nothing q
+
+-- ---- refusals
+
+name_of_fault : (what : ListingWhat) → IsPlain (fault_name what)
+name_of_fault ShortRecord = refl
+name_of_fault BadNumber = refl
+name_of_fault BadDate = refl
+name_of_fault BadHex = refl
+name_of_fault BadQuote = refl
+name_of_fault NoFingerprint = refl
+name_of_fault KeyIdDiffers = refl
+name_of_fault RepeatedKey = refl
+name_of_fault RepeatedUser = refl
+name_of_fault BadTrustField = refl
+name_of_fault (LimitReached limit) = refl
+
+name_of_ownertrust_fault : (what : OwnertrustFault) → IsPlain (ownertrust_fault_name what)
+name_of_ownertrust_fault BadFingerprint = refl
+name_of_ownertrust_fault BadValue = refl
+name_of_ownertrust_fault BadShape = refl
+
+name_of_limit : (limit : Limit) → IsPlain (limit_name limit)
+name_of_limit Keys = refl
+name_of_limit Users = refl
+name_of_limit Certs = refl
+name_of_limit Text = refl
+name_of_limit Trusts = refl
+name_of_limit Record = refl
+name_of_limit Scope = refl
+
+err : (text : List ℕ) (parts : List (List ℕ)) → IsPlain text → ArePlain parts → ends_reply (joined text parts) ≡ true → tells true (joined text parts) ≡ true → Ends true (joined text parts)
+err text parts p q e v = record { plain = plain_joined text parts p q; ends = e; told = v }
+
+refusal_ends : (refusal : Refusal) → Ends true (refusal_text refusal)
+refusal_ends LineTooLong = err (codes "err line-too-long") [] refl tt refl refl
+refusal_ends UnknownCommand = err (codes "err unknown-command") [] refl tt refl refl
+refusal_ends (BadArgument n) = err (codes "err bad-argument ") (decimal n ∷ []) refl (plain_decimal n, tt) refl refl
+refusal_ends UnendedBlock = err (codes "err unended-block") [] refl tt refl refl
+refusal_ends (Listing fault) =
+    err (codes "err listing ") (decimal fault.line ∷ codes " " ∷ fault_name fault.what ∷ []) refl (plain_decimal fault.line, (refl, (name_of_fault fault.what, tt))) refl refl
+refusal_ends (OwnertrustRefusal line what) =
+    err (codes "err ownertrust ") (decimal line ∷ codes " " ∷ ownertrust_fault_name what ∷ []) refl (plain_decimal line, (refl, (name_of_ownertrust_fault what, tt))) refl refl
+refusal_ends NoSuchKey = err (codes "err no-such-key") [] refl tt refl refl
+refusal_ends NoSuchUser = err (codes "err no-such-user") [] refl tt refl refl
+refusal_ends (Full limit) = err (codes "err full ") (limit_name limit ∷ []) refl (name_of_limit limit, tt) refl refl
+refusal_ends (KeyIdTaken id) = err (codes "err key-id-taken ") (key_id_text id ∷ []) refl (plain_key_id id, tt) refl refl
+refusal_ends JournalFull = err (codes "err journal-full") [] refl tt refl refl
+
+abbrev Replies : Outcome → Type 0
+Replies o = Answered o.refused o.text
+
+refused : (refusal : Refusal) → Replies (refuse refusal)
+refused refusal = one_line true (refusal_text refusal) (refusal_ends refusal)
+
+-- ---- edits
+
+ok_ends : Ends false (codes "ok")
+ok_ends = record { plain = refl; ends = refl; told = refl }
+
+ok : (text : List ℕ) (parts : List (List ℕ)) → IsPlain text → ArePlain parts → ends_reply (joined text parts) ≡ true → tells false (joined text parts) ≡ true → Ends false (joined text parts)
+ok text parts p q e v = record { plain = plain_joined text parts p q; ends = e; told = v }
+
+fitting_replies : (line : List ℕ) (edit : Edit) (past : Bool) → Ends false line
+    → Replies (if past then refuse JournalFull else record { text = reply_line line; refused = false; change = makes edit })
+fitting_replies line edit true q = refused JournalFull
+fitting_replies line edit false q = one_line false line q
+
+unless_replies : (why : Option Refusal) (line : List ℕ) (s : Store) (edit : Edit) → Ends false line → Replies (unless_refused why (reply_line line) s edit)
+unless_replies None line s edit q = fitting_replies line edit (is_past s.end edit) q
+unless_replies (Some why) line s edit q = refused why
+
+edit_replies : (line : List ℕ) (s : Store) (edit : Edit) → Ends false line → Replies (edit_outcome (reply_line line) s edit)
+edit_replies line s edit q = unless_replies (refusal_of s.state edit) line s edit q
+
+delete_replies : (s : Store) (fpr : List ℕ) (has : Bool) → Replies (if has then edit_outcome ok_line s (Delete (key_id_of fpr)) else refuse NoSuchKey)
+delete_replies s fpr true = edit_replies (codes "ok") s (Delete (key_id_of fpr)) ok_ends
+delete_replies s fpr false = refused NoSuchKey
+
+-- ---- blocks
+
+listing_replies : (fault : Option ListingFault) (s : Store) (lines : List (List ℕ)) → Replies (listing_outcome fault s lines)
+listing_replies (Some fault) s lines = refused (Listing fault)
+listing_replies None s lines =
+    let parts : List (List ℕ) = decimal (length (listed_keys lines)) ∷ codes " kept " ∷ decimal (kept_of lines) ∷ codes " passed " ∷ decimal (passed_of lines) ∷ [] in
+    edit_replies (joined (codes "ok keys ") parts) s (Import (listed_keys lines))
+    (ok (codes "ok keys ") parts refl (plain_decimal (length (listed_keys lines)), (refl, (plain_decimal (kept_of lines), (refl, (plain_decimal (passed_of lines), tt))))) refl refl)
+
+entries_replies : (fault : Option (ℕ × OwnertrustFault)) (s : Store) (lines : List (List ℕ)) → Replies (entries_outcome fault s lines)
+entries_replies (Some fault) s lines = refused (OwnertrustRefusal fault.0 fault.1)
+entries_replies None s lines =
+    let parts : List (List ℕ) = decimal (length (listed_entries lines)) ∷ [] in
+    edit_replies (joined (codes "ok entries ") parts) s (Ownertrust (listed_entries lines)) (ok (codes "ok entries ") parts refl (plain_decimal (length (listed_entries lines)), tt) refl refl)
+
+ended_replies : (o : Outcome) (ended : Bool) → Replies o → Replies (if ended then o else refuse UnendedBlock)
+ended_replies o true r = r
+ended_replies o false r = refused UnendedBlock
+
+-- ---- queries
+
+users_go_on : (s : State) (rows : RowMap) (sigs : Bool) (id own n : ℕ) (key : Key) (users : List User) → All (IsUser own) users → GoesOn (flat_map (user_lines s rows sigs id key) (spots_from n users))
+users_go_on s rows sigs id own n key [] w = nothing
+users_go_on s rows sigs id own n key (user ∷ users) w =
+    both _ _
+    (both _ _ (user_goes_on _ own user (All-head (IsUser own) user users w))
+    (cond_both sigs (flat_map cert_line user.certs) [] GoesOn (λ e. each cert_line cert_goes_on user.certs) (λ e. nothing)))
+    (users_go_on s rows sigs id own (n + length user.certs) key users (All-tail (IsUser own) user users w))
+
+key_goes_on : (s : State) (rows : RowMap) (sigs : Bool) (entry : ℕ × Key) → IsWellFormed entry.1 → GoesOn (key_lines s rows sigs entry)
+key_goes_on s rows sigs entry w =
+    both _ _
+    (both _ _ (pub_goes_on (key_letter s rows entry.0 entry.1) (ownertrust_of s.trusts entry.1.fpr) entry.0 entry.1 w) (fpr_goes_on entry.1.fpr))
+    (users_go_on s rows sigs entry.0 (key_id_of entry.1.fpr) 0 entry.1 entry.1.users w.each)
+
+listed_one : (id : ℕ) (found : Option Key) → IfSome found IsWellFormed → All (λ (e : ℕ × Key). IsWellFormed e.1) (option_to_list (option_map (λ key. (id, key)) found))
+listed_one id None w = All-nil (λ (e : ℕ × Key). IsWellFormed e.1)
+listed_one id (Some key) w = All-cons (λ (e : ℕ × Key). IsWellFormed e.1) (id, key) [] w (All-nil (λ (e : ℕ × Key). IsWellFormed e.1))
+
+listed_are : (s : State) (only : Option ℕ) → AreWellFormed s.keys → All (λ (e : ℕ × Key). IsWellFormed e.1) (listed s only)
+listed_are s None w = w
+listed_are s (Some id) w = listed_one id (map.get s.keys id) (IfSome-get nat_cmp_total nat_cmp-IsAntisymmetric (λ (e : ℕ × Key). IsWellFormed e.1) s.keys id w)
+
+list_goes_on : (s : State) (only : Option ℕ) (sigs : Bool) → AreWellFormed s.keys → GoesOn (list_text s only sigs)
+list_goes_on s only sigs w =
+    both _ _ (tru_goes_on s.options s.date (next_check s))
+    (each_of (λ (e : ℕ × Key). IsWellFormed e.1) (key_lines s (rows_of s) sigs) (key_goes_on s (rows_of s) sigs) (listed s only) (listed_are s only w))
+
+why_text_goes_on : (s : State) (id place : ℕ) → GoesOn (why_text s id place)
+why_text_goes_on s id place =
+    both _ _
+    (both _ _
+    (both _ _
+    (why_goes_on id place (letter_of s id place) (count_by_trust (map.values (explained_rows s (direct s id place)))))
+    (each row_line row_goes_on (map.values (explained_rows s (explanation s id place)))))
+    (each by_line by_goes_on (map.values (explained_rows s (direct s id place)))))
+    (cut_goes_on (letter_of (cut s (explanation s id place) id) id place))
+
+answer_goes_on : (s : State) (query : Query) → AreWellFormed s.keys → GoesOn (answer_to s query)
+answer_goes_on s ListAll w = list_goes_on s None false w
+answer_goes_on s (ListOne fpr) w = list_goes_on s (Some (key_id_of fpr)) false w
+answer_goes_on s Sigs w = list_goes_on s None true w
+answer_goes_on s (SigsOne fpr) w = list_goes_on s (Some (key_id_of fpr)) true w
+answer_goes_on s Export w = each ownertrust_line entry_goes_on (map.entries s.trusts)
+answer_goes_on s (Why fpr place) w = why_text_goes_on s (key_id_of fpr) (place - 1)
+answer_goes_on s Quit w = nothing
+
+query_replies : (why : Option Refusal) (text : List ℕ) → GoesOn text → Replies (unless_unanswered why text)
+query_replies (Some why) text p = refused why
+query_replies None text p = reply false text (codes "ok") p ok_ends
+
+-- ---- commands
+
+module _ (s : Store) (command : Command) (w : AreWellFormed s.state.keys) where
+  head_replies : (head : Result Head Refusal) → Replies (head_outcome s command head)
+  head_replies (Err why) = refused why
+  head_replies (Ok (EditHead edit)) = edit_replies (codes "ok") s edit ok_ends
+  head_replies (Ok (QueryHead query)) = query_replies (query_refusal s.state query) (answer_to s.state query) (answer_goes_on s.state query w)
+  head_replies (Ok (DeleteKey fpr)) = delete_replies s fpr (has_fpr s.state.keys fpr)
+  head_replies (Ok ImportHead) =
+      ended_replies (block_outcome ImportHead s (block_texts command.block)) command.ended (listing_replies (fault_at_end (block_texts command.block)) s (block_texts command.block))
+  head_replies (Ok OwnertrustHead) =
+      ended_replies (block_outcome OwnertrustHead s (block_texts command.block)) command.ended (entries_replies (ownertrust_fault (block_texts command.block)) s (block_texts command.block))
+
+  words_reply : (words : List (List ℕ)) → (length words == 0) ≡ false → Replies (words_outcome s command words)
+  words_reply [] some = absurd (true≢false some)
+  words_reply (name ∷ words) some = head_replies (command_of (name ∷ words))
+
+  cases_reply : (long : Bool) → (not long && (length (unwrap_or command.words []) == 0)) ≡ false → Replies (if long then refuse LineTooLong else words_outcome s command (unwrap_or command.words []))
+  cases_reply true some = refused LineTooLong
+  cases_reply false some = words_reply (unwrap_or command.words []) some
+
+  pub answered : is_silent command ≡ false → Answered (outcome s command).refused (outcome s command).text
+  unfolding outcome
+  answered some = cases_reply (has_long_line command) some
+
+  pub replies : is_silent command ≡ false → IsReply (outcome s command).refused (outcome s command).text
+  replies some =
+      let a = answered some in
+      record {
+        front = a.lines;
+        last = a.last;
+        lines = ap whole_lines a.is ∙ whole_lines_are (a.lines ++ a.last ∷ []) a.plain;
+        rest = ap open_line a.is ∙ open_line_is (a.lines ++ a.last ∷ []) a.plain;
+        goes_on = a.none;
+        ends = a.ends;
+        told = a.told;
+      }
+
+no_words : (s : Store) (command : Command) (words : List (List ℕ)) → (length words == 0) ≡ true → (words_outcome s command words).text ≡ []
+no_words s command [] none = refl
+no_words s command (name ∷ words) none = absurd (omega (arith, eqb-true (length (name ∷ words)) 0 none))
+
+silent_cases : (s : Store) (command : Command) (long : Bool) → (not long && (length (unwrap_or command.words []) == 0)) ≡ true
+    → (if long then refuse LineTooLong else words_outcome s command (unwrap_or command.words [])).text ≡ []
+silent_cases s command true none = absurd (true≢false (sym none))
+silent_cases s command false none = no_words s command (unwrap_or command.words []) none
+
+pub silent : (s : Store) (command : Command) → is_silent command ≡ true → (outcome s command).text ≡ []
+unfolding outcome
+silent s command none = silent_cases s command (has_long_line command) none

@@ -1,0 +1,8 @@
+use Rattle.wot_examples.proofs.ReplyEnds as proved
+use Rattle.wot_examples.proofs.replies.replies_end_at_their_last_line.Goals as goal
+
+pub returns-clause-ends : goal.returns-clause-ends
+returns-clause-ends c = proved.replies
+
+pub returns-clause-silent : goal.returns-clause-silent
+returns-clause-silent c = proved.silent

@@ -1,0 +1,11 @@
+pub mod MapLemmas
+pub mod LevelLemmas
+pub mod CutPlaces
+pub mod CutCounts
+pub mod CutRows
+pub mod ExplanationLemmas
+pub mod CutLaw
+pub mod ListedLemmas
+pub mod CutWellFormed
+pub mod DateLemmas
+pub mod ExplainedLemmas

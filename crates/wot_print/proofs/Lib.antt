@@ -1,0 +1,6 @@
+pub mod Loops
+pub mod Walking
+pub mod Shown
+pub mod Spots
+pub mod Pieces
+pub mod Explaining

@@ -1,0 +1,68 @@
+-- How the printed lines of a key and of a user ID come together.
+use Rattle.std.proofs.Common.{◌≡◌, ℕ, Bool, true, false, List, [], ◌∷◌, ◌++◌, append_assoc, append-nil, All, Option, Some, None, if◌then◌else◌, IfOk, OnOk, Result, Ok, Err, option_map, option_and_then, slice_get, sym, ap, subst, ◌∙◌}
+use Rattle.std.specs.FinMap as finmap
+use Rattle.std.specs.List.{flat_map}
+use Rattle.std.proofs.lemmas.Bool.{cond-false, cond-true}
+use Rattle.std.proofs.lemmas.List.Elements.{All-weaker}
+use Rattle.wot_types.specs.declared.key.Key.{Key}
+use Rattle.wot_types.specs.declared.letter.Letter.{Letter}
+use Rattle.wot_types.specs.declared.state.State.{State}
+use Rattle.wot_types.specs.declared.user.User.{User}
+use Rattle.wot_types.specs.Letters.{key_letter, key_letter_at, letter_at, user_letter}
+use Rattle.wot_types.specs.Levels.{rows_of}
+use Rattle.wot_types.specs.Listing.{Spells}
+use Rattle.wot_types.specs.Accepted.{IsFiled}
+use Rattle.wot_types.specs.Printing.{cert_line, list_text, user_line}
+use Rattle.wot_types.specs.Selection.{Spot, spots_from}
+use Rattle.wot_table.specs.Kept.{IsKept}
+use Rattle.wot_print_laws.specs.Fits.{FitsState}
+use Rattle.wot_print_laws.specs.ListingLines.{listing_lines}
+
+same_letter : (a b : Letter) → Some a ≡ Some b → a ≡ b
+same_letter a b e = cc
+
+pub letter_found : (s : State) (id user : ℕ) (key : Key) (spot : Spot) (letter : Letter) → finmap.get s.keys id ≡ Some key → slice_get (spots_from 0 key.users) user ≡ Some spot
+    → letter_at s id user ≡ Some letter → letter ≡ user_letter s (rows_of s) id key spot
+letter_found s id user key spot letter is at found =
+    same_letter letter (user_letter s (rows_of s) id key spot)
+    (sym found ∙ ap (option_and_then (λ (k : Key). option_map (user_letter s (rows_of s) id k) (slice_get (spots_from 0 k.users) user))) is ∙ ap (option_map (user_letter s (rows_of s) id key)) at)
+
+pub key_letter_found : (s : State) (id : ℕ) (key : Key) (letter : Letter) → finmap.get s.keys id ≡ Some key → key_letter_at s id ≡ Some letter → letter ≡ key_letter s (rows_of s) id key
+key_letter_found s id key letter is found =
+    same_letter letter (key_letter s (rows_of s) id key) (sym found ∙ ap (option_map (key_letter s (rows_of s) id)) is)
+
+-- a user ID's line, and its certifications where they are printed too
+pub with_certs : (sigs : Bool) (letter : Letter) (user : User) (old now next : List ℕ) → now ≡ old ++ user_line letter user → sigs ≡ true → next ≡ now ++ flat_map cert_line user.certs
+    → next ≡ old ++ (user_line letter user ++ (if sigs then flat_map cert_line user.certs else []))
+with_certs sigs letter user old now next line on more =
+    more ∙ ap (λ l. l ++ flat_map cert_line user.certs) line ∙ append_assoc old (user_line letter user) (flat_map cert_line user.certs)
+    ∙ ap (λ l. old ++ (user_line letter user ++ l)) (sym (cond-true sigs (flat_map cert_line user.certs) [] on))
+
+pub without_certs : (sigs : Bool) (letter : Letter) (user : User) (old now : List ℕ) → now ≡ old ++ user_line letter user → sigs ≡ false
+    → now ≡ old ++ (user_line letter user ++ (if sigs then flat_map cert_line user.certs else []))
+without_certs sigs letter user old now line off =
+    line ∙ ap (λ l. old ++ l) (sym (append-nil (user_line letter user)))
+    ∙ ap (λ l. old ++ (user_line letter user ++ l)) (sym (cond-false sigs (flat_map cert_line user.certs) [] off))
+
+pub three_parts : (old a b c : List ℕ) → ((old ++ a) ++ b) ++ c ≡ old ++ (a ++ b ++ c)
+three_parts old a b c = ap (λ l. l ++ c) (append_assoc old a b) ∙ append_assoc old (a ++ b) c
+
+-- one thing of those that are left is printed
+pub one_of_left : {X : Type 0} (f : X → List ℕ) (old now whole : List ℕ) (x : X) (rest all : List X) → now ≡ old ++ f x → all ≡ x ∷ rest → old ++ flat_map f all ≡ whole
+    → now ++ flat_map f rest ≡ whole
+one_of_left f old now whole x rest all line is so_far =
+    ap (λ l. l ++ flat_map f rest) line ∙ append_assoc old (f x) (flat_map f rest) ∙ ap (λ l. old ++ flat_map f l) (sym is) ∙ so_far
+
+pub none_of_left : {X : Type 0} (f : X → List ℕ) (now whole : List ℕ) (all : List X) → all ≡ [] → now ++ flat_map f all ≡ whole → now ≡ whole
+none_of_left f now whole all is so_far = sym (append-nil now) ∙ ap (λ l. now ++ flat_map f l) (sym is) ∙ so_far
+
+-- what reads back where the state's values are in their ranges
+pub reads_back : {V E : Type 0} (items : V → List ℕ) (result : Result V E) (s : State) (only : Option ℕ) (sigs : Bool) (keys : List Key) (kept : ℕ) → only ≡ None → sigs ≡ true
+    → IfOk result (λ text. items text ≡ list_text s only sigs) → OnOk result (FitsState s) → (FitsState s → Spells (listing_lines (list_text s None true)) keys kept 0)
+    → IfOk result (λ text. Spells (listing_lines (items text)) keys kept 0)
+reads_back items (Ok text) s only sigs keys kept all on is fits law =
+    subst (λ t. Spells (listing_lines t) keys kept 0) (sym (is ∙ (λ i. list_text s (all i) (on i)))) (law fits)
+reads_back items (Err e) s only sigs keys kept all on is fits law = tt
+
+pub filed : (es : List (ℕ × Key)) → All IsKept es → All IsFiled es
+filed es kept = All-weaker IsKept IsFiled (λ e h. record { own_id = h.own_id; well_formed = h.well_formed }) es kept

@@ -1,0 +1,29 @@
+use Rattle.std.proofs.Common.{◌≡◌, ◌++◌, sym, ap, ◌∙◌}
+use Rattle.std.specs.List.{flat_map}
+use Rattle.wot_types.specs.Letters.{key_letter}
+use Rattle.wot_types.specs.Levels.{rows_of}
+use Rattle.wot_types.specs.Ownertrust.{ownertrust_of}
+use Rattle.wot_types.specs.Printing.{fpr_line, pub_line, user_lines}
+use Rattle.wot_types.specs.Selection.{spots_from}
+use Rattle.wot_print.specs.Shown.{shown_key}
+use Rattle.wot_print.proofs.Pieces.{key_letter_found, three_parts}
+use Rattle.wot_print.proofs.Shown.{pub_shown}
+use Rattle.wot_print.proofs.listing.push_keyblock.Goals as goal
+
+pub returns-clause-lines : goal.returns-clause-lines
+returns-clause-lines g c = λ key is head.
+    let s = c.args.engine.now in
+    let id = c.args.id in
+    let old = c.args.text.now.items in
+    let shown = shown_key c.args.head.now in
+    let letter = key_letter s (rows_of s) id key in
+    let kept = ownertrust_of s.trusts key.fpr in
+    let users = flat_map (user_lines s (rows_of s) c.args.sigs id key) (spots_from 0 key.users) in
+    let found = key_letter_found s id key c.unwrap-letter.result is (sym c.key_letter.ensures ∙ c.unwrap-letter.ensures) in
+    let first : c.push_pub.new.text.items ≡ old ++ pub_line letter kept id key =
+    c.in_ok-push_pub.ensures ∙ ap (λ l. old ++ pub_line l c.kept_of-kept.result id shown) found
+    ∙ ap (λ k. old ++ pub_line letter k id shown) (c.kept_of-kept.ensures ∙ (λ i. ownertrust_of (c.trusts.ensures i) (head.fpr i)))
+    ∙ ap (λ l. old ++ l) (pub_shown letter kept id key c.args.head.now head) in
+    let second : c.push_fpr.new.text.items ≡ (old ++ pub_line letter kept id key) ++ fpr_line key.fpr =
+    c.in_ok-push_fpr.ensures ∙ ap (λ l. l ++ fpr_line c.args.head.now.fpr.now) first ∙ ap (λ f. (old ++ pub_line letter kept id key) ++ fpr_line f) head.fpr in
+    c.in_ok-push_users.ensures.lines key is head.users ∙ ap (λ l. l ++ users) second ∙ three_parts old (pub_line letter kept id key) (fpr_line key.fpr) users

@@ -1,0 +1,39 @@
+//! The last line of an accepted command's reply.
+
+ghost use Rattle.std.specs.Prelude.{◌≡◌, IfOk};
+ghost use Rattle.wot_types.specs.Outcome.{entries_line, import_line, ok_line};
+
+use std::alloc::Global;
+use wot_fields::printed::push_number;
+use wot_types::Mem;
+
+/// `ok`, after a command that tells nothing else.
+pub fn ok(alloc: Global) -> Result<Vec<u8>, Mem>
+    ensures { IfOk result (λ text. text.items ≡ ok_line) }
+{
+    Ok(Vec::from_slice(alloc, b"ok\n")?)
+}
+
+/// `ok keys K kept C passed P`, after an import.
+pub fn imported(alloc: Global, keys: u64, kept: u64, passed: u64) -> Result<Vec<u8>, Mem>
+    ensures { IfOk result (λ text. text.items ≡ import_line keys kept passed) }
+{
+    let mut text = Vec::from_slice(alloc, b"ok keys ")?;
+    push_number(alloc, &mut text, keys)?;
+    text.extend_from_slice(b" kept ")?;
+    push_number(alloc, &mut text, kept)?;
+    text.extend_from_slice(b" passed ")?;
+    push_number(alloc, &mut text, passed)?;
+    text.push(b'\n')?;
+    Ok(text)
+}
+
+/// `ok entries E`, after an ownertrust text.
+pub fn set(alloc: Global, entries: u64) -> Result<Vec<u8>, Mem>
+    ensures { IfOk result (λ text. text.items ≡ entries_line entries) }
+{
+    let mut text = Vec::from_slice(alloc, b"ok entries ")?;
+    push_number(alloc, &mut text, entries)?;
+    text.push(b'\n')?;
+    Ok(text)
+}

@@ -1,0 +1,79 @@
+//! Fields at the end of a line that is being printed, each with the colon after it.
+
+ghost use Rattle.std.specs.Prelude.{◌≡◌, ◌++◌, OnOk};
+ghost use Rattle.hex.specs.Hex.{encode_upper};
+ghost use Rattle.wot_types.specs.Printing.{ended_field, expiry_field, key_id_text, number_field, scope_text};
+ghost use Rattle.wot_types.specs.Quotes.{printed};
+
+use std::alloc::Global;
+use wot_fields::printed::{push_hex, push_number};
+use wot_fields::quote::quote;
+use wot_types::{KeyId, Mem, Text};
+
+pub fn push_field(text: &mut Vec<u8>, field: &[u8]) -> Result<(), Mem>
+    ensures { OnOk result (text.new.items ≡ text.old.items ++ ended_field field.now) }
+{
+    text.extend_from_slice(field)?;
+    text.push(b':')?;
+    Ok(())
+}
+
+pub fn push_number_field(alloc: Global, text: &mut Vec<u8>, number: u32) -> Result<(), Mem>
+    ensures { OnOk result (text.new.items ≡ text.old.items ++ number_field number) }
+{
+    push_number(alloc, text, u64::from(number))?;
+    text.push(b':')?;
+    Ok(())
+}
+
+/// An expiry, or nothing for none.
+pub fn push_expiry(alloc: Global, text: &mut Vec<u8>, expires: u32) -> Result<(), Mem>
+    ensures { OnOk result (text.new.items ≡ text.old.items ++ expiry_field expires) }
+{
+    if expires == 0 {
+        push_field(text, b"")
+    } else {
+        push_number_field(alloc, text, expires)
+    }
+}
+
+/// Bytes in hexadecimal.
+pub fn push_hex_field(alloc: Global, text: &mut Vec<u8>, bytes: &[u8]) -> Result<(), Mem>
+    ensures { OnOk result (text.new.items ≡ text.old.items ++ ended_field (encode_upper bytes.now)) }
+{
+    push_hex(alloc, text, bytes)?;
+    text.push(b':')?;
+    Ok(())
+}
+
+pub fn push_key_id_field(alloc: Global, text: &mut Vec<u8>, id: KeyId) -> Result<(), Mem>
+    ensures { OnOk result (text.new.items ≡ text.old.items ++ ended_field (key_id_text id)) }
+{
+    push_key_id(alloc, text, id)?;
+    text.push(b':')?;
+    Ok(())
+}
+
+/// A key ID alone, as 16 digits in upper case.
+pub fn push_key_id(alloc: Global, text: &mut Vec<u8>, id: KeyId) -> Result<(), Mem>
+    ensures { OnOk result (text.new.items ≡ text.old.items ++ key_id_text id) }
+{
+    push_hex(alloc, text, id.0.to_be_bytes().as_slice())
+}
+
+pub fn push_quoted_field(alloc: Global, text: &mut Vec<u8>, field: &Text) -> Result<(), Mem>
+    ensures { OnOk result (text.new.items ≡ text.old.items ++ ended_field (printed field.now)) }
+{
+    let quoted = quote(alloc, field)?;
+    push_field(text, quoted.as_bytes())
+}
+
+/// A regular expression, or nothing for none.
+pub fn push_scope(alloc: Global, text: &mut Vec<u8>, scope: &Option<Text>) -> Result<(), Mem>
+    ensures { OnOk result (text.new.items ≡ text.old.items ++ ended_field (scope_text scope.now)) }
+{
+    match scope {
+        Some(scope) => push_quoted_field(alloc, text, scope),
+        None => push_field(text, b""),
+    }
+}

@@ -1,0 +1,18 @@
+//! What the program prints: the keyring as a listing, the ownertrust export, and the lines that answer a command.
+#![tactic(auto)]
+
+mod answers; // the last line of an accepted command's reply
+mod explanation; // why a user ID is as valid as it is
+mod fields; // fields at the end of a line
+mod fits; // the ranges of what is printed
+mod listing; // the keyring, or one key of it
+mod names; // the words that stand for values
+mod ownertrust; // the ownertrust export
+mod records; // the lines of a listing
+mod refusals; // the line of a refused command
+
+pub use answers::{imported, ok, set};
+pub use explanation::why;
+pub use listing::list;
+pub use ownertrust::export;
+pub use refusals::refused;

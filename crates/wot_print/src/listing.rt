@@ -1,0 +1,266 @@
+//! The keyring, or one key of it, as a listing: with the validity of each key and user ID, and with or without certifications.
+
+ghost use Rattle.std.specs.Prelude.{◌≡◌, ◌++◌, ◌<◌, ◌≤◌, All, IfOk, IsSome, IsTrue, None, OnOk, Some, length, slice_get, true};
+ghost use Rattle.std.specs.List.{flat_map};
+ghost use Rattle.std.specs.FinMap as map;
+ghost use Rattle.wot_types.specs.declared.key.Key.{Key};
+ghost use Rattle.wot_types.specs.Arrangement.{spot_at};
+ghost use Rattle.wot_types.specs.Keyring.{cert_total};
+ghost use Rattle.wot_types.specs.Levels.{rows_of};
+ghost use Rattle.wot_types.specs.Listing.{Spells};
+ghost use Rattle.wot_types.specs.Ownertrust.{ownertrust_of};
+ghost use Rattle.wot_types.specs.Printing.{cert_line, key_lines, list_text, listed, user_lines};
+ghost use Rattle.wot_types.specs.Selection.{Spot, spots_from};
+ghost use Rattle.wot_types.specs.Totals.{capped};
+ghost use Rattle.wot_table.specs.Heads.{IsKeyHead, IsUserHead};
+ghost use Rattle.wot_print_laws.specs.Fits.{FitsCert, FitsKey, FitsState, FitsUser};
+ghost use Rattle.wot_print_laws.specs.ListingLines.{listing_lines};
+
+use crate::fits::{cert_fits, key_fits, state_fits, user_fits};
+use crate::records::{push_cert, push_fpr, push_pub, push_tru, push_user};
+use std::alloc::Global;
+use std::marker::Brand;
+use std::sync::ledger::{Blank, Ledger};
+use wot_live::Engine;
+use wot_print_laws::printed_reads_back;
+use wot_table::{KeyHead, Table, UserHead};
+use wot_types::{Fpr, KeyId, Mem, Ownertrust, Steps, Trust, Trusts};
+
+/// All keys in rising order of key ID, or the key that `only` names; a key that isn't there has no lines.
+/// With `sigs` each user ID is followed by its certifications in the block's order.
+pub fn list(alloc: Global, engine: &Engine, only: Option<KeyId>, sigs: bool) -> Result<Vec<u8>, Mem>
+    ensures text { IfOk result (λ text. text.items ≡ list_text engine.now only sigs) }
+    ensures reads_back { only ≡ None → IsTrue sigs
+        → IfOk result (λ text. Spells (listing_lines text.items) (map.values engine.now.keys) (capped (cert_total engine.now.keys)) 0) }
+{
+    // For the clause of reading back: the law, and that each key of the table is well formed.
+    printed_reads_back();
+    let _totals = engine.table().totals();
+    listing_by::<Brand>(alloc, engine, only, sigs, Blank::new(1))
+}
+
+/// The listing, over a counter of its own for the certifications that it reads.
+fn listing_by<L: Ledger>(
+    alloc: Global,
+    engine: &Engine,
+    only: Option<KeyId>,
+    sigs: bool,
+    blank: Blank,
+) -> Result<Vec<u8>, Mem>
+    requires own { (blank.name ≡ L.name) × (blank.parts ≡ L.parts) × (0 < L.parts) }
+    ensures text { IfOk result (λ text. text.items ≡ list_text engine.now only sigs) }
+    ensures fits { only ≡ None → IsTrue sigs → OnOk result (FitsState engine.now) }
+{
+    let mut steps = Steps::<L>::open(blank);
+    let mut text = Vec::new(alloc);
+    push_tru(
+        alloc,
+        &mut text,
+        engine.options(),
+        engine.date(),
+        engine.next_check(),
+    )?;
+    push_listed(alloc, &mut text, engine, only, sigs, &mut steps)?;
+    state_fits(engine);
+    Ok(text)
+}
+
+/// The lines of all keys, or of the one that `only` names.
+fn push_listed<L: Ledger>(
+    alloc: Global,
+    text: &mut Vec<u8>,
+    engine: &Engine,
+    only: Option<KeyId>,
+    sigs: bool,
+    steps: &mut Steps<L>,
+) -> Result<(), Mem>
+    ensures lines { OnOk result (text.new.items ≡ text.old.items ++ flat_map (key_lines engine.now (rows_of engine.now) sigs) (listed engine.now only)) }
+    ensures fits { only ≡ None → IsTrue sigs → OnOk result (All (λ e. FitsKey e.1) (map.entries engine.now.keys)) }
+{
+    match only {
+        Some(id) => push_key(alloc, text, engine, id, sigs, steps),
+        None => push_keys(alloc, text, engine, sigs, steps),
+    }
+}
+
+/// The lines of all keys.
+fn push_keys<L: Ledger>(
+    alloc: Global,
+    text: &mut Vec<u8>,
+    engine: &Engine,
+    sigs: bool,
+    steps: &mut Steps<L>,
+) -> Result<(), Mem>
+    ensures lines { OnOk result (text.new.items ≡ text.old.items ++ flat_map (key_lines engine.now (rows_of engine.now) sigs) (listed engine.now None)) }
+    ensures fits { IsTrue sigs → OnOk result (All (λ e. FitsKey e.1) (map.entries engine.now.keys)) }
+{
+    let mut after = None;
+    while let Some(id) = engine.table().next_key(after) {
+        // A key ID has 64 bits, so the walk ends.
+        let _ = id.0;
+        push_key(alloc, text, engine, id, sigs, steps)?;
+        after = Some(id);
+    }
+    Ok(())
+}
+
+/// The lines of the key of a key ID, if it is there.
+fn push_key<L: Ledger>(
+    alloc: Global,
+    text: &mut Vec<u8>,
+    engine: &Engine,
+    id: KeyId,
+    sigs: bool,
+    steps: &mut Steps<L>,
+) -> Result<(), Mem>
+    ensures lines { OnOk result (text.new.items ≡ text.old.items ++ flat_map (key_lines engine.now (rows_of engine.now) sigs) (listed engine.now (Some id))) }
+    ensures fits { (key : Key) → map.get engine.now.keys id ≡ Some key → IsTrue sigs → OnOk result (FitsKey key) }
+{
+    match engine.table().key(id) {
+        Some(key) => push_keyblock(alloc, text, engine, id, &key, sigs, steps),
+        None => Ok(()),
+    }
+}
+
+/// The lines of the key with this head.
+fn push_keyblock<L: Ledger>(
+    alloc: Global,
+    text: &mut Vec<u8>,
+    engine: &Engine,
+    id: KeyId,
+    head: &KeyHead<'_>,
+    sigs: bool,
+    steps: &mut Steps<L>,
+) -> Result<(), Mem>
+    requires there { IsSome (map.get engine.now.keys id) }
+    ensures lines { (key : Key) → map.get engine.now.keys id ≡ Some key → IsKeyHead key head.now
+        → OnOk result (text.new.items ≡ text.old.items ++ key_lines engine.now (rows_of engine.now) sigs (id, key)) }
+    ensures fits { (key : Key) → map.get engine.now.keys id ≡ Some key → IsKeyHead key head.now
+        → IsTrue sigs → OnOk result (FitsKey key) }
+{
+    let letter = engine.key_letter(id).unwrap();
+    let kept = kept_of(engine.trusts(), head.fpr);
+    push_pub(alloc, text, letter, kept, id, head)?;
+    push_fpr(alloc, text, head.fpr)?;
+    push_users(alloc, text, engine, id, head.users, sigs, steps)?;
+    key_fits(head);
+    Ok(())
+}
+
+/// What is kept of a fingerprint.
+fn kept_of(trusts: &Trusts, fpr: &Fpr) -> Ownertrust
+    ensures { result ≡ ownertrust_of trusts.now fpr.now }
+{
+    trusts.ownertrust(fpr).unwrap_or(Ownertrust {
+        trust: Trust::Unknown,
+        disabled: false,
+    })
+}
+
+/// The lines of a key's user IDs, of which there are so many.
+fn push_users<L: Ledger>(
+    alloc: Global,
+    text: &mut Vec<u8>,
+    engine: &Engine,
+    id: KeyId,
+    users: u32,
+    sigs: bool,
+    steps: &mut Steps<L>,
+) -> Result<(), Mem>
+    ensures lines { (key : Key) → map.get engine.now.keys id ≡ Some key → users ≡ length key.users
+        → OnOk result (text.new.items ≡ text.old.items ++ flat_map (user_lines engine.now (rows_of engine.now) sigs id key) (spots_from 0 key.users)) }
+    ensures fits { (key : Key) → map.get engine.now.keys id ≡ Some key → users ≡ length key.users
+        → IsTrue sigs → OnOk result (All FitsUser key.users) }
+{
+    for user in 0..users {
+        push_user_at(alloc, text, engine, id, user, sigs, steps)?;
+    }
+    Ok(())
+}
+
+/// The lines of a user ID, numbered from 0, if it is there.
+fn push_user_at<L: Ledger>(
+    alloc: Global,
+    text: &mut Vec<u8>,
+    engine: &Engine,
+    id: KeyId,
+    user: u32,
+    sigs: bool,
+    steps: &mut Steps<L>,
+) -> Result<(), Mem>
+    ensures lines { (key : Key) (spot : Spot) → map.get engine.now.keys id ≡ Some key → slice_get (spots_from 0 key.users) user ≡ Some spot
+        → OnOk result (text.new.items ≡ text.old.items ++ user_lines engine.now (rows_of engine.now) sigs id key spot) }
+    ensures fits { (key : Key) (spot : Spot) → map.get engine.now.keys id ≡ Some key → slice_get (spots_from 0 key.users) user ≡ Some spot
+        → IsTrue sigs → OnOk result (FitsUser spot.user) }
+{
+    match engine.table().user(id, user) {
+        Some(head) => push_user_block(alloc, text, engine, id, user, &head, sigs, steps),
+        None => Ok(()),
+    }
+}
+
+/// The lines of the user ID with this head.
+fn push_user_block<L: Ledger>(
+    alloc: Global,
+    text: &mut Vec<u8>,
+    engine: &Engine,
+    id: KeyId,
+    user: u32,
+    head: &UserHead<'_>,
+    sigs: bool,
+    steps: &mut Steps<L>,
+) -> Result<(), Mem>
+    requires there { IsSome (spot_at engine.now.keys id user) }
+    ensures lines { (key : Key) (spot : Spot) → map.get engine.now.keys id ≡ Some key → slice_get (spots_from 0 key.users) user ≡ Some spot → IsUserHead spot.user head.now
+        → OnOk result (text.new.items ≡ text.old.items ++ user_lines engine.now (rows_of engine.now) sigs id key spot) }
+    ensures fits { (key : Key) (spot : Spot) → map.get engine.now.keys id ≡ Some key → slice_get (spots_from 0 key.users) user ≡ Some spot → IsUserHead spot.user head.now
+        → IsTrue sigs → OnOk result (FitsUser spot.user) }
+{
+    let letter = engine.letter(id, user).unwrap();
+    push_user(alloc, text, letter, head)?;
+    if sigs {
+        push_certs(alloc, text, engine.table(), id, user, steps)?;
+    }
+    user_fits(head);
+    Ok(())
+}
+
+/// The lines of the certifications on a user ID, in the block's order.
+fn push_certs<L: Ledger>(
+    alloc: Global,
+    text: &mut Vec<u8>,
+    table: &Table,
+    id: KeyId,
+    user: u32,
+    steps: &mut Steps<L>,
+) -> Result<(), Mem>
+    requires there { IsSome (spot_at table.now id user) }
+    ensures lines { (spot : Spot) → spot_at table.now id user ≡ Some spot
+        → OnOk result (text.new.items ≡ text.old.items ++ flat_map (λ placed. cert_line placed.cert) spot.certs) }
+    ensures fits { (spot : Spot) → spot_at table.now id user ≡ Some spot
+        → OnOk result (All (λ placed. FitsCert placed.cert) spot.certs) }
+{
+    let certs = table.certs_in_order(id, user, steps)?;
+    for placed in certs.iter() {
+        cert_fits(&placed.cert);
+        push_cert(alloc, text, &placed.cert)?;
+    }
+    Ok(())
+}
+
+#[cfg(test)]
+mod tests {
+    use super::*;
+    use std::test::Fail;
+
+    #[test]
+    fn lists_no_keys(rt: HostRuntime) -> Result<(), Fail> {
+        let alloc = rt.alloc();
+        let engine = Engine::new(alloc)?;
+        for (only, sigs) in [(None, false), (None, true), (Some(KeyId(7)), true)] {
+            let text = list(alloc, &engine, only, sigs)?;
+            assert_eq!(rt; text.as_slice(), b"tru::1:0:0:3:1:5\n".as_slice());
+        }
+        Ok(())
+    }
+}

@@ -1,0 +1,146 @@
+//! The lines of a listing, each by what it shows (doc/DETAILS).
+
+ghost use Rattle.std.specs.Prelude.{◌≡◌, ◌++◌, OnOk};
+ghost use Rattle.wot_types.specs.Printing.{capabilities_text, cert_line, class_text, depth_text, ended_field, fpr_line, pub_line, tru_line, user_line};
+ghost use Rattle.wot_print.specs.Shown.{shown_key, shown_user};
+
+use crate::fields::{
+    push_expiry, push_field, push_hex_field, push_key_id_field, push_number_field,
+    push_quoted_field, push_scope,
+};
+use crate::names::{cert_name, kind_text, letter_text, model_text, trust_text};
+use std::alloc::Global;
+use wot_fields::printed::push_number;
+use wot_table::{KeyHead, UserHead};
+use wot_types::{Cert, Fpr, KeyId, Letter, Mem, Options, Ownertrust, Text};
+
+/// `tru::MODEL:DATE:NEXT:MARGINALS:COMPLETES:DEPTH`
+pub fn push_tru(
+    alloc: Global,
+    text: &mut Vec<u8>,
+    options: &Options,
+    date: u32,
+    next: u32,
+) -> Result<(), Mem>
+    ensures { OnOk result (text.new.items ≡ text.old.items ++ tru_line options.now date next) }
+{
+    text.extend_from_slice(b"tru::")?;
+    push_field(text, model_text(options))?;
+    push_number_field(alloc, text, date)?;
+    push_number_field(alloc, text, next)?;
+    push_number_field(alloc, text, options.marginals)?;
+    push_number_field(alloc, text, options.completes)?;
+    push_number(alloc, text, u64::from(options.depth))?;
+    text.push(b'\n')?;
+    Ok(())
+}
+
+/// `pub:LETTER:BITS:ALGO:KEYID:MADE:EXP::OWNERTRUST:::CAPS:`
+pub fn push_pub(
+    alloc: Global,
+    text: &mut Vec<u8>,
+    letter: Letter,
+    kept: Ownertrust,
+    id: KeyId,
+    key: &KeyHead<'_>,
+) -> Result<(), Mem>
+    ensures { OnOk result (text.new.items ≡ text.old.items ++ pub_line letter kept id (shown_key key.now)) }
+{
+    text.extend_from_slice(b"pub:")?;
+    push_field(text, letter_text(letter))?;
+    push_number_field(alloc, text, key.bits)?;
+    push_number_field(alloc, text, key.algo)?;
+    push_key_id_field(alloc, text, id)?;
+    push_number_field(alloc, text, key.made)?;
+    push_expiry(alloc, text, key.expires)?;
+    text.push(b':')?;
+    push_field(text, trust_text(kept.trust))?;
+    text.extend_from_slice(b"::")?;
+    push_capabilities(text, key.caps, kept.disabled)?;
+    text.push(b'\n')?;
+    Ok(())
+}
+
+/// The capabilities, with `D` where the key is disabled.
+fn push_capabilities(text: &mut Vec<u8>, caps: &Text, disabled: bool) -> Result<(), Mem>
+    ensures { OnOk result (text.new.items ≡ text.old.items ++ ended_field (capabilities_text disabled caps.now)) }
+{
+    text.extend_from_slice(caps.as_bytes())?;
+    if disabled {
+        text.push(b'D')?;
+    }
+    text.push(b':')?;
+    Ok(())
+}
+
+/// `fpr:::::::::FINGERPRINT:`
+pub fn push_fpr(alloc: Global, text: &mut Vec<u8>, fpr: &Fpr) -> Result<(), Mem>
+    ensures { OnOk result (text.new.items ≡ text.old.items ++ fpr_line fpr.now) }
+{
+    text.extend_from_slice(b"fpr:::::::::")?;
+    push_hex_field(alloc, text, fpr.as_bytes())?;
+    text.push(b'\n')?;
+    Ok(())
+}
+
+/// `uid:LETTER::::MADE:EXP:HASH::TEXT:`
+pub fn push_user(
+    alloc: Global,
+    text: &mut Vec<u8>,
+    letter: Letter,
+    user: &UserHead<'_>,
+) -> Result<(), Mem>
+    ensures { OnOk result (text.new.items ≡ text.old.items ++ user_line letter (shown_user user.now)) }
+{
+    push_field(text, kind_text(user.kind))?;
+    push_field(text, letter_text(letter))?;
+    text.extend_from_slice(b":::")?;
+    push_number_field(alloc, text, user.made)?;
+    push_expiry(alloc, text, user.expires)?;
+    push_field(text, user.hash.as_bytes())?;
+    text.push(b':')?;
+    push_quoted_field(alloc, text, user.text)?;
+    text.push(b'\n')?;
+    Ok(())
+}
+
+/// `sig:!:::ISSUER:MADE:EXP:TRUST:SCOPE::CLASS:`
+pub fn push_cert(alloc: Global, text: &mut Vec<u8>, cert: &Cert) -> Result<(), Mem>
+    ensures { OnOk result (text.new.items ≡ text.old.items ++ cert_line cert.now) }
+{
+    push_field(text, cert_name(cert))?;
+    text.extend_from_slice(b"!:::")?;
+    push_key_id_field(alloc, text, cert.issuer)?;
+    push_number_field(alloc, text, cert.made)?;
+    push_expiry(alloc, text, cert.expires)?;
+    push_depth(alloc, text, cert)?;
+    push_scope(alloc, text, &cert.scope)?;
+    text.push(b':')?;
+    push_class(alloc, text, cert)?;
+    text.push(b'\n')?;
+    Ok(())
+}
+
+/// The depth and the amount of a trust signature, or nothing where both are 0.
+fn push_depth(alloc: Global, text: &mut Vec<u8>, cert: &Cert) -> Result<(), Mem>
+    ensures { OnOk result (text.new.items ≡ text.old.items ++ ended_field (depth_text cert.now)) }
+{
+    if cert.depth != 0 || cert.amount != 0 {
+        push_number(alloc, text, u64::from(cert.depth))?;
+        text.push(b' ')?;
+        push_number(alloc, text, u64::from(cert.amount))?;
+    }
+    text.push(b':')?;
+    Ok(())
+}
+
+/// The class in two digits, and `l` where the certification is local, else `x`.
+fn push_class(alloc: Global, text: &mut Vec<u8>, cert: &Cert) -> Result<(), Mem>
+    ensures { OnOk result (text.new.items ≡ text.old.items ++ ended_field (class_text cert.now)) }
+{
+    let digits = hex::encode(alloc, &[cert.class])?;
+    text.extend_from_slice(digits.as_bytes())?;
+    text.push(if cert.local { b'l' } else { b'x' })?;
+    text.push(b':')?;
+    Ok(())
+}

@@ -1,0 +1,12 @@
+pub mod Parts
+pub mod Values
+pub mod Texts
+pub mod PrintedLines
+pub mod RunLemmas
+pub mod BlockLemmas
+pub mod FaultLemmas
+pub mod WholeLemmas
+pub mod MarkLemmas
+pub mod PrintedText
+pub mod CountLemmas
+pub mod Reading

@@ -1,0 +1,2 @@
+pub mod ListingLines
+pub mod Fits

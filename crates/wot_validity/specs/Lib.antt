@@ -1,4 +1,0 @@
-pub mod Certifiers
-pub mod ListingLines
-pub mod PlainLevels
-pub mod Soonest
