@@ -1,32 +1,49 @@
-//! `wot`: a web of trust engine after GnuPG's, over standard input and output.
+//! `wot`: a web of trust engine after GnuPG's, over standard input and output and two files of the current folder.
 #![tactic(auto)]
 
-ghost use Rattle.std.specs.Prelude.{◌≡◌};
+ghost use Rattle.std.specs.Prelude.{◌≡◌, ℕ, List, Some, None, map, string_bytes};
 ghost use Rattle.std.specs.Process.{exit_status};
-ghost use Rattle.wot_session.specs.Status.{code_of};
+ghost use Rattle.wot_site.specs.Seen.{Honestly};
+ghost use Rattle.wot_session.specs.Run.{HasCauses, Ran, longest_input};
+ghost use Rattle.wot_session.specs.Status.{code_of, line_of};
+ghost use Rattle.wot_session.specs.declared.status.Status as status;
+ghost use Rattle.wot_words.specs.ProgramWords.{command_words};
 
-use std::alloc::AllocError;
+use std::alloc::{AllocError, Global};
 use std::env::Env;
 use std::io::{ErrorKind, writer};
 use std::process::ExitCode;
 use std::{env, io};
 use wot_file::FileSite;
 use wot_session::{Status, run};
+use wot_site::Site;
 
 /// The exit code where the system does not give the program its words; no status has it.
 const NO_WORDS: u8 = 9;
 
+/// How the program ends: what standard error is told, if anything, and the exit code.
+struct End<'a> {
+    line: &'a str,
+    code: ExitCode,
+}
+
 fn main(rt: HostRuntime) -> ExitCode {
     match words(&rt) {
         Ok(words) => {
-            let mut site = FileSite::new(rt.reader(), writer(&rt));
-            end(&rt, run(rt.alloc(), &words, &mut site))
+            let mut site = FileSite::new(&rt, rt.reader(), writer(&rt));
+            leave(&rt, session(rt.alloc(), &words, &mut site))
         }
-        Err(fault) if fault.kind() == ErrorKind::OutOfMemory => end(&rt, Status::Memory),
-        Err(_) => {
-            let _ = rt.eprintln("wot: no words");
-            ExitCode::from(NO_WORDS)
-        }
+        Err(fault) if fault.kind() == ErrorKind::OutOfMemory => leave(
+            &rt,
+            end_with(Status::Memory),
+        ),
+        Err(_) => leave(
+            &rt,
+            End {
+                line: "wot: no words",
+                code: ExitCode::from(NO_WORDS),
+            },
+        ),
     }
 }
 
@@ -39,13 +56,36 @@ fn words(rt: &(impl Env + AllocGlobal)) -> io::Result<Vec<String>> {
     Ok(words)
 }
 
-/// Prints the status's line, if it has one, and ends with its code.
-fn end(rt: &impl Eprint, status: Status) -> ExitCode
-    ensures { exit_status result ≡ code_of status }
+/// All that the program does once it has its words and its outside.
+fn session<'a, S: Site>(alloc: Global, words: &'a [String], site: &mut S) -> End<'a>
+    // There is a status with this line and this code, and the run is one that ends with it.
+    ensures run { (s : status.Status) × (result.line.now ≡ line_of s) × (exit_status result.code ≡ code_of s)
+        × HasCauses (S.faults site.old) (S.faults site.new) s
+        × ((command : List (List ℕ)) → command_words (map string_bytes words.now) ≡ Some command
+        → Honestly (S.seen site.old) (S.seen site.new) (Ran command longest_input s)) }
+    ensures untouched { command_words (map string_bytes words.now) ≡ None → site.new ≡ site.old }
 {
-    let line = status.line();
+    end_with(run(alloc, words, site))
+}
+
+/// The end of a run with this status.
+fn end_with<'a>(status: Status) -> End<'a>
+    ensures line { result.line.now ≡ line_of status }
+    ensures code { exit_status result.code ≡ code_of status }
+{
+    End {
+        line: status.line(),
+        code: ExitCode::from(status.code()),
+    }
+}
+
+/// Tells standard error the line, if there is one, and gives the code.
+fn leave(rt: &impl Eprint, end: End<'_>) -> ExitCode
+    ensures { result ≡ end.entry.code }
+{
+    let End { line, code } = end;
     if !line.is_empty() {
         let _ = rt.eprintln(line);
     }
-    ExitCode::from(status.code())
+    code
 }

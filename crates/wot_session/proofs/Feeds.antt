@@ -1,45 +1,119 @@
 -- How far bytes have been fed to a session.
-use Rattle.std.proofs.Common.{◌≡◌, ℕ, List, [], ◌∷◌, ◌++◌, Option, Some, refl, sym, ap, ◌∙◌, append_assoc}
+use Rattle.std.proofs.Common.{◌≡◌, ℕ, List, [], ◌∷◌, ◌++◌, Option, Some, None, refl, sym, ap, ◌∙◌, append_assoc, subst}
 use Rattle.std.proofs.lemmas.List.{append-nil}
 use Rattle.std.specs.List.{slice_split}
 use Rattle.wot_types.specs.Lines.{is_newline}
-use Rattle.wot_session.specs.LineByLine.{Standing, after_lines}
-use Rattle.wot_site.specs.Seen.{Seen, Honestly}
-use Rattle.wot_site.proofs.Honest.{honest_start, honest_then, honest_weaker}
+use Rattle.wot_types.specs.Commands as lines
+use Rattle.wot_types.specs.Commands.{Command, ReadLine, cut_after, made_by, whole_commands}
+use Rattle.wot_types.specs.Commands.Cut.{between, over, within}
+use Rattle.wot_types.specs.LineByLine.{Position, after_line, after_lines, commands_in}
+use Rattle.wot_types.specs.Session.{after_all}
+use Rattle.wot_types.proofs.Cuts.{after_one, lines_append, none_over, one_line, stays_over, whole_append}
+use Rattle.wot_answer.specs.Answer.{IsCut}
+use Rattle.wot_answer.specs.declared.answer.Cut.{Cut}
+use Rattle.wot_answer.specs.declared.answer.Cut.TheVariants.{Between, Over, Within}
+use Rattle.wot_site.specs.Seen.{Seen, Honestly, IfHonest}
+use Rattle.wot_site.proofs.Honest.{honest_then, honest_weaker}
 use Rattle.wot_session.specs.declared.session.Session.{Session}
 use Rattle.wot_session.specs.Fed.{more, whole_from, open_from}
-use Rattle.wot_session.specs.Standing.{IsAt}
-use Rattle.wot_session.specs.Told.{Said, SaidFront}
+use Rattle.wot_session.specs.Here.{Holds, IsAt, IsHere, IsOver}
+use Rattle.wot_session.specs.declared.stop.Stop.{Stop}
+use Rattle.wot_session.specs.declared.stop.Stop.TheVariants.{Memory}
+use Rattle.wot_session.specs.Told.{Said, SaidPrefix}
 use Rattle.wot_session.proofs.Parts.{whole_at, open_at, whole_none, open_none}
-use Rattle.wot_session.proofs.Outputs.{after_append}
-use Rattle.wot_session.proofs.Sayings.{said_none, said_then, said_then_front, said_front, said_front_more}
+use Rattle.wot_session.proofs.Sayings.{said_none, said_prefix, said_prefix_more, said_then, said_then_prefix}
+
+-- a session that is over stands behind `quit`
+pub over_is : (cut : lines.Cut) → IsCut Over cut → cut ≡ over
+over_is between is = absurd is
+over_is (within command) is = absurd is
+over_is over is = refl
+
+pub is_over : (session : Session) (p : Position) → IsAt session p → IsOver session → p.cut ≡ over
+is_over session p at ended = over_is p.cut (subst (λ cut. IsCut cut p.cut) ended at.cut)
+
+over_cut : (cut : Cut) → IsCut cut over → cut ≡ Over
+over_cut Between is = absurd is
+over_cut (Within block) is = absurd is
+over_cut Over is = refl
+
+pub not_over : (session : Session) (p : Position) → IsAt session p → (IsOver session → ⊥) → p.cut ≡ over → ⊥
+not_over session p at goes is = goes (over_cut session.cut (subst (IsCut session.cut) is at.cut))
+
+-- behind `quit` lines change nothing
+pub over_commands : (p : Position) (lines : List ReadLine) → p.cut ≡ over → commands_in p lines ≡ []
+over_commands p lines is = ap (λ cut. whole_commands cut lines) is ∙ none_over lines
+
+pub over_lines : (p : Position) (lines : List ReadLine) → p.cut ≡ over → after_lines p lines ≡ p
+over_lines p lines is =
+    ap (λ commands. record { progress = after_all p.progress commands; cut = cut_after p.cut lines }) (over_commands p lines is)
+    ∙ ap (λ cut. record { progress = p.progress; cut = cut }) (ap (λ cut. cut_after cut lines) is ∙ stays_over lines ∙ sym is)
+
+-- one line more
+pub after_push : (p : Position) (xs : List ReadLine) (line : ReadLine) → after_lines p (xs ++ line ∷ []) ≡ after_line (after_lines p xs) line
+after_push p xs line = lines_append p xs (line ∷ []) ∙ after_one (after_lines p xs) line
+
+pub commands_push : (p : Position) (xs : List ReadLine) (line : ReadLine) → commands_in p (xs ++ line ∷ []) ≡ commands_in p xs ++ made_by (after_lines p xs).cut line
+commands_push p xs line = whole_append p.cut xs (line ∷ []) ∙ ap (λ last. commands_in p xs ++ last) (one_line (after_lines p xs).cut line)
 
 -- these bytes were given to a session at its start, the rest of them is to be fed, and the lines before it are done
 pub record Feeding (first now : Option Seen) (start session : Session) (bytes rest : List ℕ) : Type 0 where
-  pub done : List (Option (List ℕ))
-  pub at : (p : Standing) → IsAt start p → IsAt session (after_lines p done)
-  pub said : (p : Standing) → IsAt start p → Honestly first now (Said p done)
+  pub done : List ReadLine
+  pub at : (p : Position) → IsHere start first p → IsHere session now (after_lines p done)
+  pub said : (p : Position) → IsHere start first p → Honestly first now (Said p.progress (commands_in p done))
   pub whole : done ++ whole_from session.line rest ≡ whole_from start.line bytes
   pub line : open_from session.line rest ≡ open_from start.line bytes
+
+pub start_said : (p : Position) (a : Option Seen) → Holds a p.progress.store → Honestly a a (Said p.progress [])
+start_said p None holds = tt
+start_said p (Some x) holds = said_none p.progress x holds
 
 pub feeding_start : (a : Option Seen) (session : Session) (bytes : List ℕ) → Feeding a a session session bytes bytes
 feeding_start a session bytes = record {
   done = [];
-  at = λ p h. h;
-  said = λ p h. honest_start _ a (said_none p);
+  at = λ p here. here;
+  said = λ p here. start_said p a here.holds;
   whole = refl;
   line = refl;
 }
 
+-- a step, and what is known after it
+pub said_known : (P : Seen → Seen → Type 0) (K : Seen → Type 0) (a b : Option Seen) → Honestly a b P → IfHonest b K → Honestly a b (λ x y. P x y × K y)
+said_known P K None None step known = tt
+said_known P K None (Some y) step known = absurd step
+said_known P K (Some x) None step known = absurd step
+said_known P K (Some x) (Some y) step known = (step, known)
+
 module _ {first now : Option Seen} {start session : Session} {bytes rest : List ℕ} (feeding : Feeding first now start session bytes rest) where
+  all_commands : (p : Position) → commands_in p (whole_from start.line bytes) ≡ commands_in p feeding.done ++ commands_in (after_lines p feeding.done) (whole_from session.line rest)
+  all_commands p = ap (commands_in p) (sym feeding.whole) ∙ whole_append p.cut feeding.done (whole_from session.line rest)
+
   -- no memory for the next line
-  pub feeding_stop : (p : Standing) → IsAt start p → Honestly first now (SaidFront p (whole_from start.line bytes))
+  pub feeding_stop : (p : Position) → IsHere start first p → Honestly first now (SaidPrefix p.progress (commands_in p (whole_from start.line bytes)) Memory)
   feeding_stop p here =
-      honest_weaker _ _ first now (feeding.said p here)
-      (λ x y said. rw feeding.whole at (said_front p feeding.done (whole_from session.line rest) x y said))
+      honest_weaker _ _ first now (said_known _ _ first now (feeding.said p here) (feeding.at p here).holds)
+      (λ x y both. subst (λ commands. SaidPrefix p.progress commands Memory x y) (sym (all_commands p))
+      (said_prefix p.progress (commands_in p feeding.done) (commands_in (after_lines p feeding.done) (whole_from session.line rest)) x y both.0 both.1))
+
+  -- `quit` came, and the rest of the bytes is passed
+  module _ (ended : IsOver session) where
+    pub over_at : (p : Position) → IsHere start first p → IsHere session now (after_lines p (whole_from start.line bytes))
+    over_at p here =
+        let same = over_lines (after_lines p feeding.done) (whole_from session.line rest) (is_over session _ (feeding.at p here).at ended) in
+        subst (IsHere session now) (sym same ∙ sym (lines_append p feeding.done (whole_from session.line rest)) ∙ ap (after_lines p) feeding.whole) (feeding.at p here)
+
+    pub over_said : (p : Position) → IsHere start first p → Honestly first now (Said p.progress (commands_in p (whole_from start.line bytes)))
+    over_said p here =
+        let none = over_commands (after_lines p feeding.done) (whole_from session.line rest) (is_over session _ (feeding.at p here).at ended) in
+        honest_weaker _ _ first now (feeding.said p here)
+        (λ x y said. subst (λ commands. Said p.progress commands x y)
+        (sym (append-nil (commands_in p feeding.done)) ∙ ap (λ last. commands_in p feeding.done ++ last) (sym none) ∙ sym (all_commands p)) said)
 
   module _ (held : Session) (part after : List ℕ) (split : slice_split is_newline rest ≡ part ∷ slice_split is_newline after)
-      (line : held.line ≡ more session.line part) (held_at : (p : Standing) → IsAt session p → IsAt held p) where
+      (line : held.line ≡ more session.line part) (held_at : (p : Position) → IsAt session p → IsAt held p) where
+    held_here : (p : Position) → IsHere start first p → IsHere held now (after_lines p feeding.done)
+    held_here p here = record { at = held_at _ (feeding.at p here).at; holds = (feeding.at p here).holds }
+
     next_whole : feeding.done ++ held.line ∷ [] ++ whole_from (Some []) after ≡ whole_from start.line bytes
     next_whole =
         append_assoc feeding.done (held.line ∷ []) (whole_from (Some []) after)
@@ -49,26 +123,34 @@ module _ {first now : Option Seen} {start session : Session} {bytes rest : List 
 
     -- the next line was held and answered
     pub feeding_more : (next : Option Seen) (answered : Session)
-        → ((p : Standing) → IsAt held p → IsAt answered (after_lines p (held.line ∷ [])))
+        → ((p : Position) → IsHere held now p → IsHere answered next (after_line p held.line))
         → answered.line ≡ Some []
-        → ((p : Standing) → IsAt held p → Honestly now next (Said p (held.line ∷ [])))
+        → ((p : Position) → IsHere held now p → Honestly now next (Said p.progress (made_by p.cut held.line)))
         → Feeding first next start answered bytes after
     feeding_more next answered at clear said = record {
       done = feeding.done ++ held.line ∷ [];
-      at = λ p here. rw (after_append p feeding.done (held.line ∷ [])) (at (after_lines p feeding.done) (held_at _ (feeding.at p here)));
-      said = λ p here. honest_then _ _ _ first now next (feeding.said p here) (said (after_lines p feeding.done) (held_at _ (feeding.at p here)))
-          (λ x y z. said_then p feeding.done (held.line ∷ []) x y z);
+      at = λ p here. subst (IsHere answered next) (sym (after_push p feeding.done held.line)) (at (after_lines p feeding.done) (held_here p here));
+      said = λ p here. honest_then _ _ _ first now next (feeding.said p here) (said (after_lines p feeding.done) (held_here p here))
+          (λ x y z before after. subst (λ commands. Said p.progress commands x z) (sym (commands_push p feeding.done held.line))
+          (said_then p.progress (commands_in p feeding.done) (made_by (after_lines p feeding.done).cut held.line) x y z before after));
       whole = ap (λ line. feeding.done ++ held.line ∷ [] ++ whole_from line after) clear ∙ next_whole;
       line = ap (λ line. open_from line after) clear ∙ sym (open_at session.line rest part after split) ∙ feeding.line;
     }
 
-    -- its reply was told in part
-    pub feeding_cut : (next : Option Seen) → ((p : Standing) → IsAt held p → Honestly now next (SaidFront p (held.line ∷ [])))
-        → (p : Standing) → IsAt start p → Honestly first next (SaidFront p (whole_from start.line bytes))
-    feeding_cut next front p here =
-        honest_then _ _ _ first now next (feeding.said p here) (front (after_lines p feeding.done) (held_at _ (feeding.at p here)))
-        (λ x y z before cut. rw next_whole at (said_front_more p (feeding.done ++ held.line ∷ []) (whole_from (Some []) after) x z
-        (said_then_front p feeding.done (held.line ∷ []) x y z before cut)))
+    -- it stopped there
+    pub feeding_cut : (next : Option Seen) (stop : Stop)
+        → ((p : Position) → IsHere held now p → Honestly now next (SaidPrefix p.progress (made_by p.cut held.line) stop))
+        → (p : Position) → IsHere start first p → Honestly first next (SaidPrefix p.progress (commands_in p (whole_from start.line bytes)) stop)
+    feeding_cut next stop prefix p here =
+        let line = made_by (after_lines p feeding.done).cut held.line in
+        let others = commands_in (after_lines p (feeding.done ++ held.line ∷ [])) (whole_from (Some []) after) in
+        let split : commands_in p (whole_from start.line bytes) ≡ (commands_in p feeding.done ++ line) ++ others =
+        ap (commands_in p) (sym next_whole) ∙ whole_append p.cut (feeding.done ++ held.line ∷ []) (whole_from (Some []) after)
+        ∙ ap (λ front. front ++ others) (commands_push p feeding.done held.line) in
+        honest_then _ _ _ first now next (feeding.said p here) (prefix (after_lines p feeding.done) (held_here p here))
+        (λ x y z before cut. subst (λ commands. SaidPrefix p.progress commands stop x z) (sym split)
+        (said_prefix_more p.progress (commands_in p feeding.done ++ line) others x z stop
+        (said_then_prefix p.progress (commands_in p feeding.done) line x y stop z before cut)))
 
   -- no line ends in the rest
   module _ (unended : slice_split is_newline rest ≡ rest ∷ []) where
@@ -76,12 +158,13 @@ module _ {first now : Option Seen} {start session : Session} {bytes rest : List 
     all_done =
         sym (append-nil feeding.done) ∙ ap (λ lines. feeding.done ++ lines) (sym (whole_none session.line rest unended)) ∙ feeding.whole
 
-    pub fed_at : (held : Session) → ((p : Standing) → IsAt session p → IsAt held p)
-        → (p : Standing) → IsAt start p → IsAt held (after_lines p (whole_from start.line bytes))
-    fed_at held held_at p here = rw all_done at (held_at _ (feeding.at p here))
+    pub fed_at : (held : Session) → ((p : Position) → IsAt session p → IsAt held p)
+        → (p : Position) → IsHere start first p → IsHere held now (after_lines p (whole_from start.line bytes))
+    fed_at held held_at p here =
+        subst (λ lines. IsHere held now (after_lines p lines)) all_done (record { at = held_at _ (feeding.at p here).at; holds = (feeding.at p here).holds })
 
     pub fed_line : open_from start.line bytes ≡ more session.line rest
     fed_line = sym feeding.line ∙ open_none session.line rest unended
 
-    pub fed_said : (p : Standing) → IsAt start p → Honestly first now (Said p (whole_from start.line bytes))
-    fed_said p here = rw all_done at (feeding.said p here)
+    pub fed_said : (p : Position) → IsHere start first p → Honestly first now (Said p.progress (commands_in p (whole_from start.line bytes)))
+    fed_said p here = honest_weaker _ _ first now (feeding.said p here) (λ x y said. subst (λ lines. Said p.progress (commands_in p lines) x y) all_done said)

@@ -1,16 +1,14 @@
-pub mod Answering
-pub mod Blocks
-pub mod Closings
-pub mod Cuts
-pub mod Feeds
-pub mod LineLemmas
-pub mod Looping
-pub mod Outputs
-pub mod Parts
-pub mod Replies
-pub mod Runs
-pub mod Sayings
-pub mod Single
-pub mod Splits
-pub mod Texts
-pub mod Turns
+mod Feeds
+mod Givings
+mod Inputs
+mod Keeping
+mod Looping
+mod Openings
+mod Outcomes
+mod Parts
+mod Prefixes
+mod Runs
+mod Sayings
+mod Splits
+mod Texts
+mod Turns

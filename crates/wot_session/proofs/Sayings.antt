@@ -1,33 +1,167 @@
--- Replies to some lines, and then to others.
-use Rattle.std.proofs.Common.{ℕ, List, [], ◌++◌, Option}
-use Rattle.wot_session.specs.LineByLine.{Standing, after_lines}
-use Rattle.wot_site.specs.Seen.{Seen}
-use Rattle.wot_session.specs.Told.{Said, SaidFront}
-use Rattle.wot_session.proofs.Outputs.{replies_append}
-use Rattle.wot_session.proofs.Texts.{told_none, told_then, told_then_front, told_front, front_more}
+-- Replies to some commands, and then to others.
+use Rattle.std.proofs.Common.{◌≡◌, ◌⊎◌, ◌==◌, length, arith, inl, inr, ℕ, true, false, List, [], ◌∷◌, ◌++◌, if◌then◌else◌, Option, Some, None, refl, sym, ap, ◌∙◌, subst}
+use Rattle.std.proofs.lemmas.Bool.Decides.{nat_tests}
+use Rattle.std.proofs.lemmas.List.{append-nil}
+use Rattle.wot_site.specs.Seen.{Honestly, Moment, Seen}
+use Rattle.wot_site.specs.Work.{now}
+use Rattle.wot_site.proofs.Works.{since_start, since_then, since_weaker}
+use Rattle.wot_store.specs.Shows.{IsStored}
+use Rattle.wot_types.specs.Commands.{Command, Cut, ReadLine, closed, ends, made_by, of_line, opens_block, unfinished}
+use Rattle.wot_types.specs.Commands.Cut.{between, over, within}
+use Rattle.wot_types.specs.Session.{Progress, after, after_all, replies, reply_to}
+use Rattle.wot_types.specs.LineByLine.{Position, after_line, after_lines, commands_in}
+use Rattle.wot_types.proofs.Cuts.{after_one, commands_append, one_line}
+use Rattle.wot_session.specs.Fed.{last_lines}
+use Rattle.wot_session.specs.Here.{Holds}
+use Rattle.wot_session.specs.Kept.{IsAround, IsWhole, Kept}
+use Rattle.wot_session.specs.Told.{Given, GivenPrefix, IsGiving, Said, SaidPrefix}
+use Rattle.wot_session.specs.declared.stop.Stop.{Stop}
+use Rattle.wot_session.specs.declared.stop.Stop.TheVariants.{Memory}
+use Rattle.wot_session.proofs.Keeping.{kept_here, kept_more, kept_then, stored_shows, whole_here, whole_more, whole_then}
+use Rattle.wot_session.proofs.Texts.{told_none, told_then, told_then_prefix, prefix_more}
 
-pub said_none : (p : Standing) (x : Seen) → Said p [] x x
-said_none p x = record { told = told_none x }
+-- nothing was done yet
+pub said_none : (p : Progress) (x : Seen) → IsStored p.store x.disks → Said p [] x x
+said_none p x stored = record { told = told_none x; since = since_start _ x (refl, stored_shows p.store x.disks stored) }
 
-pub said_then : (p : Standing) (xs ys : List (Option (List ℕ))) (x y z : Seen)
-    → Said p xs x y → Said (after_lines p xs) ys y z → Said p (xs ++ ys) x z
-said_then p xs ys x y z before after = record {
-  told = rw (replies_append p xs ys) (told_then _ _ x y z before.told after.told);
+-- where there is no reply and the store stays
+none_kept : (p : Progress) (told : List ℕ) (m : Moment) → IsAround p.store p.store [] told m → Kept p [] told m
+none_kept p told m around = (
+  around.told ∙ ap (λ prefix. told ++ prefix) (none around.prefix around.is_prefix.0 around.is_prefix.1) ∙ append-nil told,
+  λ image is. same (around.either image is),
+)
+  where
+    none : (front back : List ℕ) → front ++ back ≡ [] → front ≡ []
+    none [] back e = refl
+    none (b ∷ front) back e = cc
+
+    same : {P : Type 0} → P ⊎ P → P
+    same (inl shows) = shows
+    same (inr shows) = shows
+
+-- one answer, to one command or to none
+pub record AtMostOne (commands : List Command) : Type 0 where
+  pub cases : (commands ≡ []) ⊎ ((command : Command) × (commands ≡ command ∷ []))
+
+around_kept : (p : Progress) (commands : List Command) (told : List ℕ) (m : Moment) → AtMostOne commands
+    → IsAround p.store (after_all p commands).store (replies p commands) told m → Kept p commands told m
+around_kept p [] told m one around = none_kept p told m around
+around_kept p (command ∷ []) told m one around = inl (subst (λ reply. IsAround p.store (after p command).store reply told m) (append-nil (reply_to p command)) around)
+around_kept p (command ∷ other ∷ commands) told m one around = absurd (no one.cases)
+  where
+    no : ((command ∷ other ∷ commands) ≡ []) ⊎ ((single : Command) × ((command ∷ other ∷ commands) ≡ single ∷ [])) → ⊥
+    no (inl none) = cc
+    no (inr (single, is)) = cc
+
+-- a line makes at most one command whole, and the input's end one more
+pub one_made : (cut : Cut) (line : ReadLine) → AtMostOne (made_by cut line)
+one_made over line = record { cases = inl refl }
+one_made between line = elim (opens_block line) as (λ b. AtMostOne (if b then [] else of_line line ∷ [])) [
+  | true ↦ record { cases = inl refl }
+  | false ↦ record { cases = inr (of_line line, refl) }
+]
+one_made (within command) line = elim (ends command line) as (λ b. AtMostOne (if b then closed command ∷ [] else [])) [
+  | true ↦ record { cases = inr (closed command, refl) }
+  | false ↦ record { cases = inl refl }
+]
+
+pub one_unfinished : (cut : Cut) → AtMostOne (unfinished cut)
+one_unfinished between = record { cases = inl refl }
+one_unfinished (within command) = record { cases = inr (command, refl) }
+one_unfinished over = record { cases = inl refl }
+
+-- an answer that was given
+pub given_said : (p : Progress) (commands : List Command) (x y : Seen) → AtMostOne commands → Given p.store (after_all p commands).store (replies p commands) x y → Said p commands x y
+given_said p commands x y one given = record {
+  told = given.told;
+  since = since_weaker _ _ x y (λ m. around_kept p commands x.told m one) given.since;
 }
 
-pub said_then_front : (p : Standing) (xs ys : List (Option (List ℕ))) (x y z : Seen)
-    → Said p xs x y → SaidFront (after_lines p xs) ys y z → SaidFront p (xs ++ ys) x z
-said_then_front p xs ys x y z before after = record {
-  told = rw (replies_append p xs ys) (told_then_front _ _ x y z before.told after.told);
+pub given_said_prefix : (p : Progress) (commands : List Command) (stop : Stop) (x y : Seen) → AtMostOne commands → IsGiving stop
+    → GivenPrefix p.store (after_all p commands).store (replies p commands) x y → SaidPrefix p commands stop x y
+given_said_prefix p commands stop x y one kind given = record {
+  told = given.told;
+  since = since_weaker _ _ x y (λ m. around_kept p commands x.told m one) given.since;
+  here = around_kept p commands x.told (now y) one given.here;
+  whole = λ is. absurd (other kind is);
 }
+  where
+    other : IsGiving stop → stop ≡ Memory → ⊥
+    other (inl tell) is = cc
+    other (inr disk) is = cc
 
--- the replies to some lines, where others follow
-pub said_front : (p : Standing) (xs ys : List (Option (List ℕ))) (x y : Seen) → Said p xs x y → SaidFront p (xs ++ ys) x y
-said_front p xs ys x y said = record {
-  told = rw (replies_append p xs ys) (told_front _ _ x y said.told);
-}
+-- no memory for an answer
+pub said_nothing : (p : Progress) (commands : List Command) (x : Seen) → IsStored p.store x.disks → SaidPrefix p commands Memory x x
+said_nothing p commands x stored =
+    let here = kept_here p commands x.told (now x) refl (stored_shows p.store x.disks stored) in
+    record {
+      told = record { prefix = []; is_prefix = (replies p commands, refl); told = told_none x };
+      since = since_start _ x here;
+      here = here;
+      whole = λ _. whole_here p commands x.told x refl stored;
+    }
 
-pub said_front_more : (p : Standing) (xs ys : List (Option (List ℕ))) (x y : Seen) → SaidFront p xs x y → SaidFront p (xs ++ ys) x y
-said_front_more p xs ys x y said = record {
-  told = rw (replies_append p xs ys) (front_more _ _ x y said.told);
-}
+pub no_memory : (p : Progress) (commands : List Command) (a : Option Seen) → Holds a p.store → Honestly a a (SaidPrefix p commands Memory)
+no_memory p commands None holds = tt
+no_memory p commands (Some x) holds = said_nothing p commands x holds
+
+module _ (p : Progress) (xs ys : List Command) (x y : Seen) where
+  later : y.told ≡ x.told ++ replies p xs → (m : Moment) → Kept (after_all p xs) ys y.told m → Kept p (xs ++ ys) x.told m
+  later told m kept = kept_then p xs ys x.told m (subst (λ t. Kept (after_all p xs) ys t m) told kept)
+
+  pub said_then : (z : Seen) → Said p xs x y → Said (after_all p xs) ys y z → Said p (xs ++ ys) x z
+  said_then z before after = record {
+    told = rw (commands_append p xs ys) (told_then _ _ x y z before.told after.told);
+    since = since_then _ x y z (since_weaker _ _ x y (kept_more p xs ys x.told) before.since) (since_weaker _ _ y z (later before.told.told) after.since);
+  }
+
+  pub said_then_prefix : (stop : Stop) (z : Seen) → Said p xs x y → SaidPrefix (after_all p xs) ys stop y z → SaidPrefix p (xs ++ ys) stop x z
+  said_then_prefix stop z before after = record {
+    told = rw (commands_append p xs ys) (told_then_prefix _ _ x y z before.told after.told);
+    since = since_then _ x y z (since_weaker _ _ x y (kept_more p xs ys x.told) before.since) (since_weaker _ _ y z (later before.told.told) after.since);
+    here = later before.told.told (now z) after.here;
+    whole = λ is. whole_then p xs ys x.told z (subst (λ t. IsWhole (after_all p xs) ys t z) before.told.told (after.whole is));
+  }
+
+  -- some commands were answered, and there was no memory for the others
+  pub said_prefix : Said p xs x y → IsStored (after_all p xs).store y.disks → SaidPrefix p (xs ++ ys) Memory x y
+  said_prefix said stored = said_then_prefix Memory y said (said_nothing (after_all p xs) ys y stored)
+
+  pub said_prefix_more : (stop : Stop) → SaidPrefix p xs stop x y → SaidPrefix p (xs ++ ys) stop x y
+  said_prefix_more stop said = record {
+    told = rw (commands_append p xs ys) (prefix_more _ _ x y said.told);
+    since = since_weaker _ _ x y (kept_more p xs ys x.told) said.since;
+    here = kept_more p xs ys x.told (now y) said.here;
+    whole = λ is. whole_more p xs ys x.told y (said.whole is);
+  }
+
+not_empty : (b : ℕ) (bytes : List ℕ) → (length (b ∷ bytes) == 0) ≡ false
+not_empty b bytes = grind (arith, nat_tests)
+
+-- an open line that is not empty is the last one
+last_line : (line : Option (List ℕ)) → (line ≡ Some [] → ⊥) → last_lines line ≡ line ∷ []
+last_line None some = refl
+last_line (Some []) some = absurd (some refl)
+last_line (Some (b ∷ bytes)) some = ap (λ t. if t then [] else Some (b ∷ bytes) ∷ []) (not_empty b bytes)
+
+pub last_after : (p : Position) (line : Option (List ℕ)) → (line ≡ Some [] → ⊥) → after_lines p (last_lines line) ≡ after_line p line
+last_after p line some = ap (after_lines p) (last_line line some) ∙ after_one p line
+
+pub last_made : (p : Position) (line : Option (List ℕ)) → (line ≡ Some [] → ⊥) → commands_in p (last_lines line) ≡ made_by p.cut line
+last_made p line some = ap (commands_in p) (last_line line some) ∙ one_line p.cut line
+
+pub last_none : (p : Position) (line : Option (List ℕ)) → line ≡ Some [] → commands_in p (last_lines line) ≡ []
+last_none p line is = ap (λ line. commands_in p (last_lines line)) is
+
+-- one command by its words
+one_only : (command : Command) → AtMostOne (command ∷ [])
+one_only command = record { cases = inr (command, refl) }
+
+pub given_one : (p : Progress) (command : Command) (x y : Seen) → Given p.store (after p command).store (reply_to p command) x y → Said p (command ∷ []) x y
+given_one p command x y given =
+    given_said p (command ∷ []) x y (one_only command) (subst (λ reply. Given p.store (after p command).store reply x y) (sym (append-nil (reply_to p command))) given)
+
+pub given_one_prefix : (p : Progress) (command : Command) (stop : Stop) (x y : Seen) → IsGiving stop
+    → GivenPrefix p.store (after p command).store (reply_to p command) x y → SaidPrefix p (command ∷ []) stop x y
+given_one_prefix p command stop x y kind given =
+    given_said_prefix p (command ∷ []) stop x y (one_only command) kind (subst (λ reply. GivenPrefix p.store (after p command).store reply x y) (sym (append-nil (reply_to p command))) given)

@@ -1,10 +1,15 @@
 -- Texts that are told one after the other.
-use Rattle.std.proofs.Common.{ℕ, ◌+◌, ◌-◌, List, [], ◌++◌, length, take, drop, refl, sym, ap, ◌∙◌, append_assoc}
+use Rattle.std.proofs.Common.{◌≡◌, ℕ, ◌+◌, ◌-◌, List, [], ◌∷◌, ◌++◌, length, take, drop, refl, sym, ap, ◌∙◌, append_assoc}
+use Rattle.std.specs.List.{All}
 use Rattle.std.proofs.lemmas.List.{append-nil, take_rest, take-append-drop}
+use Rattle.std.proofs.lemmas.List.Elements.{All-nil, All-cons}
 use Rattle.std.proofs.Math.Seq.{take-add}
-use Rattle.wot_site.specs.Seen.{Seen}
-use Rattle.wot_site.specs.Site.{Tells, Stays}
-use Rattle.wot_session.specs.Told.{Told, ToldFront}
+use Rattle.wot_site.specs.Disk.{Disks}
+use Rattle.wot_site.specs.Seen.{Moment, Seen}
+use Rattle.wot_site.specs.Site.{Tells, Stays, telling}
+use Rattle.wot_site.specs.Work.{now}
+use Rattle.wot_site.proofs.Works.{since_start, since_then, since_weaker}
+use Rattle.wot_session.specs.Told.{IsTelling, Told, ToldPrefix, Telling, TellingPrefix}
 
 -- before the first byte
 pub told_none : (x : Seen) → Told [] x x
@@ -21,43 +26,91 @@ told_then front back x y z before after =
       asks = after.asks ∙ before.asks;
     }
 
--- a text and then a front of another
-pub told_then_front : (text more : List ℕ) (x y z : Seen) → Told text x y → ToldFront more y z → ToldFront (text ++ more) x z
-told_then_front text more x y z before after = record {
-  front = text ++ after.front;
-  is_front = (after.is_front.0, append_assoc text after.front after.is_front.0 ∙ ap (λ back. text ++ back) after.is_front.1);
-  told = told_then text after.front x y z before after.told;
+-- a text and then a prefix of another
+pub told_then_prefix : (text more : List ℕ) (x y z : Seen) → Told text x y → ToldPrefix more y z → ToldPrefix (text ++ more) x z
+told_then_prefix text more x y z before after = record {
+  prefix = text ++ after.prefix;
+  is_prefix = (after.is_prefix.0, append_assoc text after.prefix after.is_prefix.0 ∙ ap (λ back. text ++ back) after.is_prefix.1);
+  told = told_then text after.prefix x y z before after.told;
 }
 
 -- a text, where more was to be told
-pub told_front : (text more : List ℕ) (x y : Seen) → Told text x y → ToldFront (text ++ more) x y
-told_front text more x y told = record { front = text; is_front = (more, refl); told = told }
+pub told_prefix : (text more : List ℕ) (x y : Seen) → Told text x y → ToldPrefix (text ++ more) x y
+told_prefix text more x y told = record { prefix = text; is_prefix = (more, refl); told = told }
 
--- a front of a text, where more was to be told
-pub front_more : (text more : List ℕ) (x y : Seen) → ToldFront text x y → ToldFront (text ++ more) x y
-front_more text more x y told =
-    let back = told.is_front.0 in
+-- a prefix of a text, where more was to be told
+pub prefix_more : (text more : List ℕ) (x y : Seen) → ToldPrefix text x y → ToldPrefix (text ++ more) x y
+prefix_more text more x y told =
+    let back = told.is_prefix.0 in
     record {
-      front = told.front;
-      is_front = (back ++ more, sym (append_assoc told.front back more) ∙ ap (λ text. text ++ more) told.is_front.1);
+      prefix = told.prefix;
+      is_prefix = (back ++ more, sym (append_assoc told.prefix back more) ∙ ap (λ text. text ++ more) told.is_prefix.1);
       told = told.told;
     }
 
-tells_told : (n : ℕ) (bytes : List ℕ) (y z : Seen) → Tells n bytes y z → Told (take n bytes) y z
-tells_told n bytes y z tells = record {
-  told = ap (λ (s : Seen). s.told) tells;
-  left = ap (λ (s : Seen). s.left) tells;
-  taken = ap (λ (s : Seen). s.taken) tells;
-  asks = ap (λ (s : Seen). s.asks) tells;
+-- the moments while a text is told, where a prefix of it was told before
+telling_each : (sides : Disks) (before text done rest told : List ℕ) → done ++ rest ≡ text → told ≡ before ++ done → All (IsTelling sides before text) (telling sides told rest)
+telling_each sides before text done [] told split so_far = All-nil _
+telling_each sides before text done (b ∷ rest) told split so_far =
+    let next = ap (λ told. told ++ b ∷ []) so_far ∙ append_assoc before done (b ∷ []) in
+    let joined = append_assoc done (b ∷ []) rest ∙ split in
+    All-cons (IsTelling sides before text) _ _
+    (record { disks = refl; prefix = done ++ b ∷ []; is_prefix = (rest, joined); told = next })
+    (telling_each sides before text (done ++ b ∷ []) rest (told ++ b ∷ []) joined next)
+
+telling_first : (text : List ℕ) (x : Seen) → IsTelling x.disks x.told text (now x)
+telling_first text x = record { disks = refl; prefix = []; is_prefix = (text, refl); told = sym (append-nil x.told) }
+
+tells_telling : (n : ℕ) (bytes : List ℕ) (y z : Seen) → Tells n bytes y z → Telling (take n bytes) y z
+tells_telling n bytes y z tells = record {
+  told = record {
+    told = ap (λ (s : Seen). s.told) tells;
+    left = ap (λ (s : Seen). s.left) tells;
+    taken = ap (λ (s : Seen). s.taken) tells;
+    asks = ap (λ (s : Seen). s.asks) tells;
+  };
+  disks = ap (λ (s : Seen). s.disks) tells;
+  since = record {
+    first = telling_first (take n bytes) y;
+    moments = telling y.disks y.told (take n bytes);
+    is = ap (λ (s : Seen). s.moments) tells;
+    each = telling_each y.disks y.told (take n bytes) [] (take n bytes) y.told refl (sym (append-nil y.told));
+  };
 }
 
+pub telling_none : (x : Seen) → Telling [] x x
+telling_none x = record { told = told_none x; disks = refl; since = since_start _ x (telling_first [] x) }
+
+telling_then : (front back : List ℕ) (x y z : Seen) → Telling front x y → Telling back y z → Telling (front ++ back) x z
+telling_then front back x y z before after = record {
+  told = told_then front back x y z before.told after.told;
+  disks = after.disks ∙ before.disks;
+  since = since_then _ x y z (since_weaker _ _ x y earlier before.since) (since_weaker _ _ y z later after.since);
+}
+  where
+    earlier : (m : Moment) → IsTelling x.disks x.told front m → IsTelling x.disks x.told (front ++ back) m
+    earlier m is = record {
+      disks = is.disks;
+      prefix = is.prefix;
+      is_prefix = (is.is_prefix.0 ++ back, sym (append_assoc is.prefix is.is_prefix.0 back) ∙ ap (λ text. text ++ back) is.is_prefix.1);
+      told = is.told;
+    }
+
+    later : (m : Moment) → IsTelling y.disks y.told back m → IsTelling x.disks x.told (front ++ back) m
+    later m is = record {
+      disks = is.disks ∙ before.disks;
+      prefix = front ++ is.prefix;
+      is_prefix = (is.is_prefix.0, append_assoc front is.prefix is.is_prefix.0 ∙ ap (λ back. front ++ back) is.is_prefix.1);
+      told = is.told ∙ ap (λ told. told ++ is.prefix) before.told.told ∙ append_assoc x.told front is.prefix;
+    }
+
 -- so many bytes of a text, and then the first of those that are left
-pub tells_more : (bytes : List ℕ) (done n : ℕ) (x y z : Seen) → Told (take done bytes) x y
-    → Tells n (take (length bytes - done) (drop done bytes)) y z → Told (take (done + n) bytes) x z
+pub tells_more : (bytes : List ℕ) (done n : ℕ) (x y z : Seen) → Telling (take done bytes) x y
+    → Tells n (take (length bytes - done) (drop done bytes)) y z → Telling (take (done + n) bytes) x z
 tells_more bytes done n x y z before tells =
-    rw (take-add done n bytes, ← take_rest bytes done) (told_then _ _ x y z before (tells_told n _ y z tells))
+    rw (take-add done n bytes, ← take_rest bytes done) (telling_then _ _ x y z before (tells_telling n _ y z tells))
 
 -- so many bytes of a text, and then nothing
-pub tells_stops : (bytes : List ℕ) (done : ℕ) (x y z : Seen) → Told (take done bytes) x y → Stays y z → ToldFront bytes x z
+pub tells_stops : (bytes : List ℕ) (done : ℕ) (x y z : Seen) → Telling (take done bytes) x y → Stays y z → TellingPrefix bytes x z
 tells_stops bytes done x y z before stays =
-    rw stays (rw (take-append-drop done bytes) at (told_front (take done bytes) (drop done bytes) x y before))
+    rw stays (record { prefix = take done bytes; is_prefix = (drop done bytes, take-append-drop done bytes); telling = before })

@@ -1,27 +1,77 @@
 -- One call of `take`, and then the replies to the lines of its bytes.
-use Rattle.std.proofs.Common.{◌≡◌, ◌⊎◌, inl, inr, ℕ, ◌+◌, ◌<◌, ◌≤◌, List, [], ◌∷◌, ◌++◌, length, take, drop, Option, refl, sym, ap, ◌∙◌, arith}
+use Rattle.std.proofs.Common.{◌≡◌, ◌⊎◌, inl, inr, ℕ, ◌+◌, ◌<◌, ◌≤◌, List, [], ◌∷◌, ◌++◌, length, take, drop, Option, refl, sym, ap, ◌∙◌, subst, arith}
+use Rattle.std.specs.Prelude.{min}
+use Rattle.std.proofs.Math.Nat.{min-le_left, min-le_right}
 use Rattle.std.proofs.lemmas.List.{append-nil, take-take, take-append-drop, length-take-le}
-use Rattle.wot_session.specs.LineByLine.{Standing}
-use Rattle.wot_site.specs.Seen.{Seen}
+use Rattle.wot_types.specs.Store.{Store}
+use Rattle.wot_types.specs.Commands.Cut.{over}
+use Rattle.wot_types.specs.LineByLine.{Position}
+use Rattle.wot_types.specs.Session.{after_all, replies}
+use Rattle.wot_site.specs.Seen.{Honestly, Seen}
 use Rattle.wot_site.specs.Site.{Takes, TakesNothing, asked_at}
+use Rattle.wot_site.specs.Work.{Since, now}
+use Rattle.wot_site.proofs.Honest.{honest_after}
+use Rattle.wot_store.specs.Shows.{IsStored}
+use Rattle.wot_types.specs.Commands.{Command}
+use Rattle.std.proofs.lemmas.List.Elements.{All-nil}
 use Rattle.wot_session.specs.declared.stop.Stop.{Stop}
-use Rattle.wot_session.specs.declared.stop.Stop.TheVariants.{ReadFault, TellFault, Memory, TooLong}
-use Rattle.wot_session.specs.Fed.{whole_from}
-use Rattle.wot_session.specs.Told.{Said, SaidFront}
-use Rattle.wot_session.specs.Turn.{replies_from, Turned, StoppedTurn}
+use Rattle.wot_session.specs.declared.stop.Stop.TheVariants.{ReadFault, Memory, TooLong}
+use Rattle.wot_session.specs.declared.session.Session.{Session}
+use Rattle.wot_session.specs.Here.{Holds, IsHere}
+use Rattle.wot_session.specs.Kept.{IsWhole, Kept}
+use Rattle.wot_session.specs.Told.{IsAnswering, Said, SaidPrefix}
+use Rattle.wot_session.specs.Turn.{IsBetween, StoppedTurn, TookAll, Turned, commands_fed, cut_fed}
+use Rattle.wot_session.proofs.Keeping.{kept_here, stored_shows, whole_all, whole_here, whole_kept}
+
+-- `take` leaves the store
+disks_asked : (store : Store) (x y : Seen) → IsStored store x.disks → TakesNothing x y → IsStored store y.disks
+disks_asked store x y stored (inl noted) = subst (λ (s : Seen). IsStored store s.disks) (sym noted) stored
+disks_asked store x y stored (inr stays) = subst (λ (s : Seen). IsStored store s.disks) (sym stays) stored
+
+still_taken : (store : Store) (n : ℕ) (buf : List ℕ) (a b : Option Seen) → Holds a store → Honestly a b (Takes n buf) → Holds b store
+still_taken store n buf a b holds takes =
+    honest_after _ (λ y. IsStored store y.disks) (Takes n buf) a b holds takes (λ x y stored took. subst (λ (s : Seen). IsStored store s.disks) (sym took.after) stored)
+
+-- why answering stops is no fault of reading and no bound
+pub no_read : (stop : Stop) → IsAnswering stop → stop ≡ ReadFault → ⊥
+no_read stop (inl tell) is = cc
+no_read stop (inr (inl disk)) is = cc
+no_read stop (inr (inr memory)) is = cc
+
+pub no_long : (stop : Stop) → IsAnswering stop → stop ≡ TooLong → ⊥
+no_long stop (inl tell) is = cc
+no_long stop (inr (inl disk)) is = cc
+no_long stop (inr (inr memory)) is = cc
+
+pub is_memory : (stop : Stop) → IsAnswering stop → IsBetween stop → stop ≡ Memory
+is_memory stop kind (inl read) = absurd (no_read stop kind read)
+is_memory stop kind (inr (inl long)) = absurd (no_long stop kind long)
+is_memory stop kind (inr (inr memory)) = memory
 
 -- reading failed
-pub turn_failed : (p : Standing) (line : Option (List ℕ)) (room : ℕ) (x y : Seen) → TakesNothing x y → StoppedTurn p line room ReadFault x y
-turn_failed p line room x y nothing = record {
-  piece = [];
-  input = (x.left, refl);
-  text = [];
-  is_front = (replies_from p line [], refl);
-  told = told_same nothing ∙ sym (append-nil x.told);
-  asks = asks_same nothing;
-  read_fault = λ _. (taken_same nothing, told_same nothing);
-  too_long = λ other. cc;
-}
+pub turn_failed : (p : Position) (line : Option (List ℕ)) (room : ℕ) (x y : Seen) → IsStored p.progress.store x.disks → TakesNothing x y
+    → StoppedTurn p line room ReadFault x y
+turn_failed p line room x y stored nothing =
+    let after = disks_asked p.progress.store x y stored nothing in
+    let commands = commands_fed p line [] in
+    record {
+      piece = [];
+      input = (x.left, refl);
+      text = [];
+      is_prefix = (replies p.progress commands, refl);
+      told = told_same nothing ∙ sym (append-nil x.told);
+      asks = asks_same nothing;
+      read_fault = λ _. (taken_same nothing, told_same nothing);
+      too_long = λ other. cc;
+      since = record {
+        first = kept_here p.progress commands x.told (now x) refl (stored_shows _ x.disks stored);
+        moments = [];
+        is = moments_same nothing ∙ sym (append-nil x.moments);
+        each = All-nil _;
+      };
+      here = kept_here p.progress commands x.told (now y) (told_same nothing) (stored_shows _ y.disks after);
+      whole = λ _. whole_here p.progress commands x.told y (told_same nothing) after;
+    }
   where
     told_same : TakesNothing x y → y.told ≡ x.told
     told_same (inl noted) = ap (λ (s : Seen). s.told) noted
@@ -35,6 +85,10 @@ turn_failed p line room x y nothing = record {
     asks_same (inl noted) = inl (ap (λ (s : Seen). s.asks) noted)
     asks_same (inr stays) = inr (ap (λ (s : Seen). s.asks) stays)
 
+    moments_same : TakesNothing x y → y.moments ≡ x.moments
+    moments_same (inl noted) = ap (λ (s : Seen). s.moments) noted
+    moments_same (inr stays) = ap (λ (s : Seen). s.moments) stays
+
 module _ (n : ℕ) (buf : List ℕ) {x y : Seen} (takes : Takes n buf x y) where
   -- the first bytes of the buffer are the first of the input
   piece_is : (m : ℕ) → m ≤ n → take m buf ≡ take m x.left
@@ -43,54 +97,98 @@ module _ (n : ℕ) (buf : List ℕ) {x y : Seen} (takes : Takes n buf x y) where
   piece_rest : (m : ℕ) → m ≤ n → take m buf ++ drop m x.left ≡ x.left
   piece_rest m within = ap (λ front. front ++ drop m x.left) (piece_is m within) ∙ take-append-drop m x.left
 
-  -- the lines of all bytes that came were answered
-  pub turn_read : (p : Standing) (line : Option (List ℕ)) (z : Seen) → 0 < length buf → n ≤ length buf
-      → Said p (whole_from line (take n buf)) y z → Turned p line (take n buf) x z
-  turn_read p line z some fits said =
-      let size = length-take-le n buf fits in
-      record {
-        input = sym (piece_rest n (omega arith)) ∙ ap (λ left. take n buf ++ left) (sym (said.told.left ∙ ap (λ (s : Seen). s.left) takes.after));
-        taken = said.told.taken ∙ ap (λ (s : Seen). s.taken) takes.after ∙ ap (λ k. x.taken + k) (sym size);
-        told = said.told.told ∙ ap (λ told. told ++ replies_from p line (take n buf)) (ap (λ (s : Seen). s.told) takes.after);
-        asks = said.told.asks ∙ ap (λ (s : Seen). s.asks) takes.after;
-        last = λ none. takes.last (sym size ∙ ap length none) some;
-      }
+  told_same : y.told ≡ x.told
+  told_same = ap (λ (s : Seen). s.told) takes.after
 
-  -- the replies to the lines of the first bytes were told in part, for another reason than a fault of reading
-  pub turn_cut : (p : Standing) (line : Option (List ℕ)) (room m : ℕ) (stop : Stop) (z : Seen) → m ≤ n
-      → (stop ≡ TellFault) ⊎ (stop ≡ Memory)
-      → SaidFront p (whole_from line (take m buf)) y z → StoppedTurn p line room stop x z
-  turn_cut p line room m stop z within kind said = record {
-    piece = take m buf;
-    input = (drop m x.left, piece_rest m within);
-    text = said.told.front;
-    is_front = said.told.is_front;
-    told = said.told.told.told ∙ ap (λ told. told ++ said.told.front) (ap (λ (s : Seen). s.told) takes.after);
-    asks = inl (said.told.told.asks ∙ ap (λ (s : Seen). s.asks) takes.after);
-    read_fault = λ is. absurd (no_read kind is);
-    too_long = λ is. absurd (no_long kind is);
-  }
-    where
-      no_read : (stop ≡ TellFault) ⊎ (stop ≡ Memory) → stop ≡ ReadFault → ⊥
-      no_read (inl tell) is = cc
-      no_read (inr memory) is = cc
+  -- what came after the call, from before it
+  from_before : (p : Position) (commands : List Command) (z : Seen) → Since (Kept p.progress commands y.told) y z → Since (Kept p.progress commands x.told) x z
+  from_before p commands z =
+      subst (λ (y : Seen). Since (Kept p.progress commands y.told) y z → Since (Kept p.progress commands x.told) x z) (sym takes.after)
+      (λ since. record { first = since.first; moments = since.moments; is = since.is; each = since.each })
 
-      no_long : (stop ≡ TellFault) ⊎ (stop ≡ Memory) → stop ≡ TooLong → ⊥
-      no_long (inl tell) is = cc
-      no_long (inr memory) is = cc
+  module _ (m : ℕ) (within : m ≤ n) (p : Position) (line : Option (List ℕ)) where
+    -- the lines of the first bytes that came were answered: of all, or up to `quit`
+    pub turn_read : (z : Seen) → 0 < length buf → n ≤ length buf → (n ≡ m) ⊎ (cut_fed p line (take m buf) ≡ over)
+        → Said p.progress (commands_fed p line (take m buf)) y z → Turned p line (take m buf) x z
+    turn_read z some fits all said =
+        let size : length (take m buf) ≡ m = length-take-le m buf (omega (arith, within, fits)) in
+        let left : z.left ≡ drop n x.left = said.told.left ∙ ap (λ (s : Seen). s.left) takes.after in
+        let taken : z.taken ≡ x.taken + n = said.told.taken ∙ ap (λ (s : Seen). s.taken) takes.after in
+        record {
+          input = (drop m x.left, piece_rest m within);
+          taken = omega (arith, size, taken, within);
+          took = took_all size left taken all;
+          told = said.told.told ∙ ap (λ told. told ++ replies p.progress (commands_fed p line (take m buf))) told_same;
+          asks = said.told.asks ∙ ap (λ (s : Seen). s.asks) takes.after;
+          since = from_before p (commands_fed p line (take m buf)) z said.since;
+        }
+      where
+        took_all : length (take m buf) ≡ m → z.left ≡ drop n x.left → z.taken ≡ x.taken + n → (n ≡ m) ⊎ (cut_fed p line (take m buf) ≡ over)
+            → TookAll (take m buf) x z ⊎ (cut_fed p line (take m buf) ≡ over)
+        took_all size left taken (inl same) = inl (record {
+          input = sym (piece_rest m within) ∙ ap (λ k. take m buf ++ drop k x.left) (sym same) ∙ ap (λ left. take m buf ++ left) (sym left);
+          taken = omega (arith, taken, same, size);
+          last = λ none. takes.last (same ∙ sym size ∙ ap length none) some;
+        })
+        took_all size left taken (inr ended) = inr ended
 
-  -- more bytes came than there is room for, and the lines of those that there is room for were answered
-  pub turn_long : (p : Standing) (line : Option (List ℕ)) (room : ℕ) (z : Seen) → room < n
-      → Said p (whole_from line (take room buf)) y z → StoppedTurn p line room TooLong x z
-  turn_long p line room z over said =
-      let told = said.told.told ∙ ap (λ told. told ++ replies_from p line (take room buf)) (ap (λ (s : Seen). s.told) takes.after) in
-      record {
-        piece = take room buf;
-        input = (drop room x.left, piece_rest room (omega arith));
-        text = replies_from p line (take room buf);
-        is_front = ([], append-nil (replies_from p line (take room buf)));
-        told = told;
-        asks = inl (said.told.asks ∙ ap (λ (s : Seen). s.asks) takes.after);
-        read_fault = λ other. cc;
-        too_long = λ _. (omega (arith, takes.within), told ∙ ap (λ piece. x.told ++ replies_from p line piece) (piece_is room (omega arith)));
-      }
+    -- it stopped while it answered them
+    pub turn_cut : (room : ℕ) (stop : Stop) (z : Seen) → IsAnswering stop
+        → SaidPrefix p.progress (commands_fed p line (take m buf)) stop y z → StoppedTurn p line room stop x z
+    turn_cut room stop z kind said = record {
+      piece = take m buf;
+      input = (drop m x.left, piece_rest m within);
+      text = said.told.prefix;
+      is_prefix = said.told.is_prefix;
+      told = said.told.told.told ∙ ap (λ told. told ++ said.told.prefix) told_same;
+      asks = inl (said.told.told.asks ∙ ap (λ (s : Seen). s.asks) takes.after);
+      read_fault = λ is. absurd (no_read stop kind is);
+      too_long = λ is. absurd (no_long stop kind is);
+      since = from_before p (commands_fed p line (take m buf)) z said.since;
+      here = subst (λ told. Kept p.progress (commands_fed p line (take m buf)) told (now z)) told_same said.here;
+      whole = λ between. subst (λ told. IsWhole p.progress (commands_fed p line (take m buf)) told z) told_same (said.whole (is_memory stop kind between));
+    }
+
+    -- more bytes came than there is room for, and no `quit` among those that there is room for
+    pub turn_long : (z : Seen) → m < n → (cut_fed p line (take m buf) ≡ over → ⊥)
+        → IsStored (after_all p.progress (commands_fed p line (take m buf))).store z.disks
+        → Said p.progress (commands_fed p line (take m buf)) y z → StoppedTurn p line m TooLong x z
+    turn_long z less goes stored said =
+        let commands = commands_fed p line (take m buf) in
+        let told = said.told.told ∙ ap (λ told. told ++ replies p.progress commands) told_same in
+        let whole = whole_all p.progress commands x.told z told stored in
+        record {
+          piece = take m buf;
+          input = (drop m x.left, piece_rest m within);
+          text = replies p.progress commands;
+          is_prefix = ([], append-nil (replies p.progress commands));
+          told = told;
+          asks = inl (said.told.asks ∙ ap (λ (s : Seen). s.asks) takes.after);
+          read_fault = λ other. cc;
+          too_long = λ _. (
+            omega (arith, takes.within, less),
+            told ∙ ap (λ piece. x.told ++ replies p.progress (commands_fed p line piece)) (piece_is m within),
+            λ ended. goes (ap (cut_fed p line) (piece_is m within) ∙ ended),
+          );
+          since = from_before p commands z said.since;
+          here = whole_kept p.progress commands x.told z whole;
+          whole = λ _. whole;
+        }
+
+pub few : (n room m : ℕ) → m ≡ min n room → m ≤ n
+few n room m is = omega (arith, is, min-le_left n room)
+
+pub few_room : (n room m : ℕ) → m ≡ min n room → m ≤ room
+few_room n room m is = omega (arith, is, min-le_right n room)
+
+-- fewer than came: just so many as there is room for
+pub less_room : (n room m : ℕ) → m ≡ min n room → m < n → m ≡ room
+less_room n room m is less = grind (arith, is)
+
+-- a session stays where it is
+pub taken_here : (session : Session) (p : Position) (n : ℕ) (buf : List ℕ) (a b : Option Seen) → IsHere session a p → Honestly a b (Takes n buf) → IsHere session b p
+taken_here session p n buf a b here takes = record { at = here.at; holds = still_taken p.progress.store n buf a b here.holds takes }
+
+-- no fewer than came: all of it
+pub all_read : (n room m : ℕ) → m ≡ min n room → n ≤ m → n ≡ m
+all_read n room m is all = omega (arith, is, min-le_left n room, all)

@@ -1,52 +1,98 @@
 -- What a whole run does: the theorem of the program.
-use Rattle.std.specs.Prelude.{ℕ, Bool, true, false, ◌≡◌, ◌-◌, ◌<◌, ◌≤◌, List, [], ◌++◌, length, take, All}
-use Rattle.wot_types.specs.Session.{output_of, has_refusal, so_far}
-use Rattle.wot_site.specs.Seen.{Seen, Faults}
-use Rattle.wot_site.specs.Site.{Stays, NoneFell, Rose}
-use Rattle.wot_site.specs.declared.site.Asked.{Asked}
-use Rattle.wot_session.specs.Told.{IsFrontOf}
+use Rattle.std.specs.Prelude.{ℕ, Bool, true, false, ◌≡◌, ◌⊎◌, ◌-◌, ◌^◌, ◌<◌, ◌≤◌, List, ◌++◌, length, take, All}
+use Rattle.wot_types.specs.Store.{Store}
+use Rattle.wot_types.specs.Commands.{Command, takes_input}
+use Rattle.wot_types.specs.Commands.Cut.{over}
+use Rattle.wot_types.specs.LineByLine.{at_first}
+use Rattle.wot_types.specs.Session.{acknowledged, at_start, commands_of, end_of, output_of}
+use Rattle.wot_site.specs.Disk.{IsImageOf, Leaves, reads_of}
+use Rattle.wot_site.specs.Seen.{Faults, Moment, Seen}
+use Rattle.wot_site.specs.Site.{NoneFell, Rose, Stays}
+use Rattle.wot_site.specs.Work.{now}
+use Rattle.wot_store.specs.Opening.{FindsBad, IsSettled, Opening}
+use Rattle.wot_store.specs.Shows.{IsStored, Shows}
+use Rattle.wot_session.specs.Input.{IsPunctual, cut_at, so_far_at}
+use Rattle.wot_session.specs.Kept.{IsPrefixOf, IsSafe, ShowsState}
+use Rattle.wot_session.specs.Turn.{IsBetween}
+use Rattle.wot_session.specs.Words.{Read}
 use Rattle.wot_session.specs.declared.stop.Stop.{Stop}
-use Rattle.wot_session.specs.declared.stop.Stop.TheVariants.{ReadFault, TellFault, Memory, TooLong}
+use Rattle.wot_session.specs.declared.stop.Stop.TheVariants.{DiskFault, ReadFault, TellFault, Memory, TooLong}
 use Rattle.wot_session.specs.declared.status.Status.{Status}
 use Rattle.wot_session.specs.declared.status.Status.TheVariants as status
 
--- whenever `take` was called, the bytes told by then were all replies to the commands that are whole in the bytes taken by then
-pub record IsPunctual (old new : Seen) : Type 0 where
-  pub since : List Asked
-  pub asks : new.asks ≡ old.asks ++ since
-  pub each : All (λ ask. take ask.told new.told ≡ old.told ++ so_far (take (ask.taken - old.taken) old.left)) since
+-- the longest input of the program, in bytes
+abbrev pub longest_input : ℕ
+longest_input = 2 ^ 36
 
--- the whole input, which is within the bound, was read, and the whole output was told
-pub record Ended (most : ℕ) (refused : Bool) (old new : Seen) : Type 0 where
-  pub told : new.told ≡ old.told ++ output_of old.left
-  pub read : new.left ≡ []
-  pub room : length old.left ≤ most
-  pub verdict : refused ≡ has_refusal old.left
-  pub punctual : IsPunctual old new
+-- nothing was told by then, and whatever a crash leaves it could have left at the start
+pub record IsOfStart (start : Seen) (m : Moment) : Type 0 where
+  pub told : m.told ≡ start.told
+  pub images : Leaves (IsImageOf start.disks) m.disks
 
--- the run stopped: a front of the output was told.
--- Where reading failed it is all replies to the commands that are whole in the bytes taken;
--- where the input is longer than the bound, to those that are whole in its first bytes up to the bound
-pub record Stopped (most : ℕ) (stop : Stop) (old new : Seen) : Type 0 where
+-- at each moment since the start a crash leaves the state after the first j edits, where j counts every edit acknowledged by then
+-- and at most one more. Until both opening syncs have succeeded it leaves what it could have left at the start
+pub record IsCrashSafe (store : Store) (commands : List Command) (old new : Seen) : Type 0 where
+  pub first : List Moment
+  pub later : List Moment
+  pub is : new.moments ≡ old.moments ++ (first ++ later)
+  pub before : All (IsOfStart old) first
+  pub each : All (IsSafe (at_start store) commands old.told) later
+
+-- the run came to its end: the whole output was told, and every image shows the last store, with its journal's end and epoch
+pub record Ended (words : List (List ℕ)) (most : ℕ) (refused : Bool) (old new : Seen) : Type 0 where
+  pub store : Store
+  pub shows : Shows (reads_of old.disks) store
+  pub told : new.told ≡ old.told ++ output_of store words old.left
+  pub refusals : refused ≡ (end_of store words old.left).refused
+  pub read : Read (at_first store words) (takes_input words) most old new
+  pub stored : IsStored (end_of store words old.left).store new.disks
+  pub punctual : IsPunctual (at_first store words) old new
+  pub safe : IsCrashSafe store (commands_of words old.left) old new
+
+-- the run stopped: a prefix of the output was told, and every image shows a state of the crash clause. Where reading failed,
+-- the input is too long or memory was wanted, it is the state after exactly the edits acknowledged
+pub record Stopped (words : List (List ℕ)) (most : ℕ) (stop : Stop) (old new : Seen) : Type 0 where
+  pub store : Store
+  pub shows : Shows (reads_of old.disks) store
   pub text : List ℕ
-  pub is_front : IsFrontOf text (output_of old.left)
   pub told : new.told ≡ old.told ++ text
-  pub punctual : IsPunctual old new
-  pub read_fault : stop ≡ ReadFault → (new.taken - old.taken ≤ most) × (new.told ≡ old.told ++ so_far (take (new.taken - old.taken) old.left))
-  pub too_long : stop ≡ TooLong → (most < length old.left) × (new.told ≡ old.told ++ so_far (take most old.left))
+  pub is_prefix : IsPrefixOf text (output_of store words old.left)
+  pub read_fault : stop ≡ ReadFault → (new.taken - old.taken ≤ most) × (new.told ≡ old.told ++ so_far_at (at_first store words) (take (new.taken - old.taken) old.left))
+  pub too_long : stop ≡ TooLong → (most < length old.left) × (new.told ≡ old.told ++ so_far_at (at_first store words) (take most old.left))
+      × (cut_at (at_first store words) (take most old.left) ≡ over → ⊥)
+  pub punctual : IsPunctual (at_first store words) old new
+  pub safe : IsCrashSafe store (commands_of words old.left) old new
+  pub here : IsSafe (at_start store) (commands_of words old.left) old.told (now new)
+  pub exact : IsBetween stop → Leaves (ShowsState (at_start store) (commands_of words old.left) (acknowledged (at_start store) (commands_of words old.left) (length text))) new.disks
 
--- what a run with this bound did, by the status that it answers
-abbrev pub Ran : ℕ → Status → Seen → Seen → Type 0
-Ran most status.Done = Ended most false
-Ran most status.Refused = Ended most true
-Ran most status.Usage = Stays
-Ran most status.ReadFault = Stopped most ReadFault
-Ran most status.TellFault = Stopped most TellFault
-Ran most status.Memory = Stopped most Memory
-Ran most status.TooLong = Stopped most TooLong
+-- the store was not opened: nothing was taken or told. Where the sides as read show a store, the crash clause holds for it
+pub record Unopened (words : List (List ℕ)) (old new : Seen) : Type 0 where
+  pub opening : Opening old new
+  pub told : new.told ≡ old.told
+  pub left : new.left ≡ old.left
+  pub asks : new.asks ≡ old.asks
+  pub safe : (store : Store) → Shows (reads_of old.disks) store → IsCrashSafe store (commands_of words old.left) old new
 
--- no count fell, and a fault is answered only where the count of such faults rose
+-- what a run with these words and this bound did, by the status that it answers
+abbrev pub Ran : List (List ℕ) → ℕ → Status → Seen → Seen → Type 0
+Ran words most status.Done = Ended words most false
+Ran words most status.Refused = Ended words most true
+Ran words most status.Usage = Stays
+Ran words most status.ReadFault = Stopped words most ReadFault
+Ran words most status.TellFault = Stopped words most TellFault
+Ran words most status.DiskFault = λ old new. Unopened words old new ⊎ Stopped words most DiskFault old new
+Ran words most (status.BadStore bad) = λ old new. Unopened words old new × FindsBad bad old new
+Ran words most status.Memory = λ old new. Stays old new ⊎ (Unopened words old new × IsSettled old new) ⊎ Stopped words most Memory old new
+Ran words most status.TooLong = Stopped words most TooLong
+
+-- a fault ends a run only where the count of such faults rose, and no other status comes where one rose
+abbrev pub Causes : Status → Faults → Faults → Type 0
+Causes status.ReadFault old new = Rose old.take new.take
+Causes status.TellFault old new = Rose old.tell new.tell
+Causes status.DiskFault old new = Rose old.disk new.disk
+Causes other old new = new ≡ old
+
+-- no count fell, and the status has its cause
 pub record HasCauses (old new : Faults) (status : Status) : Type 0 where
   pub counts : NoneFell old new
-  pub read : status ≡ Status.ReadFault → Rose old.take new.take
-  pub told : status ≡ Status.TellFault → Rose old.tell new.tell
+  pub cause : Causes status old new

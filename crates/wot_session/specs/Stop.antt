@@ -1,11 +1,23 @@
--- The status of a run that stopped.
+-- Why a run stops: its status, and what it says of the counts of faults.
+use Rattle.std.specs.Prelude.{◌≡◌}
+use Rattle.wot_site.specs.Seen.{Faults}
+use Rattle.wot_site.specs.Site.{Rose}
 use Rattle.wot_session.specs.declared.stop.Stop.{Stop}
-use Rattle.wot_session.specs.declared.stop.Stop.TheVariants.{ReadFault, TellFault, Memory, TooLong}
+use Rattle.wot_session.specs.declared.stop.Stop.TheVariants.{ReadFault, TellFault, DiskFault, Memory, TooLong}
 use Rattle.wot_session.specs.declared.status.Status.{Status}
 use Rattle.wot_session.specs.declared.status.Status.TheVariants as status
 
 abbrev pub status_of : Stop → Status
 status_of ReadFault = status.ReadFault
 status_of TellFault = status.TellFault
+status_of DiskFault = status.DiskFault
 status_of Memory = status.Memory
 status_of TooLong = status.TooLong
+
+-- a fault stops a session only where the count of such faults rose, and nothing else stops it where one rose
+abbrev pub Causes : Stop → Faults → Faults → Type 0
+Causes ReadFault old new = Rose old.take new.take
+Causes TellFault old new = Rose old.tell new.tell
+Causes DiskFault old new = Rose old.disk new.disk
+Causes Memory old new = new ≡ old
+Causes TooLong old new = new ≡ old

@@ -1,38 +1,90 @@
--- What was told, where nothing else was done.
-use Rattle.std.specs.Prelude.{ℕ, ◌≡◌, ◌⊎◌, List, ◌++◌, Option, Result, IfErr, IsErrOf}
-use Rattle.wot_session.specs.LineByLine.{Standing, line_replies}
-use Rattle.wot_site.specs.Seen.{Seen, Faults}
-use Rattle.wot_site.specs.Site.{NoneFell, Rose}
+-- What was told, and what a crash left meanwhile.
+use Rattle.std.specs.Prelude.{ℕ, ◌≡◌, ◌⊎◌, List, ◌++◌, Result, OnOk, IfErr}
+use Rattle.wot_types.specs.Store.{Store}
+use Rattle.wot_types.specs.Commands.{Command}
+use Rattle.wot_types.specs.Session.{Progress, replies}
+use Rattle.wot_site.specs.Disk.{Disks}
+use Rattle.wot_site.specs.Seen.{Faults, Moment, Seen}
+use Rattle.wot_site.specs.Site.{NoneFell}
+use Rattle.wot_site.specs.Work.{Since, now}
+use Rattle.wot_session.specs.Kept.{IsAround, IsPrefixOf, IsWhole, Kept}
+use Rattle.wot_session.specs.Stop.{Causes}
 use Rattle.wot_session.specs.declared.stop.Stop.{Stop}
-use Rattle.wot_session.specs.declared.stop.Stop.TheVariants.{TellFault, Memory}
+use Rattle.wot_session.specs.declared.stop.Stop.TheVariants.{DiskFault, TellFault, Memory}
 
--- some text begins with this front
-abbrev pub IsFrontOf : List ℕ → List ℕ → Type 0
-IsFrontOf front text = (back : List ℕ) × (front ++ back ≡ text)
-
--- this text was told
+-- this text was told, and nothing was taken
 pub record Told (text : List ℕ) (old new : Seen) : Type 0 where
   pub told : new.told ≡ old.told ++ text
   pub left : new.left ≡ old.left
   pub taken : new.taken ≡ old.taken
   pub asks : new.asks ≡ old.asks
 
--- a front of this text was told
-pub record ToldFront (text : List ℕ) (old new : Seen) : Type 0 where
-  pub front : List ℕ
-  pub is_front : IsFrontOf front text
-  pub told : Told front old new
+-- a prefix of this text was told
+pub record ToldPrefix (text : List ℕ) (old new : Seen) : Type 0 where
+  pub prefix : List ℕ
+  pub is_prefix : IsPrefixOf prefix text
+  pub told : Told prefix old new
 
--- the replies to these lines were told by a session that had come so far
-pub record Said (p : Standing) (lines : List (Option (List ℕ))) (old new : Seen) : Type 0 where
-  pub told : Told (line_replies p lines) old new
+-- a moment at which a prefix of this text was told after another, with the sides as they were
+pub record IsTelling (sides : Disks) (before text : List ℕ) (m : Moment) : Type 0 where
+  pub disks : m.disks ≡ sides
+  pub prefix : List ℕ
+  pub is_prefix : IsPrefixOf prefix text
+  pub told : m.told ≡ before ++ prefix
 
--- a front of the replies to these lines was told
-pub record SaidFront (p : Standing) (lines : List (Option (List ℕ))) (old new : Seen) : Type 0 where
-  pub told : ToldFront (line_replies p lines) old new
+-- this text was told, and nothing else was done
+pub record Telling (text : List ℕ) (old new : Seen) : Type 0 where
+  pub told : Told text old new
+  pub disks : new.disks ≡ old.disks
+  pub since : Since (IsTelling old.disks old.told text) old new
 
--- telling stops only for want of memory, and where the count of failed calls of `tell` rose
-pub record StopsTelling {T : Type 0} (old new : Faults) (result : Result T Stop) : Type 0 where
+-- a prefix of it was told
+pub record TellingPrefix (text : List ℕ) (old new : Seen) : Type 0 where
+  pub prefix : List ℕ
+  pub is_prefix : IsPrefixOf prefix text
+  pub telling : Telling prefix old new
+
+-- the store was led from the one to the other, and then the reply was told
+pub record Given (s t : Store) (reply : List ℕ) (old new : Seen) : Type 0 where
+  pub told : Told reply old new
+  pub since : Since (IsAround s t reply old.told) old new
+
+-- it stopped on the way
+pub record GivenPrefix (s t : Store) (reply : List ℕ) (old new : Seen) : Type 0 where
+  pub told : ToldPrefix reply old new
+  pub since : Since (IsAround s t reply old.told) old new
+  pub here : IsAround s t reply old.told (now new)
+
+-- these commands were answered by a session that had come so far
+pub record Said (p : Progress) (commands : List Command) (old new : Seen) : Type 0 where
+  pub told : Told (replies p commands) old new
+  pub since : Since (Kept p commands old.told) old new
+
+-- it stopped while it answered them. Where memory was wanted, some were answered wholly and nothing was done for the others
+pub record SaidPrefix (p : Progress) (commands : List Command) (stop : Stop) (old new : Seen) : Type 0 where
+  pub told : ToldPrefix (replies p commands) old new
+  pub since : Since (Kept p commands old.told) old new
+  pub here : Kept p commands old.told (now new)
+  pub whole : stop ≡ Memory → IsWhole p commands old.told new
+
+-- an answer that succeeds leaves every count of faults, and one that stops says why
+pub record HasStopCause {T : Type 0} (old new : Faults) (result : Result T Stop) : Type 0 where
   pub counts : NoneFell old new
-  pub kinds : IfErr result (λ stop. (stop ≡ TellFault) ⊎ (stop ≡ Memory))
-  pub tell : IsErrOf result TellFault → Rose old.tell new.tell
+  pub quiet : OnOk result (new ≡ old)
+  pub cause : IfErr result (λ stop. Causes stop old new)
+
+-- giving an answer takes no memory
+abbrev pub IsGiving : Stop → Type 0
+IsGiving stop = (stop ≡ TellFault) ⊎ (stop ≡ DiskFault)
+
+-- why answering stops
+abbrev pub IsAnswering : Stop → Type 0
+IsAnswering stop = (stop ≡ TellFault) ⊎ (stop ≡ DiskFault) ⊎ (stop ≡ Memory)
+
+pub record StopsTelling {T : Type 0} (old new : Faults) (result : Result T Stop) : Type 0 where
+  pub why : HasStopCause old new result
+  pub kinds : IfErr result IsAnswering
+
+pub record StopsGiving {T : Type 0} (old new : Faults) (result : Result T Stop) : Type 0 where
+  pub why : HasStopCause old new result
+  pub kinds : IfErr result IsGiving

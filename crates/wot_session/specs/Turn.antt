@@ -1,38 +1,54 @@
 -- One call of `take`, and the lines that its bytes end.
-use Rattle.std.specs.Prelude.{ℕ, ◌≡◌, ◌⊎◌, ◌+◌, ◌<◌, List, [], ◌∷◌, ◌++◌, length, take, Option, Result, IsErrOf}
-use Rattle.wot_session.specs.LineByLine.{Standing, line_replies}
-use Rattle.wot_site.specs.Seen.{Seen, Faults}
-use Rattle.wot_site.specs.Site.{asked_at, NoneFell, Rose}
+use Rattle.std.specs.Prelude.{ℕ, ◌≡◌, ◌⊎◌, ◌+◌, ◌<◌, ◌≤◌, List, [], ◌∷◌, ◌++◌, length, take, Option}
+use Rattle.wot_types.specs.Commands.{Command, Cut, cut_after}
+use Rattle.wot_types.specs.Commands.Cut.{over}
+use Rattle.wot_types.specs.LineByLine.{Position, commands_in}
+use Rattle.wot_types.specs.Session.{replies}
+use Rattle.wot_site.specs.Seen.{Seen}
+use Rattle.wot_site.specs.Site.{asked_at}
+use Rattle.wot_site.specs.Work.{Since, now}
 use Rattle.wot_session.specs.Fed.{whole_from}
-use Rattle.wot_session.specs.Told.{IsFrontOf}
+use Rattle.wot_session.specs.Kept.{IsPrefixOf, IsWhole, Kept}
 use Rattle.wot_session.specs.declared.stop.Stop.{Stop}
-use Rattle.wot_session.specs.declared.stop.Stop.TheVariants.{ReadFault, TellFault, TooLong}
+use Rattle.wot_session.specs.declared.stop.Stop.TheVariants.{Memory, ReadFault, TooLong}
 
--- the replies to the lines that these bytes end, where they follow this open line
-abbrev pub replies_from : Standing → Option (List ℕ) → List ℕ → List ℕ
-replies_from p line bytes = line_replies p (whole_from line bytes)
+-- the commands that are whole in the lines that these bytes end, where they follow this open line
+abbrev pub commands_fed : Position → Option (List ℕ) → List ℕ → List Command
+commands_fed p line bytes = commands_in p (whole_from line bytes)
 
--- this piece of the input was taken, and then all replies to the lines that it ends were told
-pub record Turned (p : Standing) (line : Option (List ℕ)) (piece : List ℕ) (old new : Seen) : Type 0 where
+abbrev pub cut_fed : Position → Option (List ℕ) → List ℕ → Cut
+cut_fed p line bytes = cut_after p.cut (whole_from line bytes)
+
+-- stops that leave no command half answered
+abbrev pub IsBetween : Stop → Type 0
+IsBetween stop = (stop ≡ ReadFault) ⊎ (stop ≡ TooLong) ⊎ (stop ≡ Memory)
+
+-- these bytes are all that was taken, and none only at the end of the input
+pub record TookAll (piece : List ℕ) (old new : Seen) : Type 0 where
   pub input : old.left ≡ piece ++ new.left
   pub taken : new.taken ≡ old.taken + length piece
-  pub told : new.told ≡ old.told ++ replies_from p line piece
-  pub asks : new.asks ≡ old.asks ++ asked_at old ∷ []
   pub last : piece ≡ [] → old.left ≡ []
 
--- it stopped: a piece of the input was taken, and a front of the replies to its lines was told
-pub record StoppedTurn (p : Standing) (line : Option (List ℕ)) (room : ℕ) (stop : Stop) (old new : Seen) : Type 0 where
+-- this piece of the input was taken, and all commands that are whole then were answered; more was taken only where `quit` came
+pub record Turned (p : Position) (line : Option (List ℕ)) (piece : List ℕ) (old new : Seen) : Type 0 where
+  pub input : IsPrefixOf piece old.left
+  pub taken : old.taken + length piece ≤ new.taken
+  pub took : TookAll piece old new ⊎ (cut_fed p line piece ≡ over)
+  pub told : new.told ≡ old.told ++ replies p.progress (commands_fed p line piece)
+  pub asks : new.asks ≡ old.asks ++ asked_at old ∷ []
+  pub since : Since (Kept p.progress (commands_fed p line piece) old.told) old new
+
+-- it stopped: a piece of the input was taken, and a prefix of the replies to its commands was told
+pub record StoppedTurn (p : Position) (line : Option (List ℕ)) (room : ℕ) (stop : Stop) (old new : Seen) : Type 0 where
   pub piece : List ℕ
-  pub input : IsFrontOf piece old.left
+  pub input : IsPrefixOf piece old.left
   pub text : List ℕ
-  pub is_front : IsFrontOf text (replies_from p line piece)
+  pub is_prefix : IsPrefixOf text (replies p.progress (commands_fed p line piece))
   pub told : new.told ≡ old.told ++ text
   pub asks : (new.asks ≡ old.asks ++ asked_at old ∷ []) ⊎ (new.asks ≡ old.asks)
   pub read_fault : stop ≡ ReadFault → (new.taken ≡ old.taken) × (new.told ≡ old.told)
-  pub too_long : stop ≡ TooLong → (room < length old.left) × (new.told ≡ old.told ++ replies_from p line (take room old.left))
-
--- a fault stops a session only where the count of such faults rose
-pub record HasStopCause {T : Type 0} (old new : Faults) (result : Result T Stop) : Type 0 where
-  pub counts : NoneFell old new
-  pub read : IsErrOf result ReadFault → Rose old.take new.take
-  pub tell : IsErrOf result TellFault → Rose old.tell new.tell
+  pub too_long : stop ≡ TooLong → (room < length old.left) × (new.told ≡ old.told ++ replies p.progress (commands_fed p line (take room old.left)))
+      × (cut_fed p line (take room old.left) ≡ over → ⊥)
+  pub since : Since (Kept p.progress (commands_fed p line piece) old.told) old new
+  pub here : Kept p.progress (commands_fed p line piece) old.told (now new)
+  pub whole : IsBetween stop → IsWhole p.progress (commands_fed p line piece) old.told new

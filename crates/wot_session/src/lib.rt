@@ -1,62 +1,81 @@
-//! A session of `wot`: the input is read, its lines are answered, and the replies are told.
+//! A session of `wot`: the store is opened, the input is read, its lines are answered, and the replies are told.
 //!
 //! `run` is the whole program over a site. What it promises stands in `specs/Run.antt`.
 #![tactic(auto)]
 
-ghost use Rattle.std.specs.Prelude.{◌≡◌, ◌↔◌, ◌<◌, length};
+ghost use Rattle.std.specs.Prelude.{◌≡◌, ◌⊎◌, ℕ, List, Some, None, map, string_bytes};
 ghost use Rattle.wot_site.specs.Seen.{Honestly};
-ghost use Rattle.wot_session.specs.Run.{Ran, HasCauses};
+ghost use Rattle.wot_words.specs.ProgramWords.{command_words};
+ghost use Rattle.wot_session.specs.Run.{HasCauses, Ran, longest_input};
 
-mod answer; // one line: its reply and the state after it
-mod block; // a command's block, read as it comes
-mod head; // what a command's words ask for
-mod import; // the edit that imports keys
 mod lines; // where a line ends
 mod open_line; // the line that no newline has ended yet
-mod print; // the bytes of a reply
-mod refusal; // why an edit can't be made
+mod opened; // a session over an opened store, or one command
+mod perform; // what an answer does to the store
 mod running; // a session from its first byte to its last
 mod session; // what was read and not answered yet, and what the answered lines led to
-pub mod status; // how a run ended
-pub mod stop; // why it stopped before its input was answered
-mod telling; // a whole text is told
-mod words; // the words of a line
+mod status; // how a run ended
+mod stop; // why it stopped before its input was answered
+mod tell; // a whole text is told
 
-use crate::running::run_session;
+use crate::opened::run_opened;
 pub use status::Status;
 use std::alloc::Global;
 pub use stop::Stop;
 use wot_site::Site;
+use wot_store::{StoreError, open_store};
+use wot_types::Words;
+use wot_words::{WordsError, program_words};
 
 /// The longest input of the program, in bytes.
-pub const MOST_INPUT: u64 = 1 << 36;
+const LONGEST_INPUT: u64 = 1 << 36;
 
-/// Runs the commands of the input, and tells the reply to each before more is read.
+/// Opens the store and runs the commands of the input, or the one command that the words are.
 pub fn run<S: Site>(alloc: Global, words: &[String], site: &mut S) -> Status
-    ensures usage { (result ≡ Status.Usage) ↔ (0 < length words.now) }
-    ensures untouched { result ≡ Status.Usage → site.new ≡ site.old }
-    ensures ran { Honestly (S.seen site.old) (S.seen site.new) (Ran MOST_INPUT result) }
+    ensures usage { result ≡ Status.Usage → command_words (map string_bytes words.now) ≡ None }
+    ensures unread { command_words (map string_bytes words.now) ≡ None → (result ≡ Status.Usage) ⊎ (result ≡ Status.Memory) }
+    ensures untouched { command_words (map string_bytes words.now) ≡ None → site.new ≡ site.old }
+    ensures ran { (command : List (List ℕ)) → command_words (map string_bytes words.now) ≡ Some command
+        → Honestly (S.seen site.old) (S.seen site.new) (Ran command longest_input result) }
     ensures causes { HasCauses (S.faults site.old) (S.faults site.new) result }
 {
-    run_within(alloc, words, site, MOST_INPUT)
+    run_within(alloc, words, site, LONGEST_INPUT)
 }
 
 /// The same, where an input of more than `most` bytes is too long.
 pub fn run_within<S: Site>(alloc: Global, words: &[String], site: &mut S, most: u64) -> Status
-    // No words are read yet, so that any word is a wrong usage.
-    ensures usage { (result ≡ Status.Usage) ↔ (0 < length words.now) }
-    ensures untouched { result ≡ Status.Usage → site.new ≡ site.old }
+    // Words that are no command are a wrong usage, unless there is no memory to read them, and then the site isn't called.
+    ensures usage { result ≡ Status.Usage → command_words (map string_bytes words.now) ≡ None }
+    ensures unread { command_words (map string_bytes words.now) ≡ None → (result ≡ Status.Usage) ⊎ (result ≡ Status.Memory) }
+    ensures untouched { command_words (map string_bytes words.now) ≡ None → site.new ≡ site.old }
 
-    // What was read and told where the site is honest, and by the status that is answered.
-    ensures ran { Honestly (S.seen site.old) (S.seen site.new) (Ran most result) }
+    // What was read and told where the site is honest, and what a crash leaves at each moment, by the status that is answered.
+    ensures ran { (command : List (List ℕ)) → command_words (map string_bytes words.now) ≡ Some command
+        → Honestly (S.seen site.old) (S.seen site.new) (Ran command most result) }
 
     // On every site.
     ensures causes { HasCauses (S.faults site.old) (S.faults site.new) result }
 {
-    if !words.is_empty() {
-        return Status::Usage;
+    match program_words(alloc, words) {
+        Ok(asked) => run_words(alloc, &asked.command, site, most),
+        Err(WordsError::Usage) => Status::Usage,
+        Err(WordsError::Memory) => Status::Memory,
     }
-    match run_session(alloc, site, most) {
+}
+
+// The same, over the words of the command.
+fn run_words<S: Site>(alloc: Global, words: &Words, site: &mut S, most: u64) -> Status
+    ensures usage { result ≡ Status.Usage → ⊥ }
+    ensures ran { Honestly (S.seen site.old) (S.seen site.new) (Ran words.now most result) }
+    ensures causes { HasCauses (S.faults site.old) (S.faults site.new) result }
+{
+    let opened = match open_store(alloc, site) {
+        Ok(opened) => opened,
+        Err(StoreError::Bad(bad)) => return Status::BadStore(bad),
+        Err(StoreError::DiskFault) => return Status::DiskFault,
+        Err(StoreError::Memory) => return Status::Memory,
+    };
+    match run_opened(alloc, words, opened, site, most) {
         Ok(false) => Status::Done,
         Ok(true) => Status::Refused,
         Err(stop) => stop.status(),

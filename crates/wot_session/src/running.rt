@@ -1,26 +1,29 @@
-//! A session from the first byte of its input to the last.
+//! A session from the first byte of its input to the last, or to `quit`.
 
-ghost use Rattle.std.specs.Prelude.{IfOk, IfErr};
+ghost use Rattle.std.specs.Prelude.{◌≡◌, [], Some, IfOk, IfErr};
 ghost use Rattle.wot_site.specs.Seen.{Honestly};
-ghost use Rattle.wot_session.specs.Run.{Ended, Stopped};
-ghost use Rattle.wot_session.specs.Turn.{HasStopCause};
+ghost use Rattle.wot_types.specs.LineByLine.{Position};
+ghost use Rattle.wot_session.specs.Here.{IsHere, IsOver, IsSomewhere};
+ghost use Rattle.wot_session.specs.Input.{Ended, Stopped};
+ghost use Rattle.wot_session.specs.Told.{HasStopCause};
 
 use crate::session::Session;
 use crate::stop::Stop;
-use std::alloc::Global;
 use wot_site::Site;
 
 // How many bytes are taken at most in one call.
 const PIECE: usize = 4096;
 
-/// Reads the whole input, of at most that many bytes, and tells the reply to each command before more is read.
-/// It answers whether some command was refused.
-pub fn run_session<S: Site>(alloc: Global, site: &mut S, most: u64) -> Result<bool, Stop>
-    ensures ended { IfOk result (λ refused. Honestly (S.seen site.old) (S.seen site.new) (Ended most refused)) }
-    ensures stopped { IfErr result (λ stop. Honestly (S.seen site.old) (S.seen site.new) (Stopped most stop)) }
+/// Reads the input, of at most that many bytes, to its end or to `quit`, and tells the reply to each command before
+/// more is read. It answers whether some command was refused.
+pub fn run_session<S: Site>(session: &mut Session, site: &mut S, most: u64) -> Result<bool, Stop>
+    requires somewhere { IsSomewhere session.old (S.seen site.old) }
+    requires line { session.old.line ≡ Some [] }
+    requires going { IsOver session.old → ⊥ }
+    ensures ended { IfOk result (λ refused. (s : Position) → IsHere session.old (S.seen site.old) s → Honestly (S.seen site.old) (S.seen site.new) (Ended s most refused)) }
+    ensures stopped { IfErr result (λ stop. (s : Position) → IsHere session.old (S.seen site.old) s → Honestly (S.seen site.old) (S.seen site.new) (Stopped s most stop)) }
     ensures cause { HasStopCause (S.faults site.old) (S.faults site.new) result }
 {
-    let mut session = Session::new(alloc);
     let mut buf = [0u8; PIECE];
     let mut room = most;
     loop {
@@ -28,6 +31,9 @@ pub fn run_session<S: Site>(alloc: Global, site: &mut S, most: u64) -> Result<bo
             Ok(n) => n,
             Err(stop) => return Err(stop),
         };
+        if session.is_over() {
+            return Ok(session.is_refused());
+        }
         if n == 0 {
             break;
         }

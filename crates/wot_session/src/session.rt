@@ -1,236 +1,349 @@
 //! A session: what was read and not answered yet, and what the answered lines led to.
 
-ghost use Rattle.std.specs.Prelude.{◌≡◌, ◌<◌, ◌≤◌, [], ◌∷◌, length, take, Some, OnOk, OnErr, IfOk, IfErr};
-ghost use Rattle.wot_session.specs.AtEnd.{SaidClosing, SaidClosingFront, SaidLast, SaidLastFront, at_end, closed_at};
-ghost use Rattle.wot_session.specs.LineByLine.{Standing, after_lines, at_first, closing, reply_to_line};
-ghost use Rattle.wot_site.specs.Seen.{Honestly};
+ghost use Rattle.std.specs.Prelude.{◌≡◌, ◌⊎◌, ◌↔◌, ◌<◌, ◌≤◌, ◌||◌, ℕ, false, List, [], ◌∷◌, length, take, min, Some, None, OnOk, OnErr, IfOk, IfErr, IsTrue};
+ghost use Rattle.wot_types.specs.Store.{Store};
+ghost use Rattle.wot_types.specs.Commands.{begun, made_by, unfinished};
+ghost use Rattle.wot_types.specs.LineByLine.{Position, after_line, after_lines, closing, commands_in, reply_to_line};
+ghost use Rattle.wot_types.specs.Session.{after, at_start, reply_to};
+ghost use Rattle.wot_answer.specs.Answer.{IsCut};
+ghost use Rattle.wot_site.specs.Seen.{Honestly, IfHonest};
+ghost use Rattle.wot_session.specs.AtEnd.{at_end, closed_at, last_commands};
 ghost use Rattle.wot_session.specs.Fed.{more, whole_from, open_from, last_lines};
-ghost use Rattle.wot_session.specs.Standing.{IsAt, IsSomewhere};
-ghost use Rattle.wot_session.specs.Told.{Said, SaidFront, StopsTelling};
-ghost use Rattle.wot_session.specs.Turn.{Turned, StoppedTurn, HasStopCause};
+ghost use Rattle.wot_session.specs.Here.{CanGive, Holds, IsAt, IsDue, IsHere, IsOver, IsPlace, IsSomewhere};
+ghost use Rattle.wot_session.specs.Told.{Given, GivenPrefix, HasStopCause, Said, SaidPrefix, StopsGiving, StopsTelling};
+ghost use Rattle.wot_session.specs.Turn.{Turned, StoppedTurn};
 
-use crate::answer::{Answered, answer_line, answer_unended};
-use crate::block::Block;
 use crate::lines::split_line;
 use crate::open_line::OpenLine;
+use crate::perform::do_effect;
 use crate::stop::Stop;
-use crate::telling::tell_all;
+use crate::tell::tell_all;
 use std::alloc::Global;
-use wot_site::{Failed, Site};
-use wot_types::{Mem, State};
+use std::mem;
+use wot_answer::{Answer, Answered, Block, Cut, Effect, answer_end, answer_line, answer_words};
+use wot_live::Engine;
+use wot_site::{DiskFault, Failed, Site};
+use wot_store::{Opened, Place};
+use wot_types::{Mem, Words};
 
 /// A session over a site.
 #[derive(Drop)]
 pub struct Session {
     alloc: Global,
-    state: State,
+    // What the accepted edits led to. It is gone once an answer found no memory, which ends the session.
+    engine: Option<Engine>,
+    // Where the journal ends.
+    place: Place,
     refused: bool,
-    // A command's block that is unfinished.
-    block: Option<Block>,
+    cut: Cut,
     line: OpenLine,
 }
 
 impl Session {
-    /// The session at its start, which takes no memory.
-    pub fn new(alloc: Global) -> Session
-        ensures at { IsAt result at_first }
+    /// The session at its start, over the store that was opened; a run of one command begins within it.
+    pub fn new(alloc: Global, opened: Opened, cut: Cut) -> Session
+        ensures at { (p : Position) → opened.engine ≡ p.progress.store.state → IsPlace opened.place p.progress.store
+            → p.progress.refused ≡ false → IsCut cut p.cut → IsAt result p }
         ensures line { result.line ≡ Some [] }
+        ensures cut { result.cut ≡ cut }
     {
         Session {
             alloc,
-            state: State::opening(alloc),
+            engine: Some(opened.engine),
+            place: opened.place,
             refused: false,
-            block: None,
+            cut,
             line: OpenLine::new(alloc),
         }
     }
 
     /// Whether some command was refused.
     pub fn is_refused(&self) -> bool
-        ensures { (p : Standing) → IsAt self.now p → result ≡ p.progress.refused }
+        ensures { (p : Position) → IsAt self.now p → result ≡ p.progress.refused }
     {
         self.refused
     }
 
+    /// Whether `quit` was answered.
+    pub fn is_over(&self) -> bool
+        ensures { IsTrue result ↔ IsOver self.now }
+    {
+        matches!(self.cut, Cut::Over)
+    }
+
     // Appends bytes to the open line.
-    fn hold(&mut self, bytes: &[u8]) -> Result<(), Stop>
-        ensures at { (p : Standing) → IsAt self.old p → IsAt self.new p }
+    fn hold(&mut self, bytes: &[u8]) -> Result<(), Mem>
+        ensures at { (p : Position) → IsAt self.old p → IsAt self.new p }
         ensures line { OnOk result (self.new.line ≡ more self.old.line bytes.now) }
-        ensures memory { OnErr result (result ≡ Err Stop.Memory) }
     {
-        match self.line.extend(bytes) {
-            Ok(()) => Ok(()),
-            Err(Mem::Memory) => Err(Stop::Memory),
-        }
+        self.line.extend(bytes)
     }
 
-    // Answers the open line and begins the next; it gives the reply.
-    fn reply(&mut self) -> Result<Vec<u8>, Mem>
-        requires { IsSomewhere self.old }
-        ensures at { OnOk result ((p : Standing) → IsAt self.old p
-            → IsAt self.new (after_lines p (self.old.line ∷ []))) }
+    // Answers the open line and begins the next; the answer is to be given.
+    fn reply(&mut self) -> Result<Answer, Mem>
+        requires { (p : Position) × IsAt self.old p }
+        ensures due { IfOk result (λ answer. (p : Position) → IsAt self.old p
+            → IsDue self.new answer p.progress.store (after_line p self.old.line) (reply_to_line p self.old.line)) }
         ensures line { OnOk result (self.new.line ≡ Some []) }
-        ensures text { IfOk result (λ text. (p : Standing) → IsAt self.old p
-            → text.items ≡ reply_to_line p self.old.line) }
     {
-        let block = self.block.take();
-        let answered = answer_line(self.alloc, &mut self.state, block, self.line.get())?;
-        self.line.clear();
-        match answered {
-            Answered::Reply(answer) => {
-                self.refused = self.refused || answer.refused;
-                Ok(answer.text)
-            }
-            Answered::Held(block) => {
-                self.block = Some(block);
-                Ok(Vec::new(self.alloc))
-            }
-        }
-    }
-
-    // Answers the open line, tells the reply and begins the next line.
-    fn answer<S: Site>(&mut self, site: &mut S) -> Result<(), Stop>
-        requires { IsSomewhere self.old }
-        ensures at { OnOk result ((p : Standing) → IsAt self.old p
-            → IsAt self.new (after_lines p (self.old.line ∷ []))) }
-        ensures line { OnOk result (self.new.line ≡ Some []) }
-        ensures told { OnOk result ((p : Standing) → IsAt self.old p
-            → Honestly (S.seen site.old) (S.seen site.new) (Said p (self.old.line ∷ []))) }
-        ensures front { OnErr result ((p : Standing) → IsAt self.old p
-            → Honestly (S.seen site.old) (S.seen site.new) (SaidFront p (self.old.line ∷ []))) }
-        ensures cause { StopsTelling (S.faults site.old) (S.faults site.new) result }
-    {
-        let text = match self.reply() {
-            Ok(text) => text,
-            Err(Mem::Memory) => return Err(Stop::Memory),
+        let Some(engine) = self.engine.take() else {
+            return Err(Mem::Memory);
         };
-        match tell_all(site, &text) {
+        let cut = mem::replace(&mut self.cut, Cut::Over);
+        let answered = answer_line(self.alloc, engine, self.place.end, cut, self.line.get())?;
+        self.line.clear();
+        self.engine = Some(answered.engine);
+        self.cut = answered.cut;
+        self.refused = self.refused || answered.answer.refused;
+        Ok(answered.answer)
+    }
+
+    // Does to the store what the answer asks for, and only then tells the reply.
+    fn give<S: Site>(&mut self, site: &mut S, answer: &Answer) -> Result<(), Stop>
+        requires { CanGive self.old answer.now (S.seen site.old) }
+        ensures here { OnOk result ((s : Store) (after : Position) (reply : List ℕ) → IsDue self.old answer.now s after reply
+            → Holds (S.seen site.old) s → IsHere self.new (S.seen site.new) after) }
+        ensures line { self.new.line ≡ self.old.line }
+        ensures given { OnOk result ((s : Store) (after : Position) (reply : List ℕ) → IsDue self.old answer.now s after reply
+            → Holds (S.seen site.old) s → Honestly (S.seen site.old) (S.seen site.new) (Given s after.progress.store reply)) }
+        ensures prefix { OnErr result ((s : Store) (after : Position) (reply : List ℕ) → IsDue self.old answer.now s after reply
+            → Holds (S.seen site.old) s → Honestly (S.seen site.old) (S.seen site.new) (GivenPrefix s after.progress.store reply)) }
+        ensures cause { StopsGiving (S.faults site.old) (S.faults site.new) result }
+    {
+        match do_effect(site, self.place, &answer.effect) {
+            Ok(place) => self.place = place,
+            Err(DiskFault) => return Err(Stop::DiskFault),
+        }
+        match tell_all(site, &answer.text) {
             Ok(()) => Ok(()),
             Err(Failed) => Err(Stop::TellFault),
         }
     }
 
-    /// Answers each line that these bytes end, one after the other; what they leave open is kept.
+    // Answers the open line, gives the answer and begins the next line.
+    fn answer<S: Site>(&mut self, site: &mut S) -> Result<(), Stop>
+        requires { IsSomewhere self.old (S.seen site.old) }
+        ensures at { OnOk result ((p : Position) → IsHere self.old (S.seen site.old) p
+            → IsHere self.new (S.seen site.new) (after_line p self.old.line)) }
+        ensures line { OnOk result (self.new.line ≡ Some []) }
+        ensures told { OnOk result ((p : Position) → IsHere self.old (S.seen site.old) p
+            → Honestly (S.seen site.old) (S.seen site.new) (Said p.progress (made_by p.cut self.old.line))) }
+        ensures prefix { IfErr result (λ stop. (p : Position) → IsHere self.old (S.seen site.old) p
+            → Honestly (S.seen site.old) (S.seen site.new) (SaidPrefix p.progress (made_by p.cut self.old.line) stop)) }
+        ensures cause { StopsTelling (S.faults site.old) (S.faults site.new) result }
+    {
+        let answer = match self.reply() {
+            Ok(answer) => answer,
+            Err(Mem::Memory) => return Err(Stop::Memory),
+        };
+        self.give(site, &answer)
+    }
+
+    /// Answers each line that these bytes end, one after the other, up to `quit`; what they leave open is kept.
     pub fn feed<S: Site>(&mut self, site: &mut S, bytes: &[u8]) -> Result<(), Stop>
-        requires { IsSomewhere self.old }
-        ensures at { OnOk result ((p : Standing) → IsAt self.old p
-            → IsAt self.new (after_lines p (whole_from self.old.line bytes.now))) }
-        ensures line { OnOk result (self.new.line ≡ open_from self.old.line bytes.now) }
-        ensures told { OnOk result ((p : Standing) → IsAt self.old p
-            → Honestly (S.seen site.old) (S.seen site.new) (Said p (whole_from self.old.line bytes.now))) }
-        ensures front { OnErr result ((p : Standing) → IsAt self.old p
-            → Honestly (S.seen site.old) (S.seen site.new) (SaidFront p (whole_from self.old.line bytes.now))) }
+        requires { IsSomewhere self.old (S.seen site.old) }
+        ensures at { OnOk result ((p : Position) → IsHere self.old (S.seen site.old) p
+            → IsHere self.new (S.seen site.new) (after_lines p (whole_from self.old.line bytes.now))) }
+        ensures line { OnOk result (IsOver self.new ⊎ (self.new.line ≡ open_from self.old.line bytes.now)) }
+        ensures told { OnOk result ((p : Position) → IsHere self.old (S.seen site.old) p
+            → Honestly (S.seen site.old) (S.seen site.new) (Said p.progress (commands_in p (whole_from self.old.line bytes.now)))) }
+        ensures prefix { IfErr result (λ stop. (p : Position) → IsHere self.old (S.seen site.old) p
+            → Honestly (S.seen site.old) (S.seen site.new) (SaidPrefix p.progress (commands_in p (whole_from self.old.line bytes.now)) stop)) }
         ensures cause { StopsTelling (S.faults site.old) (S.faults site.new) result }
     {
         let mut rest = bytes;
         while let Some((line, after)) = split_line(rest) {
-            if let Err(stop) = self.hold(line) {
-                return Err(stop);
+            if let Err(Mem::Memory) = self.hold(line) {
+                return Err(Stop::Memory);
             }
             if let Err(stop) = self.answer(site) {
                 return Err(stop);
             }
+            if self.is_over() {
+                return Ok(());
+            }
             rest = after;
         }
-        self.hold(rest)
+        match self.hold(rest) {
+            Ok(()) => Ok(()),
+            Err(Mem::Memory) => Err(Stop::Memory),
+        }
     }
 
     // Answers the last line at the end of the input; an empty rest is no line.
     fn answer_last<S: Site>(&mut self, site: &mut S) -> Result<(), Stop>
-        requires { IsSomewhere self.old }
-        ensures at { OnOk result ((p : Standing) → IsAt self.old p
-            → IsAt self.new (after_lines p (last_lines self.old.line))) }
-        ensures told { OnOk result ((p : Standing) → IsAt self.old p
-            → Honestly (S.seen site.old) (S.seen site.new) (Said p (last_lines self.old.line))) }
-        ensures front { OnErr result ((p : Standing) → IsAt self.old p
-            → Honestly (S.seen site.old) (S.seen site.new) (SaidFront p (last_lines self.old.line))) }
+        requires { IsSomewhere self.old (S.seen site.old) }
+        ensures at { OnOk result ((p : Position) → IsHere self.old (S.seen site.old) p
+            → IsHere self.new (S.seen site.new) (after_lines p (last_lines self.old.line))) }
+        ensures told { OnOk result ((p : Position) → IsHere self.old (S.seen site.old) p
+            → Honestly (S.seen site.old) (S.seen site.new) (Said p.progress (commands_in p (last_lines self.old.line)))) }
+        ensures prefix { IfErr result (λ stop. (p : Position) → IsHere self.old (S.seen site.old) p
+            → Honestly (S.seen site.old) (S.seen site.new) (SaidPrefix p.progress (commands_in p (last_lines self.old.line)) stop)) }
         ensures cause { StopsTelling (S.faults site.old) (S.faults site.new) result }
     {
         if self.line.is_empty() {
             return Ok(());
         }
-        self.answer(site)
-    }
-
-    // Refuses the command whose block is unfinished, if there is one, and gives the reply.
-    fn close(&mut self) -> Result<Vec<u8>, Mem>
-        ensures at { OnOk result ((p : Standing) → IsAt self.old p → IsAt self.new (closed_at p)) }
-        ensures text { IfOk result (λ text. (p : Standing) → IsAt self.old p → text.items ≡ closing p) }
-    {
-        match self.block.take() {
-            Some(block) => {
-                let answer = answer_unended(self.alloc, &block)?;
-                self.refused = self.refused || answer.refused;
-                Ok(answer.text)
-            }
-            None => Ok(Vec::new(self.alloc)),
+        match self.answer(site) {
+            Ok(()) => Ok(()),
+            Err(stop) => Err(stop),
         }
     }
 
-    // Answers the command whose block is unfinished, if there is one.
+    // Answers the command whose block is unfinished, if there is one; the answer is to be given.
+    fn close(&mut self) -> Result<Answer, Mem>
+        requires { (p : Position) × IsAt self.old p }
+        ensures due { IfOk result (λ answer. (p : Position) → IsAt self.old p
+            → IsDue self.new answer p.progress.store (closed_at p) (closing p)) }
+    {
+        let Cut::Within(block) = mem::replace(&mut self.cut, Cut::Over) else {
+            return Ok(self.nothing());
+        };
+        let Some(engine) = self.engine.take() else {
+            return Err(Mem::Memory);
+        };
+        let answered = answer_end(self.alloc, engine, self.place.end, block)?;
+        Ok(self.keep(answered))
+    }
+
+    // Keeps what the answer at the end leaves, but for the cut: nothing is read after it.
+    fn keep(&mut self, answered: Answered) -> Answer
+        ensures answer { result ≡ answered.answer }
+        ensures engine { self.new.engine ≡ Some answered.engine }
+        ensures place { self.new.place ≡ self.old.place }
+        ensures refused { self.new.refused ≡ (self.old.refused || answered.answer.refused) }
+        ensures cut { self.new.cut ≡ self.old.cut }
+    {
+        let Answered { engine, answer, .. } = answered;
+        self.engine = Some(engine);
+        self.refused = self.refused || answer.refused;
+        answer
+    }
+
+    // No reply.
+    fn nothing(&self) -> Answer
+        ensures text { result.text.items ≡ [] }
+        ensures effect { result.effect ≡ Effect.Nothing }
+    {
+        Answer {
+            text: Vec::new(self.alloc),
+            refused: false,
+            effect: Effect::Nothing,
+        }
+    }
+
+    // The same, and gives it.
     fn answer_unfinished<S: Site>(&mut self, site: &mut S) -> Result<(), Stop>
-        ensures at { OnOk result ((p : Standing) → IsAt self.old p → IsAt self.new (closed_at p)) }
-        ensures told { OnOk result ((p : Standing) → IsAt self.old p
-            → Honestly (S.seen site.old) (S.seen site.new) (SaidClosing p)) }
-        ensures front { OnErr result ((p : Standing) → IsAt self.old p
-            → Honestly (S.seen site.old) (S.seen site.new) (SaidClosingFront p)) }
+        requires { IsSomewhere self.old (S.seen site.old) }
+        ensures at { OnOk result ((p : Position) → IsHere self.old (S.seen site.old) p → IsHere self.new (S.seen site.new) (closed_at p)) }
+        ensures told { OnOk result ((p : Position) → IsHere self.old (S.seen site.old) p
+            → Honestly (S.seen site.old) (S.seen site.new) (Said p.progress (unfinished p.cut))) }
+        ensures prefix { IfErr result (λ stop. (p : Position) → IsHere self.old (S.seen site.old) p
+            → Honestly (S.seen site.old) (S.seen site.new) (SaidPrefix p.progress (unfinished p.cut) stop)) }
         ensures cause { StopsTelling (S.faults site.old) (S.faults site.new) result }
     {
-        let last = match self.close() {
-            Ok(last) => last,
+        let answer = match self.close() {
+            Ok(answer) => answer,
             Err(Mem::Memory) => return Err(Stop::Memory),
         };
-        match tell_all(site, &last) {
-            Ok(()) => Ok(()),
-            Err(_) => Err(Stop::TellFault),
-        }
+        self.give(site, &answer)
     }
 
     /// Answers what is left at the end of the input: the last line, and a command whose block is unfinished.
     pub fn finish<S: Site>(&mut self, site: &mut S) -> Result<(), Stop>
-        requires { IsSomewhere self.old }
-        ensures at { OnOk result ((p : Standing) → IsAt self.old p → IsAt self.new (at_end p self.old.line)) }
-        ensures told { OnOk result ((p : Standing) → IsAt self.old p
-            → Honestly (S.seen site.old) (S.seen site.new) (SaidLast p self.old.line)) }
-        ensures front { OnErr result ((p : Standing) → IsAt self.old p
-            → Honestly (S.seen site.old) (S.seen site.new) (SaidLastFront p self.old.line)) }
+        requires { IsSomewhere self.old (S.seen site.old) }
+        ensures at { OnOk result ((p : Position) → IsHere self.old (S.seen site.old) p → IsHere self.new (S.seen site.new) (at_end p self.old.line)) }
+        ensures told { OnOk result ((p : Position) → IsHere self.old (S.seen site.old) p
+            → Honestly (S.seen site.old) (S.seen site.new) (Said p.progress (last_commands p self.old.line))) }
+        ensures prefix { IfErr result (λ stop. (p : Position) → IsHere self.old (S.seen site.old) p
+            → Honestly (S.seen site.old) (S.seen site.new) (SaidPrefix p.progress (last_commands p self.old.line) stop)) }
         ensures cause { StopsTelling (S.faults site.old) (S.faults site.new) result }
     {
         if let Err(stop) = self.answer_last(site) {
             return Err(stop);
         }
-        self.answer_unfinished(site)
+        match self.answer_unfinished(site) {
+            Ok(()) => Ok(()),
+            Err(stop) => Err(stop),
+        }
+    }
+
+    // Answers a run of one command that takes no block; the answer is to be given.
+    fn reply_to_words(&mut self, words: &Words) -> Result<Answer, Mem>
+        requires some { 0 < length words.now }
+        ensures due { IfOk result (λ answer. (p : Position) → IsAt self.old p
+            → IsDue self.new answer p.progress.store (record p { progress = after p.progress (begun words.now) }) (reply_to p.progress (begun words.now))) }
+    {
+        let Some(engine) = self.engine.take() else {
+            return Err(Mem::Memory);
+        };
+        let answered = answer_words(self.alloc, engine, self.place.end, words)?;
+        self.engine = Some(answered.engine);
+        self.refused = self.refused || answered.answer.refused;
+        Ok(answered.answer)
+    }
+
+    /// The same, and gives it.
+    pub fn answer_command<S: Site>(&mut self, site: &mut S, words: &Words) -> Result<(), Stop>
+        requires some { 0 < length words.now }
+        requires somewhere { IsSomewhere self.old (S.seen site.old) }
+        ensures at { OnOk result ((p : Position) → IsHere self.old (S.seen site.old) p
+            → IsHere self.new (S.seen site.new) (record p { progress = after p.progress (begun words.now) })) }
+        ensures told { OnOk result ((p : Position) → IsHere self.old (S.seen site.old) p
+            → Honestly (S.seen site.old) (S.seen site.new) (Said p.progress (begun words.now ∷ []))) }
+        ensures prefix { IfErr result (λ stop. (p : Position) → IsHere self.old (S.seen site.old) p
+            → Honestly (S.seen site.old) (S.seen site.new) (SaidPrefix p.progress (begun words.now ∷ []) stop)) }
+        ensures cause { StopsTelling (S.faults site.old) (S.faults site.new) result }
+    {
+        let answer = match self.reply_to_words(words) {
+            Ok(answer) => answer,
+            Err(Mem::Memory) => return Err(Stop::Memory),
+        };
+        self.give(site, &answer)
     }
 
     /// Takes once and answers the lines that the bytes end, of which only so many as there is room for are read.
-    /// It answers how many came, and 0 at the end of the input.
+    /// It answers how many were read: 0 at the end of the input.
     pub fn turn<S: Site>(&mut self, site: &mut S, buf: &mut [u8], room: u64) -> Result<usize, Stop>
-        requires somewhere { IsSomewhere self.old }
+        requires somewhere { IsSomewhere self.old (S.seen site.old) }
         requires some { 0 < length buf.old }
         ensures fits { IfOk result (λ n. n ≤ length buf.new) }
         ensures room { IfOk result (λ n. n ≤ room) }
-        ensures at { IfOk result (λ n. (p : Standing) → IsAt self.old p
-            → IsAt self.new (after_lines p (whole_from self.old.line (take n buf.new)))) }
-        ensures line { IfOk result (λ n. self.new.line ≡ open_from self.old.line (take n buf.new)) }
-        ensures turned { IfOk result (λ n. (p : Standing) → IsAt self.old p
+        ensures at { IfOk result (λ n. (p : Position) → IsHere self.old (S.seen site.old) p
+            → IsHere self.new (S.seen site.new) (after_lines p (whole_from self.old.line (take n buf.new)))) }
+        ensures line { IfOk result (λ n. IsOver self.new ⊎ (self.new.line ≡ open_from self.old.line (take n buf.new))) }
+        ensures turned { IfOk result (λ n. (p : Position) → IsHere self.old (S.seen site.old) p
             → Honestly (S.seen site.old) (S.seen site.new) (Turned p self.old.line (take n buf.new))) }
-        ensures stopped { IfErr result (λ stop. (p : Standing) → IsAt self.old p
+        ensures stopped { IfErr result (λ stop. (p : Position) → IsHere self.old (S.seen site.old) p
             → Honestly (S.seen site.old) (S.seen site.new) (StoppedTurn p self.old.line room stop)) }
         ensures cause { HasStopCause (S.faults site.old) (S.faults site.new) result }
     {
-        let n = match site.take(buf) {
+        let taken = match site.take(buf) {
             Ok(n) => n,
             Err(Failed) => return Err(Stop::ReadFault),
         };
-        if room < n as u64 {
-            return match self.feed(site, &buf[..room as usize]) {
-                Ok(()) => Err(Stop::TooLong),
-                Err(stop) => Err(stop),
-            };
+        let read = first_of(taken, room);
+        match self.feed(site, &buf[..read]) {
+            Ok(()) => {}
+            Err(stop) => return Err(stop),
         }
-        match self.feed(site, &buf[..n]) {
-            Ok(()) => Ok(n),
-            Err(stop) => Err(stop),
+        if self.is_over() {
+            return Ok(read);
         }
+        if read < taken {
+            return Err(Stop::TooLong);
+        }
+        Ok(read)
+    }
+}
+
+// How many of so many bytes there is room for.
+fn first_of(taken: usize, room: u64) -> usize
+    ensures { result ≡ min taken room }
+{
+    if room < taken as u64 {
+        room as usize
+    } else {
+        taken
     }
 }

@@ -1,7 +1,9 @@
 //! How a session ended.
 
 ghost use Rattle.std.specs.Prelude.{◌≡◌};
-ghost use Rattle.wot_session.specs.Status.{code_of, line_of};
+ghost use Rattle.wot_session.specs.Status.{bad_store_line, code_of, line_of};
+
+use wot_store::BadStore;
 
 /// How a session ended, with the exit status and the line on standard error of each.
 #[derive(Clone, Copy, Debug, PartialEq, Eq)]
@@ -16,6 +18,10 @@ pub enum Status {
     ReadFault,
     /// The output failed.
     TellFault,
+    /// The disk failed.
+    DiskFault,
+    /// The store's bytes have this fault.
+    BadStore(BadStore),
     /// There was no memory.
     Memory,
     /// The input is longer than the bound.
@@ -33,6 +39,8 @@ impl Status {
             Status::Usage => 2,
             Status::ReadFault => 3,
             Status::TellFault => 4,
+            Status::DiskFault => 5,
+            Status::BadStore(_) => 6,
             Status::Memory => 7,
             Status::TooLong => 8,
         }
@@ -47,8 +55,23 @@ impl Status {
             Status::Usage => "usage: wot [--workers N] [WORD]...",
             Status::ReadFault => "wot: read fault",
             Status::TellFault => "wot: write fault",
+            Status::DiskFault => "wot: disk fault",
+            Status::BadStore(fault) => bad_store_line(fault),
             Status::Memory => "wot: out of memory",
             Status::TooLong => "wot: input too long",
         }
+    }
+}
+
+/// The line of a store whose bytes have this fault.
+fn bad_store_line(fault: &BadStore) -> &'static str
+    ensures { result.now ≡ bad_store_line fault.now }
+{
+    match fault {
+        BadStore::Magic(_) => "wot: bad store: Magic",
+        BadStore::Short(_, _) => "wot: bad store: Short",
+        BadStore::Spelling => "wot: bad store: Spelling",
+        BadStore::BadPayload(_) => "wot: bad store: BadPayload",
+        BadStore::BadEdit(_) => "wot: bad store: BadEdit",
     }
 }

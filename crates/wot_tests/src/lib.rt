@@ -1,13 +1,13 @@
-//! Listings, and whole sessions over a site in memory: what no clause says, above all that a run finds the memory it needs.
+//! Tests that cross crates, and of crates whose own check they would double.
 #![tactic(auto)]
 
 #[cfg(test)]
-mod imports;
+mod journals; // records built, committed and read
 #[cfg(test)]
-mod listings;
+mod runs; // whole runs over a site in memory
 #[cfg(test)]
-mod lists;
+mod sites; // the site in memory
 #[cfg(test)]
-mod rows;
+mod spellings; // payloads of edits
 #[cfg(test)]
-mod sessions;
+mod stores; // opening a store

@@ -1,30 +1,48 @@
-use Rattle.wot_site.proofs.Counts.{fell_then}
-use Rattle.wot_site.proofs.Outcome.{on_err_here, on_ok_here}
-use Rattle.wot_session.proofs.Feeds.{feeding_more, feeding_stop, feeding_cut, fed_at}
+use Rattle.std.proofs.Common.{◌∙◌, refl, rules}
+use Rattle.wot_session.specs.Here.{IsOver}
+use Rattle.wot_session.proofs.Feeds.{fed_at, feeding_cut, feeding_more, feeding_start, feeding_stop, over_at, over_said}
 use Rattle.wot_session.proofs.session.Session.feed.Goals as goal
 
-pub returns-in-Err-clause-front : goal.returns-in-Err-clause-front
-returns-in-Err-clause-front g c = feeding_stop c.loop-line.invariant.feeding
+pub loop-line-init : goal.loop-line-init
+loop-line-init g c = record { feeding = feeding_start _ _ _; quiet = refl }
 
-pub returns-in-Err-answer-clause-front : goal.returns-in-Err-answer-clause-front
-returns-in-Err-answer-clause-front g c =
+pub returns-in-Err-Memory-clause-prefix : goal.returns-in-Err-Memory-clause-prefix
+returns-in-Err-Memory-clause-prefix g c = feeding_stop c.loop-line.invariant.feeding
+
+pub answer-requires : goal.answer-requires
+answer-requires g c =
+    let here = c.loop-line.invariant.feeding.at c.requires.0 c.requires.1 in
+    (_, record { at = c.hold.ensures.at _ here.at; holds = here.holds })
+
+pub returns-in-Err-clause-prefix : goal.returns-in-Err-clause-prefix
+returns-in-Err-clause-prefix g c =
     feeding_cut c.loop-line.invariant.feeding c.hold.new.self c.in-Some.line.now c.in-Some.after.now c.in-Some.ensures.split
-    c.in_default-hold.ensures.line c.hold.ensures.at _ c.in-Err-answer.ensures.front
+    c.in_default-hold.ensures.line c.hold.ensures.at _ c.in-Err.stop c.in-Err.ensures.prefix
+
+pub returns-then-is_over-clause-at : goal.returns-then-is_over-clause-at
+returns-then-is_over-clause-at g c =
+    let ended : IsOver c.answer.new.self = search rules in
+    over_at (feeding_more c.loop-line.invariant.feeding c.hold.new.self c.in-Some.line.now c.in-Some.after.now c.in-Some.ensures.split
+    c.in_default-hold.ensures.line c.hold.ensures.at _ c.answer.new.self
+    c.in_default-answer.ensures.at c.in_default-answer.ensures.line c.in_default-answer.ensures.told) ended
+
+pub returns-then-is_over-clause-told : goal.returns-then-is_over-clause-told
+returns-then-is_over-clause-told g c =
+    let ended : IsOver c.answer.new.self = search rules in
+    over_said (feeding_more c.loop-line.invariant.feeding c.hold.new.self c.in-Some.line.now c.in-Some.after.now c.in-Some.ensures.split
+    c.in_default-hold.ensures.line c.hold.ensures.at _ c.answer.new.self
+    c.in_default-answer.ensures.at c.in_default-answer.ensures.line c.in_default-answer.ensures.told) ended
+
+pub returns-in-Ok-clause-at : goal.returns-in-Ok-clause-at
+returns-in-Ok-clause-at g c = fed_at c.loop-line.invariant.feeding c.in_default.ensures.unended c.hold-2.new.self (λ p at. c.hold-2.ensures.at p at)
 
 pub loop-line-preserved : goal.loop-line-preserved
 loop-line-preserved g c = record {
   feeding = feeding_more c.loop-line.invariant.feeding c.hold.new.self c.in-Some.line.now c.in-Some.after.now c.in-Some.ensures.split
       c.in_default-hold.ensures.line c.hold.ensures.at _ c.answer.new.self
       c.in_default-answer.ensures.at c.in_default-answer.ensures.line c.in_default-answer.ensures.told;
-  counts = fell_then _ _ _ c.loop-line.invariant.counts c.answer.ensures.cause.counts;
+  quiet = c.in_default-answer.ensures.cause.why.quiet ∙ c.loop-line.invariant.quiet;
 }
 
-pub returns-clause-at : goal.returns-clause-at
-returns-clause-at g c =
-    on_ok_here _ (fed_at c.loop-line.invariant.feeding c.in_default.ensures.unended c.hold-2.new.self c.hold-2.ensures.at)
-
-pub returns-clause-front : goal.returns-clause-front
-returns-clause-front g c = on_err_here _ (feeding_stop c.loop-line.invariant.feeding)
-
-pub answer-requires : goal.answer-requires
-answer-requires g c = (_, c.hold.ensures.at _ (c.loop-line.invariant.feeding.at c.requires.0 c.requires.1))
+pub returns-in-Err-Memory-hold-clause-prefix : goal.returns-in-Err-Memory-hold-clause-prefix
+returns-in-Err-Memory-hold-clause-prefix g c = feeding_stop c.loop-line.invariant.feeding

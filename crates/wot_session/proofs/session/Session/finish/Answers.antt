@@ -1,23 +1,30 @@
-use Rattle.std.proofs.lemmas.Result.{on_err_weaker}
-use Rattle.wot_site.specs.Seen.{Honestly}
+use Rattle.wot_types.specs.Commands.{unfinished}
+use Rattle.wot_types.specs.LineByLine.{after_lines, commands_in}
+use Rattle.wot_session.specs.Fed.{last_lines}
 use Rattle.wot_site.proofs.Honest.{honest_then, honest_weaker}
-use Rattle.wot_session.specs.AtEnd.{SaidClosingFront, SaidLastFront}
-use Rattle.wot_session.specs.LineByLine.{Standing}
-use Rattle.wot_session.specs.Standing.{IsAt}
-use Rattle.wot_session.proofs.Closings.{last_cut, last_front}
+use Rattle.wot_session.proofs.Sayings.{said_prefix_more, said_then, said_then_prefix}
 use Rattle.wot_session.proofs.session.Session.finish.Goals as goal
 
-pub returns-clause-front : goal.returns-clause-front
-returns-clause-front g c =
-    let seen = g.S.Site.seen in
-    let end = seen c.answer_unfinished.new.site in
-    on_err_weaker
-    {P = (p : Standing) → IsAt c.answer_last.new.self p → Honestly (seen c.answer_last.new.site) end (SaidClosingFront p)}
-    {Q = (p : Standing) → IsAt c.args.self.now p → Honestly (seen c.args.site.now) end (SaidLastFront p c.args.self.now.line)}
-    c.answer_unfinished.result
-    (λ front p here. honest_then _ _ _ _ _ _ (c.in_default.ensures.told p here) (front _ (c.in_default.ensures.at p here))
-    (λ x y z. last_cut p c.args.self.now.line x y z)) c.answer_unfinished.ensures.front
+pub returns-in-Err-clause-prefix : goal.returns-in-Err-clause-prefix
+returns-in-Err-clause-prefix g c p here =
+    let line = c.args.self.now.line in
+    honest_weaker _ _ _ _ (c.in-Err.ensures.prefix p here)
+    (λ x y. said_prefix_more p.progress (commands_in p (last_lines line)) (unfinished (after_lines p (last_lines line)).cut) x y c.in-Err.stop)
 
-pub returns-in-Err-clause-front : goal.returns-in-Err-clause-front
-returns-in-Err-clause-front g c p here =
-    honest_weaker _ _ _ _ (c.in-Err.ensures.front p here) (λ x y. last_front p c.args.self.now.line x y)
+pub answer_unfinished-requires : goal.answer_unfinished-requires
+answer_unfinished-requires g c = (_, c.in_default.ensures.at c.requires.0 c.requires.1)
+
+pub returns-in-Ok-clause-at : goal.returns-in-Ok-clause-at
+returns-in-Ok-clause-at g c p here = c.in-Ok.ensures.at _ (c.in_default.ensures.at p here)
+
+pub returns-in-Ok-clause-told : goal.returns-in-Ok-clause-told
+returns-in-Ok-clause-told g c p here =
+    let line = c.args.self.now.line in
+    honest_then _ _ _ _ _ _ (c.in_default.ensures.told p here) (c.in-Ok.ensures.told _ (c.in_default.ensures.at p here))
+    (λ x y z. said_then p.progress (commands_in p (last_lines line)) (unfinished (after_lines p (last_lines line)).cut) x y z)
+
+pub returns-in-Err-answer_unfinished-clause-prefix : goal.returns-in-Err-answer_unfinished-clause-prefix
+returns-in-Err-answer_unfinished-clause-prefix g c p here =
+    let line = c.args.self.now.line in
+    honest_then _ _ _ _ _ _ (c.in_default.ensures.told p here) (c.in-Err-answer_unfinished.ensures.prefix _ (c.in_default.ensures.at p here))
+    (λ x y z. said_then_prefix p.progress (commands_in p (last_lines line)) (unfinished (after_lines p (last_lines line)).cut) x y c.in-Err-answer_unfinished.stop z)

@@ -1,0 +1,103 @@
+-- Where a session stands after a line was answered.
+use Rattle.std.proofs.Common.{◌≡◌, Bool, true, false, ◌||◌, [], ◌∷◌, if◌then◌else◌, Result, Ok, Err, refl, sym, ap, ◌∙◌, subst}
+use Rattle.std.specs.Prelude.{IfOk}
+use Rattle.std.proofs.lemmas.List.{append-nil}
+use Rattle.wot_types.specs.declared.state.State.{State}
+use Rattle.wot_types.specs.Commands as lines
+use Rattle.wot_types.specs.Commands.{Command, ReadLine, closed, cut_by, ends, is_quit, made_by, of_line, opened, opens_block, with_line, words_in}
+use Rattle.wot_types.specs.Commands.Cut.{between, within, over}
+use Rattle.wot_types.specs.LineByLine.{Position}
+use Rattle.wot_types.specs.Outcome.{Outcome, outcome, skip}
+use Rattle.wot_types.specs.Session.{after_all, replies}
+use Rattle.wot_types.specs.Store.{Store}
+use Rattle.wot_answer.specs.declared.block.Block.{Block}
+use Rattle.wot_answer.specs.Block.{IsBlockOf}
+use Rattle.wot_answer.specs.declared.answer.Answered.{Answered}
+use Rattle.wot_answer.specs.declared.answer.Cut.{Cut}
+use Rattle.wot_answer.specs.declared.answer.Cut.TheVariants.{Between, Within, Over}
+use Rattle.wot_answer.specs.Answer.{Answers, Does, Ends, IsCut, IsReply}
+
+or_false : (b : Bool) → b ≡ (b || false)
+or_false true = refl
+or_false false = refl
+
+module _ (answered : Answered) (p : Position) (line : ReadLine) where
+  -- a command is whole, and was answered
+  pub answers_whole : (command : Command) → made_by p.cut line ≡ command ∷ [] → Ends answered p.progress.store (outcome p.progress.store command) → IsCut answered.cut (cut_by p.cut line) → Answers answered p line
+  answers_whole command made ends now = record {
+    text = ap (replies p.progress) made ∙ append-nil _ ∙ ends.text;
+    refused = ap (λ cs. (after_all p.progress cs).refused) made ∙ ap (λ b. p.progress.refused || b) ends.refused;
+    state = ap (λ cs. (after_all p.progress cs).store.state) made ∙ ends.state;
+    cut = now;
+    does = subst (λ cs. Does answered.answer.effect p.progress.store (after_all p.progress cs).store) (sym made) ends.does;
+  }
+
+  -- no command is whole, and nothing was told
+  pub answers_none : (old : State) → old ≡ p.progress.store.state → made_by p.cut line ≡ [] → IsReply answered old skip → IsCut answered.cut (cut_by p.cut line) → Answers answered p line
+  answers_none old same none reply now =
+      let nothing = reply p.progress.store same in
+      record {
+        text = ap (replies p.progress) none ∙ nothing.text;
+        refused = ap (λ cs. (after_all p.progress cs).refused) none ∙ or_false p.progress.refused ∙ ap (λ b. p.progress.refused || b) nothing.refused;
+        state = ap (λ cs. (after_all p.progress cs).store.state) none ∙ nothing.state;
+        cut = now;
+        does = subst (λ cs. Does answered.answer.effect p.progress.store (after_all p.progress cs).store) (sym none) nothing.does;
+      }
+
+  -- between two commands: one whose line is whole
+  pub answers_line : p.cut ≡ between → opens_block line ≡ false → Ends answered p.progress.store (outcome p.progress.store (of_line line))
+      → IsCut answered.cut (if is_quit (words_in line) then over else between) → Answers answered p line
+  answers_line here single ends now =
+      answers_whole (of_line line) (ap (λ c. made_by c line) here ∙ ap (λ b. if b then [] else of_line line ∷ []) single) ends
+      (subst (IsCut answered.cut) (sym (ap (λ c. cut_by c line) here ∙ ap (λ b. if b then within (opened line) else if is_quit (words_in line) then over else between) single)) now)
+
+  -- one whose block begins
+  pub answers_opened : (old : State) → old ≡ p.progress.store.state → p.cut ≡ between → opens_block line ≡ true → IsReply answered old skip → IsCut answered.cut (within (opened line)) → Answers answered p line
+  answers_opened old same here opens reply now =
+      answers_none old same (ap (λ c. made_by c line) here ∙ ap (λ b. if b then [] else of_line line ∷ []) opens) reply
+      (subst (IsCut answered.cut) (sym (ap (λ c. cut_by c line) here ∙ ap (λ b. if b then within (opened line) else if is_quit (words_in line) then over else between) opens)) now)
+
+  -- within a block: its end
+  pub answers_end : (command : Command) → p.cut ≡ within command → ends command line ≡ true → Ends answered p.progress.store (outcome p.progress.store (closed command))
+      → answered.cut ≡ Between → Answers answered p line
+  answers_end command here ended replied now =
+      answers_whole (closed command) (ap (λ c. made_by c line) here ∙ ap (λ b. if b then closed command ∷ [] else []) ended) replied
+      (subst (IsCut answered.cut) (sym (ap (λ c. cut_by c line) here ∙ ap (λ b. if b then between else within (with_line command line)) ended)) (subst (λ c. IsCut c between) (sym now) tt))
+
+  -- a line of it
+  pub answers_more : (old : State) → old ≡ p.progress.store.state → (command : Command) → p.cut ≡ within command → ends command line ≡ false → IsReply answered old skip
+      → IsCut answered.cut (within (with_line command line)) → Answers answered p line
+  answers_more old same command here goes reply now =
+      answers_none old same (ap (λ c. made_by c line) here ∙ ap (λ b. if b then closed command ∷ [] else []) goes) reply
+      (subst (IsCut answered.cut) (sym (ap (λ c. cut_by c line) here ∙ ap (λ b. if b then between else within (with_line command line)) goes)) now)
+
+  -- behind `quit`
+  pub answers_over : (old : State) → old ≡ p.progress.store.state → p.cut ≡ over → IsReply answered old skip → answered.cut ≡ Over → Answers answered p line
+  answers_over old same here reply now =
+      answers_none old same (ap (λ c. made_by c line) here) reply
+      (subst (IsCut answered.cut) (sym (ap (λ c. cut_by c line) here)) (subst (λ c. IsCut c over) (sym now) tt))
+
+-- what the cut is where an answer holds it
+pub is_between : (c : lines.Cut) → IsCut Between c → c ≡ between
+is_between between is = refl
+is_between (within command) is = absurd is
+is_between over is = absurd is
+
+pub is_over : (c : lines.Cut) → IsCut Over c → c ≡ over
+is_over over is = refl
+is_over (within command) is = absurd is
+is_over between is = absurd is
+
+pub within_cut : (block : Block) (c : lines.Cut) → IsCut (Within block) c → (command : Command) × (c ≡ within command) × IsBlockOf block command
+within_cut block (within command) is = (command, refl, is)
+within_cut block between is = absurd is
+within_cut block over is = absurd is
+
+-- an answer whose cut is set anew
+pub recut : (answered : Answered) (cut : Cut) (s : Store) (o : Outcome) → Ends answered s o → Ends (record answered { cut = cut }) s o
+recut answered cut s o ends = record { text = ends.text; refused = ends.refused; state = ends.state; does = ends.does }
+
+-- two facts of one result
+pub if_both : {X E : Type 0} (P Q : X → Type 0) (r : Result X E) → IfOk r P → IfOk r Q → IfOk r (λ x. P x × Q x)
+if_both P Q (Ok x) p q = (p, q)
+if_both P Q (Err e) p q = tt

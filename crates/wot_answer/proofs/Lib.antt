@@ -1,0 +1,6 @@
+pub mod Outcomes
+pub mod Making
+pub mod Answering
+pub mod Feeding
+pub mod LineLemmas
+pub mod Queries

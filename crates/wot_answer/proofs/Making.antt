@@ -1,0 +1,79 @@
+-- An edit that was made, or refused.
+use Rattle.std.proofs.Common.{◌≡◌, ℕ, ◌+◌, ◌-◌, ◌<◌, ◌≤◌, ◌^◌, arith, length, Bool, true, false, List, if◌then◌else◌, Option, Some, None, refl, sym, ap, ◌∙◌, subst}
+use Rattle.std.specs.Prelude.{nat_lt, option_map}
+use Rattle.std.specs.Option.{option_or}
+use Rattle.std.proofs.lemmas.Bool.Decides.{nat_tests}
+use Rattle.wot_types.specs.declared.edit.Edit.{Edit}
+use Rattle.wot_types.specs.declared.limit.Limit.TheVariants.{Record}
+use Rattle.wot_types.specs.declared.refusal.Refusal.{Refusal}
+use Rattle.wot_types.specs.declared.refusal.Refusal.TheVariants.{Full, JournalFull, KeyIdTaken}
+use Rattle.wot_types.specs.declared.state.State.{State}
+use Rattle.wot_types.specs.Outcome.{edit_outcome, edited, edited_store, is_past, missing_key, refusal_of, refuse, state_limit, taken_key, unless_refused}
+use Rattle.wot_types.specs.Limits.{most_record, record_passed}
+use Rattle.wot_types.specs.Payload.{IsPayload, payload}
+use Rattle.wot_types.specs.Store.{Store}
+use Rattle.wot_types.specs.Store.Change.{makes}
+use Rattle.wot_journal.specs.Record.{Framed}
+use Rattle.wot_answer.specs.Answer.{Does, Ends, IsReply}
+use Rattle.wot_answer.specs.declared.answer.Answered.{Answered}
+use Rattle.wot_answer.specs.declared.reply.Effect.TheVariants.{Append}
+
+module _ (text : List ℕ) (s : Store) (edit : Edit) (old : State) (end : ℕ) (same : old ≡ s.state) (at : end ≡ s.end) where
+  refusal_here : (why : Option Refusal) → refusal_of old edit ≡ why → edit_outcome text s edit ≡ unless_refused why text s edit
+  refusal_here why is = ap (λ why. unless_refused why text s edit) (ap (λ state. refusal_of state edit) (sym same) ∙ is)
+
+  room_here : (past : Bool) → is_past end edit ≡ past → unless_refused None text s edit ≡ (if past then refuse JournalFull else record { text = text; refused = false; change = makes edit })
+  room_here past is = ap (λ b. if b then refuse JournalFull else record { text = text; refused = false; change = makes edit }) (ap (λ end. is_past end edit) (sym at) ∙ is)
+
+  -- its key, a limit or a key ID refuses it
+  pub edit_refused : (answered : Answered) (why : Refusal) → refusal_of old edit ≡ Some why → IsReply answered old (refuse why) → Ends answered s (edit_outcome text s edit)
+  edit_refused answered why is reply = subst (Ends answered s) (sym (refusal_here (Some why) is)) (reply s same)
+
+  -- its record doesn't fit
+  pub edit_full : (answered : Answered) → refusal_of old edit ≡ None → is_past end edit ≡ true → IsReply answered old (refuse JournalFull) → Ends answered s (edit_outcome text s edit)
+  edit_full answered allowed past reply = subst (Ends answered s) (sym (refusal_here None allowed ∙ room_here true past)) (reply s same)
+
+  -- it was made
+  pub edit_made : (answered : Answered) (built : Framed) → refusal_of old edit ≡ None → is_past end edit ≡ false → built.end ≡ end → IsPayload built.payload edit
+      → answered.engine ≡ edited old edit → answered.answer.text.items ≡ text → answered.answer.refused ≡ false → answered.answer.effect ≡ Append built → Ends answered s (edit_outcome text s edit)
+  edit_made answered built allowed fits place payload after texts accepted effect =
+      subst (Ends answered s) (sym (refusal_here None allowed ∙ room_here false fits)) (record {
+        text = sym texts;
+        refused = sym accepted;
+        state = ap (λ state. edited state edit) (sym same) ∙ sym after;
+        does = subst (λ effect. Does effect s (edited_store s edit)) (sym effect) (record {
+          edit = edit;
+          accepts = record { fits = ap (λ end. is_past end edit) (sym at) ∙ fits; allowed = ap (λ state. refusal_of state edit) (sym same) ∙ allowed };
+          place = sym at ∙ sym place;
+          payload = payload;
+          after = refl;
+        });
+      })
+
+-- what an edit that isn't refused has: a record within the limit
+first_none : {X : Type 0} (a b : Option X) → option_or a b ≡ None → (a ≡ None) × (b ≡ None)
+first_none None b e = (refl, e)
+first_none (Some x) b e = cc
+
+map_none : {X Y : Type 0} (f : X → Y) (a : Option X) → option_map f a ≡ None → a ≡ None
+map_none f None e = refl
+map_none f (Some x) e = cc
+
+within : (bytes : List ℕ) → record_passed bytes ≡ None → length bytes ≤ most_record
+within bytes none = by_test (nat_lt most_record (length bytes)) refl none
+  where
+    by_test : (b : Bool) → nat_lt most_record (length bytes) ≡ b → (if b then Some Record else None) ≡ None → length bytes ≤ most_record
+    by_test true is e = cc
+    by_test false is e = grind (arith, nat_tests)
+
+pub has_room : (s : State) (edit : Edit) → refusal_of s edit ≡ None → length (payload edit) ≤ most_record
+has_room s edit allowed =
+    let limits = first_none (option_map Full (option_or (state_limit s edit) (record_passed (payload edit)))) (option_map KeyIdTaken (taken_key s edit)) (first_none (missing_key s edit) _ allowed).1 in
+    within (payload edit) (first_none (state_limit s edit) (record_passed (payload edit)) (map_none Full _ limits.0)).1
+
+-- its record passes the last place of a side, or it doesn't
+pub past : (end : ℕ) (bytes : List ℕ) (edit : Edit) → bytes ≡ payload edit → 2 ^ 32 - 1 < end + length bytes + 6 → is_past end edit ≡ true
+past end bytes edit is far = ap (λ p. nat_lt (2 ^ 32 - 1) (end + length p + 6)) (sym is) ∙ grind (arith, nat_tests)
+
+pub fits : (end : ℕ) (bytes : List ℕ) (edit : Edit) → bytes ≡ payload edit → end + length bytes + 6 ≤ 2 ^ 32 - 1 → is_past end edit ≡ false
+fits end bytes edit is near = ap (λ p. nat_lt (2 ^ 32 - 1) (end + length p + 6)) (sym is) ∙ grind (arith, nat_tests)

@@ -1,0 +1,37 @@
+use Rattle.std.proofs.Common.{subst}
+use Rattle.std.specs.Option.{option_copied}
+use Rattle.std.proofs.lemmas.Result.{IfOk-weaker}
+use Rattle.wot_answer.specs.Answer.{IsCut}
+use Rattle.wot_answer.proofs.Answering.{answers_over, is_between, is_over, within_cut}
+use Rattle.wot_answer.proofs.answer.answer_line.Goals as goal
+
+pub answer_in_block-requires : goal.answer_in_block-requires
+answer_in_block-requires c = record {
+  known =
+      let known = within_cut c.in-Within.block c.requires.known.0 (subst (λ held. IsCut held c.requires.known.0) c.in-Within.is c.requires.known.1) in
+      (known.0, known.2);
+}
+
+pub returns-in-Between : goal.returns-in-Between
+returns-in-Between c = record {
+  answers =
+      IfOk-weaker c.answer_command.result _ _
+      (λ answered is p same at cut. is p same at (is_between p.cut (subst (λ held. IsCut held p.cut) c.in-Between.is cut)))
+      c.answer_command.ensures.answers;
+}
+
+pub returns-in-Within : goal.returns-in-Within
+returns-in-Within c = record {
+  answers =
+      IfOk-weaker c.answer_in_block.result _ _
+      (λ answered is p same at cut.
+      let known = within_cut c.in-Within.block p.cut (subst (λ held. IsCut held p.cut) c.in-Within.is cut) in
+      is p known.0 same at known.1 known.2)
+      c.answer_in_block.ensures.answers;
+}
+
+pub returns-in-Over : goal.returns-in-Over
+returns-in-Over c = record {
+  answers = λ p same at cut.
+      answers_over c.say_nothing.result p (option_copied c.args.line) c.args.engine same (is_over p.cut (subst (λ held. IsCut held p.cut) c.in-Over.is cut)) c.say_nothing.ensures.reply c.say_nothing.ensures.cut;
+}

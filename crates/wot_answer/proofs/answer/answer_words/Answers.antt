@@ -1,0 +1,65 @@
+use Rattle.std.proofs.Common.{◌≡◌, Ok, inl, [], length, refl, sym, ap, subst, ◌∙◌, arith}
+use Rattle.std.proofs.lemmas.Bool.Decides.{nat_tests}
+use Rattle.std.proofs.lemmas.Result.{IfOk-weaker}
+use Rattle.wot_types.specs.Commands.{begun}
+use Rattle.wot_types.specs.Outcome.{edit_outcome}
+use Rattle.wot_commands.specs.Heads.{IsProperHead}
+use Rattle.wot_answer.specs.Answer.{Ends}
+use Rattle.wot_answer.proofs.Outcomes.{begun_none, by_head, entries_are, listing_is}
+use Rattle.wot_answer.proofs.answer.answer_words.Goals as goal
+
+pub make_edit-requires : goal.make_edit-requires
+make_edit-requires c = record { proper = subst IsProperHead c.in-Ok-Edit.field-0-is c.in-Ok-Edit.ensures.proper }
+
+pub returns-then-is_empty-clause-ends : goal.returns-then-is_empty-clause-ends
+returns-then-is_empty-clause-ends c s same at =
+    subst (Ends c.say_nothing.result s) (sym (begun_none s c.args.words.now (grind (arith, nat_tests)))) (c.say_nothing.ensures.reply s same)
+
+pub returns-in_ok-reply-in-Ok-Edit-clause-ends : goal.returns-in_ok-reply-in-Ok-Edit-clause-ends
+returns-in_ok-reply-in-Ok-Edit-clause-ends c =
+    let some : length c.args.words.now ≡ 0 → ⊥ = λ none. grind (arith, nat_tests) in
+    let head = sym c.read_head.ensures.head ∙ c.in-Ok-Edit.is ∙ ap Ok c.in-Ok-Edit.field-0-is in
+    IfOk-weaker c.make_edit.result _ _
+    (λ answered ends s same at. subst (Ends answered s) (sym (by_head s c.args.words.now _ some head))
+    (subst (λ text. Ends answered s (edit_outcome text s c.in-Ok-Edit.edit)) c.in_ok-reply-in-Ok-Edit.ensures (ends s same at)))
+    c.make_edit.ensures.ends
+
+pub returns-in-Ok-Query-clause-ends : goal.returns-in-Ok-Query-clause-ends
+returns-in-Ok-Query-clause-ends c =
+    let some : length c.args.words.now ≡ 0 → ⊥ = λ none. grind (arith, nat_tests) in
+    let head = sym c.read_head.ensures.head ∙ c.in-Ok-Query.is ∙ ap Ok c.in-Ok-Query.field-0-is in
+    IfOk-weaker c.answer_query.result _ _
+    (λ answered ends s same at. subst (Ends answered s) (sym (by_head s c.args.words.now _ some head)) (ends s same))
+    c.answer_query.ensures.ends
+
+pub returns-in-Ok-DeleteKey-clause-ends : goal.returns-in-Ok-DeleteKey-clause-ends
+returns-in-Ok-DeleteKey-clause-ends c =
+    let some : length c.args.words.now ≡ 0 → ⊥ = λ none. grind (arith, nat_tests) in
+    let head = sym c.read_head.ensures.head ∙ c.in-Ok-DeleteKey.is ∙ ap Ok c.in-Ok-DeleteKey.field-0-is in
+    IfOk-weaker c.delete_key.result _ _
+    (λ answered ends s same at. subst (Ends answered s) (sym (by_head s c.args.words.now _ some head)) (ends s same at))
+    c.delete_key.ensures.ends
+
+pub returns-in-Err-clause-ends : goal.returns-in-Err-clause-ends
+returns-in-Err-clause-ends c =
+    let some : length c.args.words.now ≡ 0 → ⊥ = λ none. grind (arith, nat_tests) in
+    let head = sym c.read_head.ensures.head ∙ c.in-Err.is in
+    IfOk-weaker c.refuse.result _ _
+    (λ answered reply s same at. subst (Ends answered s) (sym (by_head s c.args.words.now _ some head)) (reply s same))
+    c.refuse.ensures.reply
+
+pub returns-in_ok-new-in-Ok-Import-clause-ends : goal.returns-in_ok-new-in-Ok-Import-clause-ends
+returns-in_ok-new-in-Ok-Import-clause-ends c =
+    let some : length c.args.words.now ≡ 0 → ⊥ = λ none. grind (arith, nat_tests) in
+    let head = sym c.read_head.ensures.head ∙ c.in-Ok-Import.is ∙ ap Ok c.in-Ok-Import.field-0-is in
+    IfOk-weaker c.import_listing.result _ _
+    (λ answered ends s same at. subst (Ends answered s) (sym (by_head s c.args.words.now _ some head ∙ listing_is s (begun c.args.words.now) refl)) (ends s [] (c.engine-in-Ok-Import.view_is ∙ same) at (inl c.in_ok-new-in-Ok-Import.ensures)))
+    c.import_listing.ensures.ends
+
+pub returns-in-Ok-Ownertrust-clause-ends : goal.returns-in-Ok-Ownertrust-clause-ends
+returns-in-Ok-Ownertrust-clause-ends c =
+    let some : length c.args.words.now ≡ 0 → ⊥ = λ none. grind (arith, nat_tests) in
+    let head = sym c.read_head.ensures.head ∙ c.in-Ok-Ownertrust.is ∙ ap Ok c.in-Ok-Ownertrust.field-0-is in
+    IfOk-weaker c.set_entries.result _ _
+    (λ answered ends s same at. subst (Ends answered s) (sym (by_head s c.args.words.now _ some head ∙ entries_are s (begun c.args.words.now) refl)) (ends s [] same at c.new-in-Ok-Ownertrust.ensures))
+    c.set_entries.ensures.ends

@@ -1,0 +1,18 @@
+use Rattle.std.proofs.Common.{◌≡◌, sym, ap, ◌∙◌}
+use Rattle.std.specs.Prelude.{unwrap_or}
+use Rattle.wot_types.specs.declared.letter.Letter.TheVariants.{Dash}
+use Rattle.wot_types.specs.declared.state.State.{State}
+use Rattle.wot_types.specs.CutState.{cut}
+use Rattle.wot_types.specs.Explanation.{explanation}
+use Rattle.wot_types.specs.Letters.{letter_at}
+use Rattle.wot_answer.proofs.query.explained_by.Goals as goal
+
+pub returns : goal.returns
+returns g c =
+    let s = c.args.engine.now in
+    let id = c.args.id in
+    let user = c.args.user in
+    let states : ◌≡◌ {A = State} (record { keys = c.in_ok-table.table; trusts = c.trusts.result.now; date = c.date.result; options = c.options-options.result.now }) (cut s (explanation s id user) id) =
+    λ i. record { keys = c.in_ok-table.ensures.keys i; trusts = c.trusts.ensures i; date = c.date.ensures i; options = c.options-options.ensures.options i } in
+    let recounted = sym (ap (λ o. unwrap_or o Dash) c.in_ok-letter.ensures.letter) ∙ ap (λ t. unwrap_or (letter_at t id user) Dash) states in
+    c.why.ensures s c.in_ok-found.ensures.explains recounted

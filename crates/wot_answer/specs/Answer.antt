@@ -1,0 +1,57 @@
+-- What a line of a session is answered with.
+use Rattle.std.specs.Prelude.{◌≡◌, ◌||◌}
+use Rattle.wot_types.specs.declared.edit.Edit.{Edit}
+use Rattle.wot_types.specs.declared.state.State.{State}
+use Rattle.wot_types.specs.Commands as lines
+use Rattle.wot_types.specs.Commands.{Command, ReadLine}
+use Rattle.wot_types.specs.Commands.Cut.{between, within, over}
+use Rattle.wot_types.specs.LineByLine.{Position, after_line, reply_to_line}
+use Rattle.wot_types.specs.Outcome.{Accepts, Outcome, changed, edited_store}
+use Rattle.wot_types.specs.Payload.{IsPayload}
+use Rattle.wot_types.specs.Store.{Store}
+use Rattle.wot_journal.specs.Record.{Framed}
+use Rattle.wot_answer.specs.Block.{IsBlockOf}
+use Rattle.wot_answer.specs.declared.answer.Answered.{Answered}
+use Rattle.wot_answer.specs.declared.answer.Cut.{Cut}
+use Rattle.wot_answer.specs.declared.answer.Cut.TheVariants.{Between, Within, Over}
+use Rattle.wot_answer.specs.declared.reply.Effect.{Effect}
+use Rattle.wot_answer.specs.declared.reply.Effect.TheVariants.{Nothing, Append}
+
+-- the lines so far leave the cut here
+abbrev pub IsCut : Cut → lines.Cut → Type 0
+IsCut Between between = Unit {0}
+IsCut (Within block) (within command) = IsBlockOf block command
+IsCut Over over = Unit {0}
+IsCut _ _ = ⊥
+
+-- the record is that of an edit which the one store accepts, for the end of its journal, and the other is the store after it
+pub record Leads (built : Framed) (s t : Store) : Type 0 where
+  pub edit : Edit
+  pub accepts : Accepts s edit
+  pub place : s.end ≡ built.end
+  pub payload : IsPayload built.payload edit
+  pub after : t ≡ edited_store s edit
+
+-- what is done to the store leads from the one to the other
+abbrev pub Does : Effect → Store → Store → Type 0
+Does Nothing s t = t ≡ s
+Does (Append built) s t = Leads built s t
+
+-- the answer to a command with this outcome in this store: its reply, and the state after it; the store's change is due
+pub record Ends (answered : Answered) (s : Store) (o : Outcome) : Type 0 where
+  pub text : o.text ≡ answered.answer.text.items
+  pub refused : o.refused ≡ answered.answer.refused
+  pub state : (changed o.change s).state ≡ answered.engine
+  pub does : Does answered.answer.effect s (changed o.change s)
+
+-- the same, whatever the store with this state
+abbrev pub IsReply : Answered → State → Outcome → Type 0
+IsReply answered old o = (s : Store) → old ≡ s.state → Ends answered s o
+
+-- the answer to a line where a session has come so far
+pub record Answers (answered : Answered) (p : Position) (line : ReadLine) : Type 0 where
+  pub text : reply_to_line p line ≡ answered.answer.text.items
+  pub refused : (after_line p line).progress.refused ≡ (p.progress.refused || answered.answer.refused)
+  pub state : (after_line p line).progress.store.state ≡ answered.engine
+  pub cut : IsCut answered.cut (after_line p line).cut
+  pub does : Does answered.answer.effect p.progress.store (after_line p line).progress.store

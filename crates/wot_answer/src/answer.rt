@@ -1,0 +1,256 @@
+//! The answers to lines, to blocks at the input's end and to words.
+
+ghost use Rattle.std.specs.Prelude.{◌≡◌, true, List, Some, if◌then◌else◌, IfOk};
+ghost use Rattle.std.specs.Option.{option_copied};
+ghost use Rattle.wot_types.specs.Commands as lines;
+ghost use Rattle.wot_types.specs.Commands.{Command, begun, closed, is_quit};
+ghost use Rattle.wot_types.specs.Commands.Cut.{between, over, within};
+ghost use Rattle.wot_types.specs.Grammar.{has_block};
+ghost use Rattle.wot_types.specs.LineByLine.{Position};
+ghost use Rattle.wot_types.specs.Listing.{Line, fault_at_end};
+ghost use Rattle.wot_types.specs.Outcome.{delete_outcome, entries_outcome, listing_outcome, outcome};
+ghost use Rattle.wot_types.specs.OwnertrustText.{ownertrust_fault};
+ghost use Rattle.wot_types.specs.Store.{Store};
+ghost use Rattle.wot_listing.specs.Reading.{HasRead};
+ghost use Rattle.wot_ownertrust.specs.Reading.{reading};
+ghost use Rattle.wot_answer.specs.Answer.{Answers, Ends, IsCut};
+ghost use Rattle.wot_answer.specs.Block.{IsBlockOf, IsReadFor};
+ghost use Rattle.wot_answer.specs.declared.answer.Cut.TheVariants.{Between};
+
+use crate::block::{Block, Body};
+use crate::edit::make_edit;
+use crate::query::{answer_query, has_key};
+use crate::reply::{Answer, refuse, say_nothing};
+use crate::words::{has_block, is_quit, line_words, without_return};
+use std::alloc::Global;
+use wot_commands::read_head;
+use wot_listing::{Blocks, Listing, ListingError};
+use wot_live::Engine;
+use wot_ownertrust::{OwnertrustText, TextError};
+use wot_print::{imported, ok, set};
+use wot_types::{Edit, Fpr, Head, Mem, Refusal, Words};
+
+/// Where the lines so far leave the cut into commands.
+#[derive(Drop)]
+pub enum Cut {
+    /// The next line is a command.
+    Between,
+    /// The next line belongs to this block, or ends it.
+    Within(Block),
+    /// `quit` was answered: no further line is read.
+    Over,
+}
+
+/// An answer, and what a session holds after it.
+#[derive(Drop)]
+pub struct Answered {
+    pub engine: Engine,
+    pub answer: Answer,
+    pub cut: Cut,
+}
+
+/// Answers a line without its newline; None is a line that is too long. The journal ends at `end`.
+pub fn answer_line(
+    alloc: Global,
+    engine: Engine,
+    end: u64,
+    cut: Cut,
+    line: Option<&[u8]>,
+) -> Result<Answered, Mem>
+    requires known { (c : lines.Cut) × IsCut cut c }
+    ensures answers { IfOk result (λ answered. (p : Position) → engine ≡ p.progress.store.state → end ≡ p.progress.store.end
+        → IsCut cut p.cut → Answers answered p (option_copied line.entry)) }
+{
+    match cut {
+        Cut::Between => answer_command(alloc, engine, end, line),
+        Cut::Within(block) => answer_in_block(alloc, engine, end, block, line),
+        Cut::Over => Ok(say_nothing(alloc, engine, Cut::Over)),
+    }
+}
+
+/// Between two commands: the line is a command, or begins the block of one.
+fn answer_command(
+    alloc: Global,
+    engine: Engine,
+    end: u64,
+    line: Option<&[u8]>,
+) -> Result<Answered, Mem>
+    ensures answers { IfOk result (λ answered. (p : Position) → engine ≡ p.progress.store.state → end ≡ p.progress.store.end
+        → p.cut ≡ between → Answers answered p (option_copied line.entry)) }
+{
+    match line {
+        Some(line) => answer_text(alloc, engine, end, line),
+        None => refuse(alloc, engine, Refusal::LineTooLong),
+    }
+}
+
+/// The same of a line that isn't too long.
+fn answer_text(alloc: Global, engine: Engine, end: u64, line: &[u8]) -> Result<Answered, Mem>
+    ensures answers { IfOk result (λ answered. (p : Position) → engine ≡ p.progress.store.state → end ≡ p.progress.store.end
+        → p.cut ≡ between → Answers answered p (Some line.now)) }
+{
+    let words = line_words(alloc, without_return(line))?;
+    if has_block(&words) {
+        let body = Body::begin(alloc, &words)?;
+        let block = Block {
+            to_end: false,
+            body,
+        };
+        return Ok(say_nothing(alloc, engine, Cut::Within(block)));
+    }
+    let Answered { engine, answer, .. } = answer_words(alloc, engine, end, &words)?;
+    Ok(Answered {
+        engine,
+        answer,
+        cut: cut_after(&words),
+    })
+}
+
+/// An accepted `quit` ends the session.
+fn cut_after(words: &Words) -> Cut
+    ensures { IsCut result (if is_quit (Some words.now) then over else between) }
+{
+    if is_quit(words) {
+        Cut::Over
+    } else {
+        Cut::Between
+    }
+}
+
+/// Within a block: its end is answered, and another line is read.
+fn answer_in_block(
+    alloc: Global,
+    engine: Engine,
+    end: u64,
+    block: Block,
+    line: Option<&[u8]>,
+) -> Result<Answered, Mem>
+    requires known { (command : Command) × IsBlockOf block command }
+    ensures answers { IfOk result (λ answered. (p : Position) (command : Command) → engine ≡ p.progress.store.state → end ≡ p.progress.store.end
+        → p.cut ≡ within command → IsBlockOf block command → Answers answered p (option_copied line.entry)) }
+{
+    if block.is_ended_by(line) {
+        return answer_body(alloc, engine, end, block.body);
+    }
+    let block = block.feed(line)?;
+    Ok(say_nothing(alloc, engine, Cut::Within(block)))
+}
+
+/// Answers a command whose block is unfinished at the end of the input. What it answers as the cut says nothing.
+pub fn answer_end(alloc: Global, engine: Engine, end: u64, block: Block) -> Result<Answered, Mem>
+    requires known { (command : Command) × IsBlockOf block command }
+    ensures ends { IfOk result (λ answered. (s : Store) (command : Command) → engine ≡ s.state → end ≡ s.end
+        → IsBlockOf block command → Ends answered s (outcome s command)) }
+{
+    let Block { to_end, body } = block;
+    if to_end {
+        return answer_body(alloc, engine, end, body);
+    }
+    match body {
+        Body::Refused(refusal) => refuse(alloc, engine, refusal),
+        Body::Listing(_listing) => refuse(alloc, engine, Refusal::UnendedBlock),
+        Body::Ownertrust(_text) => refuse(alloc, engine, Refusal::UnendedBlock),
+    }
+}
+
+/// Answers a command whose block has ended.
+fn answer_body(alloc: Global, engine: Engine, end: u64, body: Body) -> Result<Answered, Mem>
+    requires known { (command : Command) × IsReadFor body command }
+    ensures ends { IfOk result (λ answered. (s : Store) (command : Command) → engine ≡ s.state → end ≡ s.end
+        → IsReadFor body command → Ends answered s (outcome s (closed command))) }
+    ensures cut { IfOk result (λ answered. answered.cut ≡ Between) }
+{
+    match body {
+        Body::Refused(refusal) => refuse(alloc, engine, refusal),
+        Body::Listing(listing) => import_listing(alloc, engine, end, listing),
+        Body::Ownertrust(text) => set_entries(alloc, engine, end, text),
+    }
+}
+
+/// Imports the keys of a listing that has ended.
+fn import_listing(
+    alloc: Global,
+    engine: Engine,
+    end: u64,
+    listing: Listing,
+) -> Result<Answered, Mem>
+    requires known { (lines : List Line) × HasRead listing lines }
+    ensures ends { IfOk result (λ answered. (s : Store) (lines : List Line) → engine ≡ s.state → end ≡ s.end
+        → HasRead listing lines → Ends answered s (listing_outcome (fault_at_end lines) s lines)) }
+    ensures cut { IfOk result (λ answered. answered.cut ≡ Between) }
+{
+    match listing.finish() {
+        Ok(Blocks { keys, kept, passed }) => {
+            let reply = imported(alloc, keys.len() as u64, kept, passed)?;
+            make_edit(alloc, engine, end, Edit::Import(keys), reply)
+        }
+        Err(ListingError::Fault(fault)) => refuse(alloc, engine, Refusal::Listing(fault)),
+        Err(ListingError::Memory) => Err(Mem::Memory),
+    }
+}
+
+/// Sets the entries of an ownertrust text that has ended.
+fn set_entries(
+    alloc: Global,
+    engine: Engine,
+    end: u64,
+    text: OwnertrustText,
+) -> Result<Answered, Mem>
+    requires known { (lines : List Line) × (text ≡ reading lines) }
+    ensures ends { IfOk result (λ answered. (s : Store) (lines : List Line) → engine ≡ s.state → end ≡ s.end
+        → text ≡ reading lines → Ends answered s (entries_outcome (ownertrust_fault lines) s lines)) }
+    ensures cut { IfOk result (λ answered. answered.cut ≡ Between) }
+{
+    match text.finish(alloc) {
+        Ok(entries) => {
+            let reply = set(alloc, entries.len() as u64)?;
+            make_edit(alloc, engine, end, Edit::Ownertrust(entries), reply)
+        }
+        Err(TextError::Fault(line, what)) => refuse(alloc, engine, Refusal::Ownertrust(line, what)),
+        Err(TextError::Memory) => Err(Mem::Memory),
+    }
+}
+
+/// Answers a command by its words; its block, if it has one, is empty.
+pub fn answer_words(alloc: Global, engine: Engine, end: u64, words: &Words) -> Result<Answered, Mem>
+    ensures ends { IfOk result (λ answered. (s : Store) → engine ≡ s.state → end ≡ s.end → Ends answered s (outcome s (begun words.now))) }
+    ensures cut { IfOk result (λ answered. answered.cut ≡ Between) }
+{
+    if words.is_empty() {
+        return Ok(say_nothing(alloc, engine, Cut::Between));
+    }
+    match read_head(words) {
+        Ok(Head::Edit(edit)) => {
+            let reply = ok(alloc)?;
+            make_edit(alloc, engine, end, edit, reply)
+        }
+        Ok(Head::Query(query)) => answer_query(alloc, engine, &query),
+        Ok(Head::DeleteKey(fpr)) => delete_key(alloc, engine, end, &fpr),
+        Ok(Head::Import) => import_listing(alloc, engine, end, Listing::new(alloc)?),
+        Ok(Head::Ownertrust) => set_entries(alloc, engine, end, OwnertrustText::new(alloc)),
+        Err(refusal) => refuse(alloc, engine, refusal),
+    }
+}
+
+/// Takes away the key of a fingerprint.
+fn delete_key(alloc: Global, engine: Engine, end: u64, fpr: &Fpr) -> Result<Answered, Mem>
+    ensures ends { IfOk result (λ answered. (s : Store) → engine ≡ s.state → end ≡ s.end → Ends answered s (delete_outcome s fpr.now)) }
+    ensures cut { IfOk result (λ answered. answered.cut ≡ Between) }
+{
+    if !has_key(&engine, fpr) {
+        return refuse(alloc, engine, Refusal::NoSuchKey);
+    }
+    let reply = ok(alloc)?;
+    make_edit(alloc, engine, end, Edit::Delete(fpr.key_id()), reply)
+}
+
+/// The block of a run of one command, which goes to the end of the input.
+pub fn begin_block(alloc: Global, words: &Words) -> Result<Block, Mem>
+    requires has_block { has_block words.now ≡ true }
+    ensures begun { IfOk result (λ block. IsBlockOf block (begun words.now)) }
+{
+    Ok(Block {
+        to_end: true,
+        body: Body::begin(alloc, words)?,
+    })
+}

@@ -1,0 +1,98 @@
+//! The block of a command, which is read as it comes.
+
+ghost use Rattle.std.specs.Prelude.{◌≡◌, ◌∷◌, [], ◌++◌, ◌&&◌, not, true, List, Result, Some, IfOk};
+ghost use Rattle.std.specs.Option.{option_copied};
+ghost use Rattle.wot_types.specs.declared.edit.Head.{Head};
+ghost use Rattle.wot_types.specs.Commands.{Command, ReadLine, ends_block, with_line};
+ghost use Rattle.wot_types.specs.Grammar.{command_of, has_block};
+ghost use Rattle.wot_answer.specs.Block.{HasHad, IsBlockOf};
+
+use crate::words::{ends_block, without_return};
+use std::alloc::Global;
+use wot_commands::read_head;
+use wot_listing::{Listing, ListingError};
+use wot_ownertrust::OwnertrustText;
+use wot_types::{Head, Mem, Refusal, Words};
+
+/// A block that has not ended.
+#[derive(Drop)]
+pub struct Block {
+    /// It goes to the end of the input: no line ends it.
+    pub to_end: bool,
+    pub body: Body,
+}
+
+/// What the lines of a block have come to.
+#[derive(Drop)]
+pub enum Body {
+    /// The command is refused already: of its lines only the length and the end are looked at.
+    Refused(Refusal),
+    /// A listing to import.
+    Listing(Listing),
+    /// An ownertrust text.
+    Ownertrust(OwnertrustText),
+}
+
+impl Block {
+    /// Whether a line ends the block; None is one that is too long.
+    pub fn is_ended_by(&self, line: Option<&[u8]>) -> bool
+        ensures { result ≡ (not self.now.to_end && ends_block (option_copied line.entry)) }
+    {
+        !self.to_end && ends_block(line)
+    }
+
+    /// Reads a line of the block; None is one that is too long.
+    pub fn feed(self, line: Option<&[u8]>) -> Result<Block, Mem>
+        ensures fed { IfOk result (λ block. (command : Command) → IsBlockOf self command → IsBlockOf block (with_line command (option_copied line.entry))) }
+    {
+        Ok(Block {
+            to_end: self.to_end,
+            body: self.body.feed(line)?,
+        })
+    }
+}
+
+impl Body {
+    /// The block of the command that these words begin, before its first line.
+    pub fn begin(alloc: Global, words: &Words) -> Result<Body, Mem>
+        requires has_block { has_block words.now ≡ true }
+        ensures begun { IfOk result (λ body. HasHad body (command_of words.now) []) }
+    {
+        match read_head(words) {
+            Err(refusal) => Ok(Body::Refused(refusal)),
+            Ok(Head::Ownertrust) => Ok(Body::Ownertrust(OwnertrustText::new(alloc))),
+            Ok(_) => Ok(Body::Listing(Listing::new(alloc)?)),
+        }
+    }
+
+    /// Reads a line of the block; None is one that is too long.
+    pub fn feed(self, line: Option<&[u8]>) -> Result<Body, Mem>
+        ensures fed { IfOk result (λ body. (head : Result Head Refusal) (lines : List ReadLine)
+            → HasHad self head lines → HasHad body head (lines ++ option_copied line.entry ∷ [])) }
+    {
+        match line {
+            Some(line) => self.feed_text(line),
+            None => Ok(Body::Refused(Refusal::LineTooLong)),
+        }
+    }
+
+    /// Reads a line that isn't too long.
+    fn feed_text(self, line: &[u8]) -> Result<Body, Mem>
+        ensures fed { IfOk result (λ body. (head : Result Head Refusal) (lines : List ReadLine)
+            → HasHad self head lines → HasHad body head (lines ++ Some line.now ∷ [])) }
+    {
+        let line = without_return(line);
+        match self {
+            Body::Refused(refusal) => Ok(Body::Refused(refusal)),
+            Body::Listing(mut listing) => match listing.feed_line(line) {
+                // A fault is kept by the reader.
+                Ok(()) | Err(ListingError::Fault(_)) => Ok(Body::Listing(listing)),
+                Err(ListingError::Memory) => Err(Mem::Memory),
+            },
+            Body::Ownertrust(mut text) => {
+                text.add_line(line)?;
+                Ok(Body::Ownertrust(text))
+            }
+        }
+    }
+}

@@ -1,0 +1,68 @@
+//! An edit: it is refused, or its record is built and it is made.
+
+ghost use Rattle.std.specs.Prelude.{◌≡◌, None, IfOk};
+ghost use Rattle.wot_types.specs.Outcome.{edit_outcome, refusal_of};
+ghost use Rattle.wot_types.specs.Payload.{IsProper};
+ghost use Rattle.wot_types.specs.Store.{Store};
+ghost use Rattle.wot_answer.specs.Answer.{Ends};
+ghost use Rattle.wot_answer.specs.declared.answer.Cut.TheVariants.{Between};
+
+use crate::answer::{Answered, Cut};
+use crate::reply::{Answer, Effect, refuse};
+use std::alloc::Global;
+use wot_commands::{change, refusal};
+use wot_journal::{BuildError, build};
+use wot_live::Engine;
+use wot_spelling::encode;
+use wot_types::{Edit, Mem, Refusal};
+
+/// Makes an edit that isn't refused, and replies so. What may refuse it is tried first, then its record is built for the
+/// journal's end, and only then the engine changes.
+pub fn make_edit(
+    alloc: Global,
+    engine: Engine,
+    end: u64,
+    edit: Edit,
+    reply: Vec<u8>,
+) -> Result<Answered, Mem>
+    requires proper { IsProper edit }
+    ensures ends { IfOk result (λ answered. (s : Store) → engine ≡ s.state → end ≡ s.end → Ends answered s (edit_outcome reply.items s edit)) }
+    ensures cut { IfOk result (λ answered. answered.cut ≡ Between) }
+{
+    match refusal(&engine, &edit) {
+        Some(refusal) => refuse(alloc, engine, refusal),
+        None => make_allowed(alloc, engine, end, edit, reply),
+    }
+}
+
+/// Makes an edit that nothing but a full journal refuses.
+fn make_allowed(
+    alloc: Global,
+    engine: Engine,
+    end: u64,
+    edit: Edit,
+    reply: Vec<u8>,
+) -> Result<Answered, Mem>
+    requires proper { IsProper edit }
+    requires allowed { refusal_of engine edit ≡ None }
+    ensures ends { IfOk result (λ answered. (s : Store) → engine ≡ s.state → end ≡ s.end → Ends answered s (edit_outcome reply.items s edit)) }
+    ensures cut { IfOk result (λ answered. answered.cut ≡ Between) }
+{
+    let payload = encode(alloc, &edit)?;
+    match build(alloc, &payload, end) {
+        Ok(built) => {
+            let engine = change(engine, edit)?;
+            Ok(Answered {
+                engine,
+                answer: Answer {
+                    text: reply,
+                    refused: false,
+                    effect: Effect::Append(built),
+                },
+                cut: Cut::Between,
+            })
+        }
+        Err(BuildError::JournalFull) => refuse(alloc, engine, Refusal::JournalFull),
+        Err(BuildError::Memory) => Err(Mem::Memory),
+    }
+}

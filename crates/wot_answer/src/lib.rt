@@ -1,0 +1,15 @@
+//! What each line of a session is answered with: its reply, the engine after it, and what is done to the store before the
+//! reply is told. No site is called here.
+#![tactic(auto)]
+
+mod answer; // the answers to lines, to blocks at the input's end and to words
+mod block; // a command's block, read as it comes
+mod edit; // an edit that is refused or made
+mod query; // what a query is answered with
+mod reply; // a reply with the engine that it leaves
+mod words; // the words of a line
+
+pub use answer::{Answered, Cut, answer_end, answer_line, answer_words, begin_block};
+pub use block::Block;
+pub use reply::{Answer, Effect};
+pub use words::has_block;

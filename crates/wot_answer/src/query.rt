@@ -1,0 +1,135 @@
+//! What a query is answered with.
+
+ghost use Rattle.std.specs.Prelude.{◌≡◌, ◌-◌, ◌<◌, None, IsSome, IfOk};
+ghost use Rattle.wot_types.specs.Arrangement.{spot_at};
+ghost use Rattle.wot_types.specs.Keyring.{has_fpr};
+ghost use Rattle.wot_types.specs.Outcome.{answer_to, query_outcome, query_refusal, user_count};
+ghost use Rattle.wot_types.specs.WhyText.{why_text};
+ghost use Rattle.wot_types.specs.Store.{Store};
+ghost use Rattle.wot_commands.specs.Heads.{IsProperQuery};
+ghost use Rattle.wot_answer.specs.Answer.{Ends};
+ghost use Rattle.wot_answer.specs.declared.answer.Cut.TheVariants.{Between};
+
+use crate::answer::Answered;
+use crate::reply::{refuse, reply};
+use std::alloc::Global;
+use std::marker::Brand;
+use std::sync::ledger::{Blank, Ledger};
+use wot_explain::{cut, explain, recount};
+use wot_live::Engine;
+use wot_print::{export, list, why};
+use wot_types::{Fpr, KeyId, Mem, Query, Refusal, Steps};
+
+/// Answers a query; the engine stays.
+pub fn answer_query(alloc: Global, engine: Engine, query: &Query) -> Result<Answered, Mem>
+    requires proper { IsProperQuery query.now }
+    ensures ends { IfOk result (λ answered. (s : Store) → engine ≡ s.state → Ends answered s (query_outcome s query.now)) }
+    ensures cut { IfOk result (λ answered. answered.cut ≡ Between) }
+{
+    match query_refusal(&engine, query) {
+        Some(refusal) => refuse(alloc, engine, refusal),
+        None => {
+            let mut text = query_text(alloc, &engine, query)?;
+            text.extend_from_slice(b"ok\n")?;
+            Ok(reply(engine, text))
+        }
+    }
+}
+
+/// Why a query has no answer: its key or its user ID isn't there.
+fn query_refusal(engine: &Engine, query: &Query) -> Option<Refusal>
+    ensures { result ≡ query_refusal engine.now query.now }
+{
+    match query {
+        Query::ListOne(fpr) | Query::SigsOne(fpr) => {
+            if has_key(engine, fpr) {
+                None
+            } else {
+                Some(Refusal::NoSuchKey)
+            }
+        }
+        Query::Why(fpr, place) => {
+            if !has_key(engine, fpr) {
+                Some(Refusal::NoSuchKey)
+            } else if *place > user_count(engine, fpr.key_id()) {
+                Some(Refusal::NoSuchUser)
+            } else {
+                None
+            }
+        }
+        Query::List | Query::Sigs | Query::Export | Query::Quit => None,
+    }
+}
+
+/// Whether the keyring has a key of this fingerprint. One of its key ID with another fingerprint is no such key.
+pub fn has_key(engine: &Engine, fpr: &Fpr) -> bool
+    ensures { result ≡ has_fpr engine.now.keys fpr.now }
+{
+    match engine.table().key(fpr.key_id()) {
+        Some(key) => *key.fpr == *fpr,
+        None => false,
+    }
+}
+
+/// How many user IDs a key has.
+fn user_count(engine: &Engine, id: KeyId) -> u32
+    ensures { result ≡ user_count engine.now id }
+{
+    match engine.table().key(id) {
+        Some(key) => key.users,
+        None => 0,
+    }
+}
+
+/// A query's reply before its last line.
+fn query_text(alloc: Global, engine: &Engine, query: &Query) -> Result<Vec<u8>, Mem>
+    requires proper { IsProperQuery query.now }
+    requires answered { query_refusal engine.now query.now ≡ None }
+    ensures { IfOk result (λ text. text.items ≡ answer_to engine.now query.now) }
+{
+    match query {
+        Query::List => list(alloc, engine, None, false),
+        Query::ListOne(fpr) => list(alloc, engine, Some(fpr.key_id()), false),
+        Query::Sigs => list(alloc, engine, None, true),
+        Query::SigsOne(fpr) => list(alloc, engine, Some(fpr.key_id()), true),
+        Query::Export => export(alloc, engine),
+        Query::Why(fpr, place) => explained(alloc, engine, fpr.key_id(), *place - 1),
+        Query::Quit => Ok(Vec::new(alloc)),
+    }
+}
+
+/// Why a user ID, numbered from 0, is as valid as it is.
+fn explained(alloc: Global, engine: &Engine, id: KeyId, user: u32) -> Result<Vec<u8>, Mem>
+    requires there { IsSome (spot_at engine.now.keys id user) }
+    ensures { IfOk result (λ text. text.items ≡ why_text engine.now id user) }
+{
+    explained_by::<Brand>(alloc, engine, id, user, Blank::new(1))
+}
+
+/// The same, over a counter of its own for the certifications that it reads. The letter is recounted from the cut keyring.
+fn explained_by<L: Ledger>(
+    alloc: Global,
+    engine: &Engine,
+    id: KeyId,
+    user: u32,
+    blank: Blank,
+) -> Result<Vec<u8>, Mem>
+    requires there { IsSome (spot_at engine.now.keys id user) }
+    requires own { (blank.name ≡ L.name) × (blank.parts ≡ L.parts) × (0 < L.parts) }
+    ensures { IfOk result (λ text. text.items ≡ why_text engine.now id user) }
+{
+    let mut steps = Steps::<L>::open(blank);
+    let found = explain(engine, id, user, &mut steps)?;
+    let table = cut(engine, &found, id, user, &mut steps)?;
+    let options = engine.options();
+    let letter = recount(
+        &table,
+        engine.trusts(),
+        engine.date(),
+        options,
+        id,
+        user,
+        &mut steps,
+    )?;
+    why(alloc, id, user, &found, letter)
+}

@@ -1,0 +1,79 @@
+//! Replies: what is told, and what is done to the store before it is told.
+
+ghost use Rattle.std.specs.Prelude.{◌≡◌, false, IfOk};
+ghost use Rattle.wot_types.specs.Outcome.{refuse, skip};
+ghost use Rattle.wot_types.specs.Store.Change.{keeps};
+ghost use Rattle.wot_answer.specs.Answer.{IsReply};
+ghost use Rattle.wot_answer.specs.declared.answer.Cut.TheVariants.{Between};
+
+use crate::answer::{Answered, Cut};
+use std::alloc::Global;
+use wot_journal::Built;
+use wot_live::Engine;
+use wot_print::refused;
+use wot_types::{Mem, Refusal};
+
+/// What is done to the store before a reply is told.
+#[derive(Debug, Drop)]
+pub enum Effect {
+    Nothing,
+    Append(Built),
+}
+
+/// What a command is answered with.
+#[derive(Debug, Drop)]
+pub struct Answer {
+    /// The whole reply: nothing for a line with no command.
+    pub text: Vec<u8>,
+    /// Whether it is an `err` line.
+    pub refused: bool,
+    pub effect: Effect,
+}
+
+/// A refused command's `err` line; the engine stays.
+pub fn refuse(alloc: Global, engine: Engine, refusal: Refusal) -> Result<Answered, Mem>
+    ensures reply { IfOk result (λ answered. IsReply answered engine (refuse refusal)) }
+    ensures cut { IfOk result (λ answered. answered.cut ≡ Between) }
+{
+    Ok(Answered {
+        engine,
+        answer: Answer {
+            text: refused(alloc, &refusal)?,
+            refused: true,
+            effect: Effect::Nothing,
+        },
+        cut: Cut::Between,
+    })
+}
+
+/// A query's reply; the engine stays.
+pub fn reply(engine: Engine, text: Vec<u8>) -> Answered
+    ensures reply { IsReply result engine (record { text = text.items; refused = false; change = keeps }) }
+    ensures cut { result.cut ≡ Between }
+{
+    Answered {
+        engine,
+        answer: Answer {
+            text,
+            refused: false,
+            effect: Effect::Nothing,
+        },
+        cut: Cut::Between,
+    }
+}
+
+/// Nothing is told, and nothing is done.
+pub fn say_nothing(alloc: Global, engine: Engine, cut: Cut) -> Answered
+    ensures reply { IsReply result engine skip }
+    ensures cut { result.cut ≡ cut }
+{
+    Answered {
+        engine,
+        answer: Answer {
+            text: Vec::new(alloc),
+            refused: false,
+            effect: Effect::Nothing,
+        },
+        cut,
+    }
+}

@@ -1,0 +1,149 @@
+-- What an answer does to the store, and then its reply.
+use Rattle.std.proofs.Common.{◌≡◌, inl, inr, ℕ, List, [], ◌++◌, Option, Some, None, refl, sym, ap, ◌∙◌, subst, append_assoc}
+use Rattle.std.proofs.lemmas.List.{append-nil}
+use Rattle.wot_types.specs.Store.{Store}
+use Rattle.wot_types.specs.declared.edit.Edit.{Edit}
+use Rattle.wot_types.specs.Outcome.{edited_store}
+use Rattle.wot_journal.specs.Record.{Framed}
+use Rattle.wot_answer.specs.Answer.{Does, Leads}
+use Rattle.wot_answer.specs.declared.reply.Effect.{Effect}
+use Rattle.wot_answer.specs.declared.reply.Effect.TheVariants.{Nothing, Append}
+use Rattle.wot_site.specs.Seen.{Honestly, IfHonest, Moment, Seen}
+use Rattle.wot_site.specs.Work.{Since, now}
+use Rattle.wot_site.proofs.Honest.{honest_after, honest_then, honest_with}
+use Rattle.wot_site.proofs.Works.{since_then, since_weaker, works_start}
+use Rattle.wot_store.specs.Appending.{Appending, Appends, IsNext, IsRecordOf}
+use Rattle.wot_store.specs.Shows.{IsStored}
+use Rattle.wot_session.specs.Here.{Holds}
+use Rattle.wot_session.specs.Kept.{AllShow, AllShowEither, IsAround}
+use Rattle.wot_session.specs.Told.{Given, GivenPrefix, IsTelling, Telling, TellingPrefix}
+use Rattle.wot_session.proofs.Keeping.{stored_shows}
+
+-- nothing is done to the store
+still : (s : Store) (seen : Option Seen) → Holds seen s → Honestly seen seen (Appending s s)
+still s None holds = tt
+still s (Some x) holds = works_start (AllShowEither s s) x (λ image is. inl (stored_shows s x.disks holds image is))
+
+pub nothing_done : (effect : Effect) (s t : Store) (seen : Option Seen) → effect ≡ Nothing → Does effect s t → Holds seen s → Honestly seen seen (Appending s t)
+nothing_done Nothing s t seen is same holds = subst (λ t. Honestly seen seen (Appending s t)) (sym same) (still s seen holds)
+nothing_done (Append built) s t seen is leads holds = cc
+
+-- the record may be appended
+record_of : (built : Framed) (s t : Store) (leads : Leads built s t) → IsRecordOf built s leads.edit
+record_of built s t leads = record { place = leads.place; spells = leads.payload; allowed = leads.accepts.allowed }
+
+pub leads_next : (built : Framed) (s t : Store) (seen : Option Seen) → Leads built s t → Holds seen s → IfHonest seen (λ x. IsNext built x.disks)
+leads_next built s t None leads holds = tt
+leads_next built s t (Some x) leads holds = record { shown = s; edit = leads.edit; stored = holds; record_of = record_of built s t leads }
+
+-- what is stored after it
+pub appending_is : (built : Framed) (s t : Store) (a b : Option Seen) → Leads built s t
+    → ((edit : Edit) → IsRecordOf built s edit → Honestly a b (Appending s (edited_store s edit))) → Honestly a b (Appending s t)
+appending_is built s t a b leads all = subst (λ t. Honestly a b (Appending s t)) (sym leads.after) (all leads.edit (record_of built s t leads))
+
+held : (store : Store) (a b : Option Seen) → Honestly a b (Appends store) → Holds b store
+held store None None appends = tt
+held store None (Some y) appends = absurd appends
+held store (Some x) None appends = absurd appends
+held store (Some x) (Some y) appends = appends
+
+pub appended_is : (built : Framed) (s t : Store) (a b : Option Seen) → Leads built s t
+    → ((edit : Edit) → IsRecordOf built s edit → Honestly a b (Appends (edited_store s edit))) → Holds b t
+appended_is built s t a b leads all = subst (Holds b) (sym leads.after) (held _ a b (all leads.edit (record_of built s t leads)))
+
+-- a moment before the reply
+working_around : (s t : Store) (reply told : List ℕ) (m : Moment) → m.told ≡ told → AllShowEither s t m.disks → IsAround s t reply told m
+working_around s t reply told m same either = record {
+  prefix = [];
+  is_prefix = (reply, refl);
+  told = same ∙ sym (append-nil told);
+  either = either;
+  answered = inr refl;
+}
+
+-- a moment while the reply is told
+telling_around : (s t : Store) (reply : List ℕ) (x y : Seen) (m : Moment) → y.told ≡ x.told → IsStored t y.disks → IsTelling y.disks y.told reply m → IsAround s t reply x.told m
+telling_around s t reply x y m same stored is =
+    let shows : AllShow t m.disks = subst (AllShow t) (sym is.disks) (stored_shows t y.disks stored) in
+    record {
+      prefix = is.prefix;
+      is_prefix = is.is_prefix;
+      told = is.told ∙ ap (λ told. told ++ is.prefix) same;
+      either = λ image at. inr (shows image at);
+      answered = inl shows;
+    }
+
+module _ (s t : Store) (reply : List ℕ) (x y : Seen) (works : Appending s t x y) where
+  before_reply : Since (IsAround s t reply x.told) x y
+  before_reply = since_weaker _ _ x y (λ m at. working_around s t reply x.told m at.told at.disks) works.since
+
+  -- the store failed
+  pub given_none : GivenPrefix s t reply x y
+  given_none = record {
+    told = record {
+      prefix = [];
+      is_prefix = (reply, refl);
+      told = record { told = works.told ∙ sym (append-nil x.told); left = works.left; taken = works.taken; asks = works.asks };
+    };
+    since = before_reply;
+    here = working_around s t reply x.told (now y) works.told works.last;
+  }
+
+  module _ (z : Seen) (stored : IsStored t y.disks) where
+    while_told : (prefix : List ℕ) → (rest : List ℕ) × (prefix ++ rest ≡ reply) → (m : Moment) → IsTelling y.disks y.told prefix m → IsAround s t reply x.told m
+    while_told prefix (rest, split) m is = telling_around s t reply x y m works.told stored (record {
+      disks = is.disks;
+      prefix = is.prefix;
+      is_prefix = (is.is_prefix.0 ++ rest, sym (append_assoc is.prefix is.is_prefix.0 rest) ∙ ap (λ text. text ++ rest) is.is_prefix.1 ∙ split);
+      told = is.told;
+    })
+
+    -- the reply was told
+    pub given_all : Telling reply y z → Given s t reply x z
+    given_all telling = record {
+      told = record {
+        told = telling.told.told ∙ ap (λ told. told ++ reply) works.told;
+        left = telling.told.left ∙ works.left;
+        taken = telling.told.taken ∙ works.taken;
+        asks = telling.told.asks ∙ works.asks;
+      };
+      since = since_then _ x y z before_reply (since_weaker _ _ y z (while_told reply ([], append-nil reply)) telling.since);
+    }
+
+    -- a prefix of it
+    pub given_prefix : TellingPrefix reply y z → GivenPrefix s t reply x z
+    given_prefix part =
+        let telling = part.telling in
+        record {
+          told = record {
+            prefix = part.prefix;
+            is_prefix = part.is_prefix;
+            told = record {
+              told = telling.told.told ∙ ap (λ told. told ++ part.prefix) works.told;
+              left = telling.told.left ∙ works.left;
+              taken = telling.told.taken ∙ works.taken;
+              asks = telling.told.asks ∙ works.asks;
+            };
+          };
+          since = since_then _ x y z before_reply (since_weaker _ _ y z (while_told part.prefix part.is_prefix) telling.since);
+          here = telling_around s t reply x y (now z) works.told stored
+              (record { disks = telling.disks; prefix = part.prefix; is_prefix = part.is_prefix; told = telling.told.told });
+        }
+
+pub still_holds : (t : Store) (reply : List ℕ) (a b : Option Seen) → Holds a t → Honestly a b (Telling reply) → Holds b t
+still_holds t reply a b holds telling =
+    honest_after _ (λ z. IsStored t z.disks) (Telling reply) a b holds telling (λ y z stored told. subst (IsStored t) (sym told.disks) stored)
+
+-- both steps of a site: the store, and then the reply
+module _ (s t : Store) (a b c : Option Seen) (holds : Holds b t) (works : Honestly a b (Appending s t)) where
+  pub giving_all : (text reply : List ℕ) → text ≡ reply → Honestly b c (Telling text) → Honestly a c (Given s t reply)
+  giving_all text reply same tells =
+      honest_then _ _ _ a b c works
+      (honest_with (λ y. IsStored t y.disks) (Telling text) (λ y z. IsStored t y.disks × Telling text y z) b c holds tells (λ y z stored tells. (stored, tells)))
+      (λ x y z works told. subst (λ reply. Given s t reply x z) same (given_all s t text x y works z told.0 told.1))
+
+  pub giving_prefix : (text reply : List ℕ) → text ≡ reply → Honestly b c (TellingPrefix text) → Honestly a c (GivenPrefix s t reply)
+  giving_prefix text reply same tells =
+      honest_then _ _ _ a b c works
+      (honest_with (λ y. IsStored t y.disks) (TellingPrefix text) (λ y z. IsStored t y.disks × TellingPrefix text y z) b c holds tells (λ y z stored tells. (stored, tells)))
+      (λ x y z works told. subst (λ reply. GivenPrefix s t reply x z) same (given_prefix s t text x y works z told.0 told.1))

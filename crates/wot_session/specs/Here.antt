@@ -1,0 +1,64 @@
+-- How a session's fields stand for how far it has come.
+use Rattle.std.specs.Prelude.{◌≡◌, ℕ, List, Option, Some}
+use Rattle.wot_types.specs.Store.{Store}
+use Rattle.wot_types.specs.LineByLine.{Position}
+use Rattle.wot_answer.specs.Answer.{Does, IsCut}
+use Rattle.wot_answer.specs.declared.reply.Answer.{Answer}
+use Rattle.wot_answer.specs.declared.answer.Cut.TheVariants.{Over}
+use Rattle.wot_answer.specs.declared.reply.Effect.{Effect}
+use Rattle.wot_site.specs.Seen.{IfHonest, Seen}
+use Rattle.wot_store.specs.Shows.{IsStored}
+use Rattle.wot_store.specs.declared.opening.Opened.{Opened}
+use Rattle.wot_store.specs.declared.place.Place.{Place}
+use Rattle.wot_session.specs.declared.session.Session.{Session}
+
+-- the store's journal ends at this place
+pub record IsPlace (place : Place) (store : Store) : Type 0 where
+  pub epoch : place.epoch ≡ store.epoch
+  pub end : place.end ≡ store.end
+
+-- the session has come so far
+pub record IsAt (session : Session) (p : Position) : Type 0 where
+  pub engine : session.engine ≡ Some p.progress.store.state
+  pub place : IsPlace session.place p.progress.store
+  pub refused : session.refused ≡ p.progress.refused
+  pub cut : IsCut session.cut p.cut
+
+-- the site, if it tells, has this store open
+abbrev pub Holds : Option Seen → Store → Type 0
+Holds seen store = IfHonest seen (λ s. IsStored store s.disks)
+
+-- the session has come so far, and the site's store is its own
+pub record IsHere (session : Session) (seen : Option Seen) (p : Position) : Type 0 where
+  pub at : IsAt session p
+  pub holds : Holds seen p.progress.store
+
+-- it has come to some point of some input
+abbrev pub IsSomewhere : Session → Option Seen → Type 0
+IsSomewhere session seen = (p : Position) × IsHere session seen p
+
+-- `quit` was answered
+abbrev pub IsOver : Session → Type 0
+IsOver session = session.cut ≡ Over
+
+-- a command was answered with this reply: all but the store has come so far, and the answer leads the store there
+pub record IsDue (session : Session) (answer : Answer) (s : Store) (after : Position) (reply : List ℕ) : Type 0 where
+  pub text : answer.text.items ≡ reply
+  pub engine : session.engine ≡ Some after.progress.store.state
+  pub place : IsPlace session.place s
+  pub refused : session.refused ≡ after.progress.refused
+  pub cut : IsCut session.cut after.cut
+  pub does : Does answer.effect s after.progress.store
+
+-- the effect may be performed here
+abbrev pub IsReadyFor : Place → Effect → Option Seen → Type 0
+IsReadyFor place effect seen = (s t : Store) × IsPlace place s × Does effect s t × Holds seen s
+
+-- the answer may be given here
+abbrev pub CanGive : Session → Answer → Option Seen → Type 0
+CanGive session answer seen = (s : Store) × (after : Position) × (reply : List ℕ) × IsDue session answer s after reply × Holds seen s
+
+-- this store was opened
+pub record IsOpened (opened : Opened) (store : Store) : Type 0 where
+  pub engine : opened.engine ≡ store.state
+  pub place : IsPlace opened.place store

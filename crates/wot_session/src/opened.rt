@@ -1,0 +1,52 @@
+//! A run over its opened store: a session over the input, or one command.
+
+ghost use Rattle.std.specs.Prelude.{◌≡◌, IfOk, IfErr};
+ghost use Rattle.wot_types.specs.Store.{Store};
+ghost use Rattle.wot_site.specs.Seen.{Honestly};
+ghost use Rattle.wot_session.specs.Here.{Holds, IsOpened};
+ghost use Rattle.wot_session.specs.Told.{HasStopCause};
+ghost use Rattle.wot_session.specs.Words.{WordsEnded, WordsStopped};
+
+use crate::running::run_session;
+use crate::session::Session;
+use crate::stop::Stop;
+use std::alloc::Global;
+use wot_answer::{Cut, begin_block, has_block};
+use wot_site::Site;
+use wot_store::Opened;
+use wot_types::{Mem, Words};
+
+/// Runs a session where there are no words, and else the one command that they are. It answers whether some command
+/// was refused.
+pub fn run_opened<S: Site>(
+    alloc: Global,
+    words: &Words,
+    opened: Opened,
+    site: &mut S,
+    most: u64,
+) -> Result<bool, Stop>
+    requires { (store : Store) × IsOpened opened store × Holds (S.seen site.old) store }
+    ensures ended { IfOk result (λ refused. (store : Store) → IsOpened opened store → Holds (S.seen site.old) store
+        → Honestly (S.seen site.old) (S.seen site.new) (WordsEnded store words.now most refused)) }
+    ensures stopped { IfErr result (λ stop. (store : Store) → IsOpened opened store → Holds (S.seen site.old) store
+        → Honestly (S.seen site.old) (S.seen site.new) (WordsStopped store words.now most stop)) }
+    ensures cause { HasStopCause (S.faults site.old) (S.faults site.new) result }
+{
+    if words.as_slice().is_empty() {
+        let mut session = Session::new(alloc, opened, Cut::Between);
+        return run_session(&mut session, site, most);
+    }
+    if !has_block(words) {
+        let mut session = Session::new(alloc, opened, Cut::Between);
+        match session.answer_command(site, words) {
+            Ok(()) => return Ok(session.is_refused()),
+            Err(stop) => return Err(stop),
+        }
+    }
+    let block = match begin_block(alloc, words) {
+        Ok(block) => block,
+        Err(Mem::Memory) => return Err(Stop::Memory),
+    };
+    let mut session = Session::new(alloc, opened, Cut::Within(block));
+    run_session(&mut session, site, most)
+}

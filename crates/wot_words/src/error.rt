@@ -1,0 +1,25 @@
+//! Why the words ask for nothing.
+
+ghost use Rattle.std.specs.Prelude.{◌≡◌};
+ghost use Rattle.wot_words.specs.declared.error.WordsError.TheVariants.{Memory};
+
+use thiserror::Error;
+use wot_types::Mem;
+
+/// The error of reading the program's words.
+#[derive(Clone, Copy, Debug, PartialEq, Eq, Drop, Error)]
+pub enum WordsError {
+    /// The words aren't in the word grammar.
+    #[error("usage: wot [--workers N] [WORD]...")]
+    Usage,
+    #[error("out of memory")]
+    Memory,
+}
+
+impl From<Mem> for WordsError {
+    ghost from_gives = { λ _ e. e ≡ Memory };
+
+    fn from(_e: Mem) -> WordsError {
+        WordsError::Memory
+    }
+}
