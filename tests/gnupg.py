@@ -1,8 +1,7 @@
 #!/usr/bin/env python3
-"""Compares the letters that the built program gives with GnuPG's own, over a keyring that gpg makes for it.
+"""Compares the letters that the built program gives with GnuPG's own, over keyrings that gpg makes for it.
 
-Some keys certify one another at random, and their owners get trust at random, again and again.
-It skips where there is no gpg that can make such a keyring.
+The program reads what gpg prints as it stands. It skips where there is no gpg that can make such a keyring.
 """
 import os
 import random
@@ -10,19 +9,34 @@ import subprocess
 import sys
 import tempfile
 
-PROGRAM = os.path.abspath(sys.argv[1])
+from program import run
+
 KEYS, CERTIFICATIONS, ROUNDS = 10, 24, 20
-LETTERS = {2: "q", 3: "n", 4: "m", 5: "f", 6: "u"}
+START = 1700000000
+DAY = 86400
+NUMBERS = [2, 3, 4, 4, 5, 5, 6]
 
 
 class NoGnuPG(Exception):
     pass
 
 
-def gpg(*words, given=""):
-    quiet = ["gpg", "--batch", "--yes", "--quiet", "--pinentry-mode", "loopback", "--passphrase", ""]
+clock = START
+
+
+def later(seconds=60):
+    """Each thing that gpg makes has a date of its own."""
+    global clock
+    clock += seconds
+    return clock
+
+
+def gpg(*words, given="", batch=True):
+    always = ["--yes", "--quiet", "--no-tty", "--pinentry-mode", "loopback", "--passphrase", "", "--faked-system-time", f"{clock}!"]
     try:
-        return subprocess.run([*quiet, *words], input=given, capture_output=True, text=True, check=True, timeout=60).stdout
+        return subprocess.run(
+            ["gpg", *(["--batch"] if batch else []), *always, *words], input=given, capture_output=True, text=True, check=True, timeout=60
+        ).stdout
     except (OSError, subprocess.SubprocessError) as fault:
         raise NoGnuPG(fault) from fault
 
@@ -31,54 +45,121 @@ def records(text):
     return [line.split(":") for line in text.splitlines()]
 
 
-def made_keyring(chance):
-    """Fingerprints in the order of the keyring."""
-    for number in range(KEYS):
-        gpg("--quick-generate-key", f"Key {number} <k{number}@example.org>", "ed25519", "cert", "never")
-    keys = [fields[9] for fields in records(gpg("--with-colons", "--list-keys")) if fields[0] == "fpr"]
+def primaries():
+    """The fingerprints of the keys, in the order of the keyring."""
+    found, wanted = [], False
+    for fields in records(gpg("--with-colons", "--list-keys")):
+        if fields[0] == "pub":
+            wanted = True
+        elif fields[0] == "fpr" and wanted:
+            found.append(fields[9])
+            wanted = False
+    return found
+
+
+def made(count, usage="cert", expires="never"):
+    for number in range(count):
+        later()
+        gpg("--quick-generate-key", f"Key {number} <k{number}@example.org>", "ed25519", usage, expires)
+    return primaries()
+
+
+def plain_keyring(chance):
+    """Keys that certify one another at random, some with a subkey, a second user ID, an expiry or a revocation."""
+    keys = made(KEYS)
+    later()
+    gpg("--quick-add-key", keys[0], "cv25519", "encr", "never")
+    for key, text in ((keys[1], "Colon: back\\slash <x@example.org>"), (keys[2], "Zoë <z@example.org>"), (keys[3], "Gone <g@example.org>")):
+        later()
+        gpg("--quick-add-uid", key, text)
+    later()
+    gpg("--quick-set-expire", keys[4], "5d")
     pairs = [(signer, signed) for signer in keys for signed in keys if signer != signed]
     for signer, signed in chance.sample(pairs, CERTIFICATIONS):
+        later()
         gpg("--default-key", signer, "--quick-sign-key", signed)
+    later()
+    gpg("--quick-revoke-uid", keys[3], "Gone <g@example.org>")
+    with open(os.path.join(os.environ["GNUPGHOME"], "openpgp-revocs.d", keys[5] + ".rev"), encoding="utf-8") as file:
+        later()
+        gpg("--import", given=file.read().replace(":-----BEGIN", "-----BEGIN"))
     return keys
+
+
+def trusting_keyring(chance):
+    """A key that trusts others to certify, to a depth, marginally or fully, some of them for a domain alone."""
+    keys = made(8)
+    for signer, signed, value, depth, domain in (
+        (0, 1, 2, 2, ""),
+        (0, 2, 1, 1, ""),
+        (0, 3, 2, 1, "example.org"),
+        (0, 4, 2, 3, "example.net"),
+        (1, 5, 2, 1, ""),
+        (1, 2, 1, 1, ""),
+    ):
+        later()
+        gpg(
+            "-u", keys[signer], "--command-fd", "0", "--edit-key", keys[signed],
+            given=f"tsign\n{value}\n{depth}\n{domain}\ny\nsave\n", batch=False,
+        )
+    for signer, signed in ((3, 6), (4, 6), (2, 6), (5, 7), (2, 7), (4, 7)):
+        later()
+        gpg("--default-key", keys[signer], "--quick-sign-key", keys[signed])
+    return keys
+
+
+def letters(listing):
+    """The letter of each user ID, by its text."""
+    return {fields[9]: fields[1] for fields in records(listing) if fields[0] in ("uid", "uat")}
 
 
 def by_gnupg(trusts):
     gpg("--import-ownertrust", given="".join(f"{key}:{number}:\n" for key, number in trusts.items()))
     gpg("--check-trustdb")
-    return gpg("--with-colons", "--fixed-list-mode", "--list-keys")
+    return letters(gpg("--with-colons", "--fixed-list-mode", "--list-keys"))
 
 
-def by_program(trusts, listing):
-    lines = [f"trust {key} {LETTERS[number]}" for key, number in trusts.items()]
-    session = "\n".join([*lines, "import", *listing, ".", "list", ""])
-    return subprocess.run([PROGRAM], input=session, capture_output=True, text=True, check=True, timeout=60).stdout
+def by_program(listing):
+    session = ["ownertrust", *gpg("--export-ownertrust").splitlines(), ".", f"date {clock}", "import", *listing.splitlines(), ".", "list", ""]
+    done = run("\n".join(session))
+    if done.returncode:
+        sys.exit(f"gnupg: the program ended with {done.returncode}, and told {done.stdout[:300]}")
+    return letters(done.stdout.decode())
 
 
-def letters(listing):
-    """The letter of each user ID, by its text."""
-    return {fields[9]: fields[1] for fields in records(listing) if fields[0] == "uid"}
-
-
-def compared(chance):
+def compared(keyring, choose, rounds):
     """How often each letter came from both; it ends where they differ."""
-    keys = made_keyring(chance)
-    listing = gpg("--with-colons", "--fixed-list-mode", "--check-sigs").splitlines()
-    listing = [line for line in listing if not line.startswith("tru:")]
-    agreed = {}
-    for _ in range(ROUNDS):
-        trusts = {key: chance.choice([2, 3, 4, 4, 5, 5, 6]) for key in keys}
-        wanted, told = letters(by_gnupg(trusts)), letters(by_program(trusts, listing))
-        if told != wanted:
-            sys.exit(f"gnupg: {told} in place of {wanted}, with the ownertrust {trusts}, over\n" + "\n".join(listing))
-        for letter in told.values():
-            agreed[letter] = agreed.get(letter, 0) + 1
-    return agreed
-
-
-with tempfile.TemporaryDirectory(prefix="wot", ignore_cleanup_errors=True) as home:
-    os.environ["GNUPGHOME"] = home
-    try:
-        print(f"gnupg: the same letters: {compared(random.Random(5))}")
+    chance = random.Random(5)
+    with tempfile.TemporaryDirectory(prefix="wot", ignore_cleanup_errors=True) as home:
+        os.environ["GNUPGHOME"] = home
+        keys = keyring(chance)
+        later(10 * DAY)
+        agreed = {}
+        for _ in range(rounds):
+            trusts = choose(chance, keys)
+            wanted = by_gnupg(trusts)
+            listing = gpg("--with-colons", "--fixed-list-mode", "--check-sigs")
+            told = by_program(listing)
+            if told != wanted:
+                sys.exit(f"gnupg: {told} in place of {wanted}, with the ownertrust {trusts}, over\n{listing}")
+            for letter in told.values():
+                agreed[letter] = agreed.get(letter, 0) + 1
         subprocess.run(["gpgconf", "--kill", "all"], capture_output=True, check=False)
+        return agreed
+
+
+def anybody(chance, keys):
+    return {key: chance.choice(NUMBERS) for key in keys}
+
+
+def first_alone(chance, keys):
+    """Whom the others trust shows by trust signatures."""
+    return {key: 6 if key == keys[0] else chance.choice([2, 2, 4]) for key in keys}
+
+
+if __name__ == "__main__":
+    try:
+        print(f"gnupg: the same letters: {compared(plain_keyring, anybody, ROUNDS)}")
+        print(f"gnupg: the same letters under trust signatures: {compared(trusting_keyring, first_alone, 5)}")
     except NoGnuPG as fault:
         print(f"gnupg: skipped: {fault}")

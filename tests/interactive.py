@@ -5,8 +5,9 @@ import select
 import subprocess
 import sys
 
-PROGRAM = os.path.abspath(sys.argv[1])
-A = "00000000000000000000000000000000000000AA"
+from program import PROGRAM, fingerprint, folder
+
+A = fingerprint("A")
 TURNS = [
     (f"trust {A} u\n", "ok\n"),
     ("frob\n", "err unknown-command\n"),
@@ -30,15 +31,16 @@ def reply(pipe, wanted):
     return told.decode()
 
 
-child = subprocess.Popen([PROGRAM], stdin=subprocess.PIPE, stdout=subprocess.PIPE)
-for line, wanted in TURNS:
-    child.stdin.write(line.encode())
-    child.stdin.flush()
-    told = reply(child.stdout, wanted)
-    if told != wanted:
-        sys.exit(f"interactive: after {line!r} came {told!r} in place of {wanted!r}")
-child.stdin.close()
-status = child.wait(timeout=10)
+with folder() as store:
+    child = subprocess.Popen([PROGRAM], stdin=subprocess.PIPE, stdout=subprocess.PIPE, cwd=store)
+    for line, wanted in TURNS:
+        child.stdin.write(line.encode())
+        child.stdin.flush()
+        told = reply(child.stdout, wanted)
+        if told != wanted:
+            sys.exit(f"interactive: after {line!r} came {told!r} in place of {wanted!r}")
+    child.stdin.close()
+    status = child.wait(timeout=10)
 if status != 1:
     sys.exit(f"interactive: the status is {status} in place of 1")
 print("interactive: ok")

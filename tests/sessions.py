@@ -1,46 +1,30 @@
 #!/usr/bin/env python3
-"""Feeds whole sessions to the built program, and compares what it tells, byte for byte, and its exit status."""
-import os
-import subprocess
+"""Feeds whole sessions to the built program, each on an empty store, and compares what it tells, byte for byte, and its exit status.
+
+Each session is run a second time command by command, a run a command on one store: it tells the same.
+"""
 import sys
 
-PROGRAM = os.path.abspath(sys.argv[1])
+from program import by, fingerprint, folder, imported, key, key_id, letters, run, short, trust
+
 TRU = "tru::1:0:0:3:1:5\n"
 
 
-def fingerprint(name):
-    """Keys are named by a hexadecimal digit."""
-    return "0" * 38 + name * 2
-
-
-def trust(name, letter):
-    return f"trust {fingerprint(name)} {letter}\n"
-
-
-def lines(name, validity, owner):
-    """A key's lines: as they are imported where both letters are `-`, else as they are listed."""
-    digits = fingerprint(name)
+def lines(name, validity, owner, caps="scSC"):
+    """A key's lines as they are listed."""
     return (
-        f"pub:{validity}:255:22:{digits[-16:]}:1000:::{owner}:::scSC:\n"
-        f"fpr:::::::::{digits}:\n"
+        f"pub:{validity}:255:22:{key_id(name)}:1000:::{owner}:::{caps}:\n"
+        f"fpr:::::::::{fingerprint(name)}:\n"
         f"uid:{validity}::::1000::::{name} <{name.lower()}@example.org>:\n"
     )
 
 
-def key(name, *issuers):
-    return lines(name, "-", "-") + "".join(f"sig:!:::{fingerprint(by)[-16:]}:2000:::::13x:\n" for by in issuers)
+def listed(*keys, tru=TRU):
+    return tru + "".join(lines(*k) for k in keys) + "ok\n"
 
 
-def imported(*keys):
-    return "import\n" + "".join(keys) + ".\n"
-
-
-def listed(*keys):
-    return TRU + "".join(lines(*k) for k in keys) + "ok\n"
-
-
-def owned(letters):
-    return "".join(trust(name, letter) for name, letter in letters.items())
+def owned(owners):
+    return "".join(trust(name, letter) for name, letter in owners.items())
 
 
 MARGINALS = {"A": "u", "B": "m", "C": "m", "D": "m", "E": "m"}
@@ -54,18 +38,76 @@ def by_marginals(introducers, validity):
     return owned(MARGINALS) + imported(*keys) + "list\n", told, 0
 
 
-def chain(names, letters):
+def chain(names, given):
     """Each key certifies the next; all but the last are fully trusted, and the first ultimately."""
     trusts = dict(zip(names, "u" + "f" * (len(names) - 2)))
     keys = [key(names[0])] + [key(name, former) for former, name in zip(names, names[1:])]
-    shown = [(name, letter, trusts.get(name, "-")) for name, letter in zip(names, letters)]
+    shown = [(name, letter, trusts.get(name, "-")) for name, letter in zip(names, given)]
     told = "ok\n" * len(trusts) + f"ok keys {len(keys)} kept {len(keys) - 1} passed 0\n" + listed(*shown)
     return owned(trusts) + imported(*keys) + "list\n", told, 0
 
 
+A, B, C = fingerprint("A"), fingerprint("B"), fingerprint("C")
 TWO_KEYS = trust("A", "u") + imported(key("A"), key("B", "A"))
 TWO_TOLD = "ok\nok keys 2 kept 1 passed 0\n"
+TWO_LISTED = listed(("A", "u", "u"), ("B", "f", "-"))
 OTHER_A = "pub:-:255:22:00000000000000AA:1000:::-:::scSC:\nfpr:::::::::11" + "0" * 36 + "AA:\n"
+EXPIRING = trust("A", "u") + imported(key("A"), key("B", "A", expires="5000"))
+
+
+def b_at(date, check, letter):
+    expiring = lines("B", letter, "-").replace(":1000:::", ":1000:5000::", 1)
+    return f"tru::1:{date}:{check}:3:1:5\n" + lines("A", "u", "u") + expiring + "ok\n"
+
+
+# what GnuPG prints for three keys with a subkey, a designated revoker, self-signatures and one that it could not check
+REAL = """tru::1:1700000000:0:3:1:5
+pub:u:255:22:00000000000000AA:1600000000:::u:::scESC:::::ed25519:::0:
+fpr:::::::::00000000000000000000000000000000000000AA:
+grp:::::::::0123456789ABCDEF0123456789ABCDEF01234567:
+uid:u::::1600000000::0F0F0F0F0F0F0F0F0F0F0F0F0F0F0F0F0F0F0F0F::A <a@example.org>::::::::::0:
+sig:!::22:00000000000000AA:1600000000::::A <a@example.org>:13x:::::8:
+sub:u:255:18:00000000000000A1:1600000000::::::e:::::cv25519::
+fpr:::::::::00000000000000000000000000000000000000A1:
+sig:!::22:00000000000000AA:1600000000::::A <a@example.org>:18x:::::8:
+pub:f:255:22:00000000000000BB:1610000000:1900000000::-:::scESC:::::ed25519:::0:
+fpr:::::::::00000000000000000000000000000000000000BB:
+rvk:::22::::::00000000000000000000000000000000000000AA:80:
+uid:f::::1610000000::1F1F1F1F1F1F1F1F1F1F1F1F1F1F1F1F1F1F1F1F::B <b@example.org>::::::::::0:
+sig:!::22:00000000000000BB:1610000000::::B <b@example.org>:13x:::::8:
+sig:!::22:00000000000000AA:1620000000::::A <a@example.org>:10x:::::8:
+pub:-:255:22:00000000000000CC:1615000000:::-:::scESC:::::ed25519:::0:
+fpr:::::::::00000000000000000000000000000000000000CC:
+uid:-::::1615000000::2F2F2F2F2F2F2F2F2F2F2F2F2F2F2F2F2F2F2F2F::C <c@example.org>::::::::::0:
+sig:!::22:00000000000000CC:1615000000::::C <c@example.org>:13x:::::8:
+sig:?::22:00000000000000DD:1620000000:::::10x:::::8:
+"""
+
+
+def real_listed(b, next_check):
+    return (
+        f"tru::1:0:{next_check}:3:1:5\n"
+        "pub:u:255:22:00000000000000AA:1600000000:::u:::scESC:\nfpr:::::::::00000000000000000000000000000000000000AA:\n"
+        "uid:u::::1600000000::0F0F0F0F0F0F0F0F0F0F0F0F0F0F0F0F0F0F0F0F::A <a@example.org>:\n"
+        f"pub:{b}:255:22:00000000000000BB:1610000000:1900000000::-:::scESC:\nfpr:::::::::00000000000000000000000000000000000000BB:\n"
+        f"uid:{b}::::1610000000::1F1F1F1F1F1F1F1F1F1F1F1F1F1F1F1F1F1F1F1F::B <b@example.org>:\n"
+        "pub:-:255:22:00000000000000CC:1615000000:::-:::scESC:\nfpr:::::::::00000000000000000000000000000000000000CC:\n"
+        "uid:-::::1615000000::2F2F2F2F2F2F2F2F2F2F2F2F2F2F2F2F2F2F2F2F::C <c@example.org>:\nok\n"
+    )
+
+
+QUOTED = "a\\x3ab\\\\c\\n".encode() + bytes([0xC3, 0xA9])
+WHY = (
+    owned({"A": "u", "F": "u"})
+    + imported(
+        key("A"),
+        key("B", by("A", trusts="1 120")) + "uid:-::::1000::::B2 <b2@example.org>:\n" + by("F", made=3000, trusts="1 60"),
+        key("C", by("B", made=4000)),
+        key("F"),
+    )
+    + f"why {C} 1\n"
+)
+DELEGATED = {"A": "u"}
 
 # a session's name, its input, what is told and the status
 SESSIONS = {
@@ -74,13 +116,13 @@ SESSIONS = {
     "no newline at the end": ("list", listed(), 0),
     "ownertrust": (
         trust("A", "u") + trust("B", "m") + "export\n" + trust("A", "-") + "export\n",
-        f"ok\nok\n{fingerprint('A')}:6:\n{fingerprint('B')}:4:\nok\nok\n{fingerprint('B')}:4:\nok\n",
+        f"ok\nok\n{A}:6:\n{B}:4:\nok\nok\n{B}:4:\nok\n",
         0,
     ),
-    "a key and the key that certifies it": (TWO_KEYS + "list\n", TWO_TOLD + listed(("A", "u", "u"), ("B", "f", "-")), 0),
+    "a key and the key that certifies it": (TWO_KEYS + "list\n", TWO_TOLD + TWO_LISTED, 0),
     "a key that comes before the key that certifies it": (
         imported(key("B", "A"), key("A")) + trust("A", "u") + "list\n",
-        "ok keys 2 kept 1 passed 0\nok\n" + listed(("A", "u", "u"), ("B", "f", "-")),
+        "ok keys 2 kept 1 passed 0\nok\n" + TWO_LISTED,
         0,
     ),
     "a marginal introducer": (
@@ -114,27 +156,233 @@ SESSIONS = {
         "ok keys 1 kept 0 passed 0\nerr key-id-taken 00000000000000AA\n",
         1,
     ),
-    "a subkey": (imported(key("A"), "sub:u:255:18:00000000000000A1:1000:\n"), "err listing 4 NotBuilt\n", 1),
+    "what GnuPG prints": (
+        trust("A", "u") + "import\n" + REAL + ".\nlist\n",
+        "ok\nok keys 3 kept 1 passed 5\n" + real_listed("f", 1900000000),
+        0,
+    ),
+    "what GnuPG prints, unchecked": (
+        trust("A", "u") + "import\n" + REAL.replace("sig:!:", "sig::").replace("sig:?:", "sig::") + ".\nlist\n",
+        "ok\nok keys 3 kept 0 passed 6\n" + real_listed("-", 1900000000),
+        0,
+    ),
+    "a certification before and at its expiry": (
+        trust("A", "u") + imported(key("A"), key("B", "A", by("A", made=3000, expires="4000"))) + "date 3999\nlist\ndate 4000\nlist\n",
+        "ok\nok keys 2 kept 2 passed 0\nok\n"
+        + listed(("A", "u", "u"), ("B", "f", "-"), tru="tru::1:3999:4000:3:1:5\n")
+        + "ok\n"
+        + listed(("A", "u", "u"), ("B", "-", "-"), tru="tru::1:4000:0:3:1:5\n"),
+        0,
+    ),
+    "a revocation after a certification of the same date": (
+        trust("A", "u") + imported(key("A"), key("B", "A", by("A", kind="30x", record="rev"))) + "list\n",
+        "ok\nok keys 2 kept 2 passed 0\n" + listed(("A", "u", "u"), ("B", "-", "-")),
+        0,
+    ),
+    "a revocation before a certification of the same date": (
+        trust("A", "u") + imported(key("A"), key("B", by("A", kind="30x", record="rev"), "A")) + "list\n",
+        "ok\nok keys 2 kept 2 passed 0\n" + TWO_LISTED,
+        0,
+    ),
+    "a certification level below the least": (
+        trust("A", "u") + imported(key("A"), key("B", by("A", kind="11x"))) + "list\noptions pgp 1 3 5 1\nlist\n",
+        "ok\nok keys 2 kept 1 passed 0\n" + listed(("A", "u", "u"), ("B", "-", "-")) + "ok\n" + TWO_LISTED,
+        0,
+    ),
+    "generic certifications have no level": (
+        trust("A", "u") + imported(key("A"), key("B", by("A", kind="10x"))) + "list\noptions pgp 1 3 5 1\nlist\n",
+        TWO_TOLD + TWO_LISTED + "ok\n" + TWO_LISTED,
+        0,
+    ),
+    "a key before and at its expiry, and back": (
+        EXPIRING + "date 4999\nlist\ndate 5000\nlist\ndate 19700101T012319\nlist\n",
+        TWO_TOLD + "ok\n" + b_at(4999, 5000, "f") + "ok\n" + b_at(5000, 0, "e") + "ok\n" + b_at(4999, 5000, "f"),
+        0,
+    ),
+    "a key that is taken away": (
+        TWO_KEYS + f"delete {B}\nlist\ndelete {B}\n" + trust("A", "-") + "list\n",
+        TWO_TOLD + "ok\n" + listed(("A", "u", "u")) + "err no-such-key\nok\n" + listed(("A", "-", "-")),
+        1,
+    ),
+    "certifications are printed": (
+        TWO_KEYS + f"sigs\nsigs {B}\nlist {A}\n",
+        TWO_TOLD
+        + TRU + lines("A", "u", "u") + lines("B", "f", "-") + "sig:!:::00000000000000AA:2000:::::13x:\nok\n"
+        + TRU + lines("B", "f", "-") + "sig:!:::00000000000000AA:2000:::::13x:\nok\n"
+        + listed(("A", "u", "u")),
+        0,
+    ),
+    "a key of another fingerprint is not that key": (
+        TWO_KEYS + f"list 11{'0' * 36}AA\nsigs {C}\n",
+        TWO_TOLD + "err no-such-key\nerr no-such-key\n",
+        1,
+    ),
+    "an ownertrust text": (
+        f"ownertrust\n# List\n\n{A}:6:\n{B}:134:\n{C}:0:\n.\nexport\nownertrust\n{A}:1:\n.\n",
+        f"ok entries 2\n{A}:6:\n{B}:134:\nok\nerr ownertrust 1 BadValue\n",
+        1,
+    ),
+    "the last entry of a fingerprint stands": (f"ownertrust\n{A}:6:\n{A}:0:\n{A}:5:\n.\nexport\n", f"ok entries 1\n{A}:5:\nok\n", 0),
+    "an unknown and disabled key": (f"disable {A}\nexport\nenable {A}\nexport\n", f"ok\n{A}:128:\nok\nok\nok\n", 0),
+    "the flag changes no validity": (
+        TWO_KEYS + f"disable {A}\nlist\n",
+        TWO_TOLD + "ok\n" + listed(("A", "u", "u", "scSCD"), ("B", "f", "-")),
+        0,
+    ),
+    "quoted bytes": (
+        b"import\npub:-:255:22:00000000000000AA:1000:::-:::scSC:\nfpr:::::::::" + A.encode() + b":\nuid:-::::1000::::" + QUOTED + b":\n.\nlist\n",
+        TRU.encode() + b"", 0,
+    ),
+    "a bad quote": (
+        imported(key("A", text="\\xg1")),
+        "err listing 3 BadQuote\n",
+        1,
+    ),
+    "a bad trust field": (imported(key("B", by("A", trusts="256 1"))) + imported(key("B", by("A", trusts="1  60"))), "err listing 4 BadTrustField\n" * 2, 1),
+    "a scope of 256 bytes": (imported(key("B", by("A", trusts="1 120", scope="<[^>]+[@.]" + "a" * 244 + ">$"))), "err listing 4 LimitReached\n", 1),
+    "a short record": (imported("pub:-:255:22:00000000000000AA\n"), "err listing 1 ShortRecord\n", 1),
+    "more user IDs than a key may have": (
+        imported(key("A", text="0") + "".join(f"uid:-::::1000::::{n}:\n" for n in range(1, 1025))),
+        "err listing 1027 LimitReached\n",
+        1,
+    ),
+    "why, by a delegation": (
+        WHY,
+        "ok\nok\nok keys 4 kept 3 passed 0\nwhy:m:00000000000000CC:1:0:0:1:0:\nrow:00000000000000AA:0:u:0::\nrow:00000000000000BB:1:m:0::\n"
+        "row:00000000000000FF:0:u:0::\nby:00000000000000BB:m:\ncut:m:\nok\n",
+        0,
+    ),
+    "why, of an ultimately trusted key": (
+        TWO_KEYS + f"why {A} 1\nwhy {B} 2\nwhy {C} 1\nwhy {A} 0\n",
+        TWO_TOLD + "why:u:00000000000000AA:1:0:0:0:0:\ncut:u:\nok\nerr no-such-user\nerr no-such-key\nerr bad-argument 2\n",
+        1,
+    ),
+    "nothing after quit": ("list\nquit\nlist\nfrob\n", listed() + "ok\n", 0),
+    "quit with an argument ends nothing": ("quit now\nlist\n", "err bad-argument 1\n" + listed(), 1),
+    "options out of their ranges": (
+        "options tofu 1 3 5 2\noptions pgp 0 3 5 2\noptions pgp 1 1 5 2\noptions pgp 1 3 0 2\noptions pgp 1 3 256 2\noptions pgp 1 3 5 4\noptions pgp 1 3 5\noptions pgp 1 3 5 2 1\n",
+        "".join(f"err bad-argument {n}\n" for n in (1, 2, 3, 4, 4, 5, 5, 6)),
+        1,
+    ),
+    "bad dates": ("date x\ndate 19700230T000000\ndate 19691231T235959\ndate 4294967296\ndate\n", "err bad-argument 1\n" * 5, 1),
+}
+SESSIONS["quoted bytes"] = (
+    SESSIONS["quoted bytes"][0],
+    b"ok keys 1 kept 0 passed 0\n" + TRU.encode() + lines("A", "-", "-").encode().replace(b"A <a@example.org>", b"a\\x3ab\\x5cc\\x0a\xc3\xa9") + b"ok\n",
+    0,
+)
+
+
+def trusted(*certs, text="C <c@example.org>", also="", options=""):
+    """The letter of C's user ID, where A is ultimately trusted and these are the certifications on B, and B certifies C."""
+    given = trust("A", "u") + also + options + imported(key("A"), key("B", *certs), key("C", "B", text=text)) + f"list {C}\n"
+    return letters(run(given).stdout.decode("latin-1")).popitem()[1]
+
+
+ORG = "<[^>]+[@.]example\\x5c.org>$"
+LONG = "<[^>]+[@.]" + "a" * 243 + ">$"
+# a question about trust signatures, and its answer
+LETTERS = {
+    "amount 60 is marginal": (lambda: trusted(by("A", trusts="1 60")), "m"),
+    "amount 59 is nothing": (lambda: trusted(by("A", trusts="1 59")), "q"),
+    "amount 119 is marginal": (lambda: trusted(by("A", trusts="1 119")), "m"),
+    "amount 120 is full": (lambda: trusted(by("A", trusts="1 120")), "f"),
+    "the classic model has no delegations": (lambda: trusted(by("A", trusts="1 120"), options="options classic 1 3 5 2\n"), "q"),
+    "a domain admits its address": (lambda: trusted(by("A", trusts="1 120", scope=ORG), text="N <a@example.org>"), "f"),
+    "and those below it, in either case": (lambda: trusted(by("A", trusts="1 120", scope=ORG), text="N <a@x.EXAMPLE.org>"), "f"),
+    "and no longer name": (lambda: trusted(by("A", trusts="1 120", scope=ORG), text="N <a@evilexample.org>"), "-"),
+    "and no address without brackets": (lambda: trusted(by("A", trusts="1 120", scope=ORG), text="a@example.org"), "-"),
+    "an escaped hyphen": (lambda: trusted(by("A", trusts="1 120", scope="<[^>]+[@.]my\\x5c-site\\x5c.org>$"), text="N <a@my-site.org>"), "f"),
+    "an unescaped dot is no form": (lambda: trusted(by("A", trusts="1 120", scope="<[^>]+[@.]example.org>$"), text="N <a@example.org>"), "-"),
+    "an escaped letter is no form": (lambda: trusted(by("A", trusts="1 120", scope="<[^>]+[@.]\\x5cexample\\x5c.org>$"), text="N <a@example.org>"), "-"),
+    "an empty domain is no form": (lambda: trusted(by("A", trusts="1 120", scope="<[^>]+[@.]>$"), text="N <a@>"), "-"),
+    "two brackets": (lambda: trusted(by("A", trusts="1 120", scope=ORG), text="N <b <a@example.org>"), "f"),
+    "a bracket within": (lambda: trusted(by("A", trusts="1 120", scope=ORG), text="N <a>@example.org>"), "-"),
+    "nothing before the separator": (lambda: trusted(by("A", trusts="1 120", scope=ORG), text="N <@example.org>"), "-"),
+    "a domain longer than the text": (lambda: trusted(by("A", trusts="1 120", scope=ORG), text="<@>"), "-"),
+    "upper case in the domain": (lambda: trusted(by("A", trusts="1 120", scope="<[^>]+[@.]EXAMPLE\\x5c.org>$"), text="N <a@example.org>"), "f"),
+    "escaped bytes above 127": (lambda: trusted(by("A", trusts="1 120", scope="<[^>]+[@.]z\\x5c\\xc3\\x5c\\xb6>$"), text="N <a@zö>"), "f"),
+    "a scope of 255 bytes": (lambda: trusted(by("A", trusts="1 120", scope=LONG), text="N <a@" + "a" * 243 + ">"), "f"),
+    "a full introducer passes no depth on": (
+        lambda: letters(
+            run(
+                trust("A", "u") + trust("B", "f")
+                + imported(key("A"), key("B", "A"), key("C", by("B", trusts="1 120")), key("D", "C")) + "list\n"
+            ).stdout.decode()
+        )["D <d@example.org>"],
+        "q",
+    ),
+}
+
+# words of the command line, the input, what is told, the line on standard error and the status
+USAGE = "usage: wot [--workers N] [WORD]...\n"
+WORDS = {
+    "list": (["list"], "", listed(), "", 0),
+    "one ownertrust": (["trust", A, "o"], "frob\n", "ok\n", "", 0),
+    "a block is the whole input": (["import"], key("A") + ".\n" + key("B"), "ok keys 2 kept 0 passed 0\n", "", 0),
+    "workers": (["--workers", "3", "list"], "", listed(), "", 0),
+    "workers between words": (["list", "--workers=64"], "", listed(), "", 0),
+    "a dash word after --": (["--", "-x"], "", "err unknown-command\n", "", 1),
+    "no workers": (["--workers", "0"], "", "", USAGE, 2),
+    "65 workers": (["--workers=65"], "", "", USAGE, 2),
+    "workers twice": (["--workers", "2", "--workers", "2"], "", "", USAGE, 2),
+    "an unknown option": (["-x"], "", "", USAGE, 2),
+    "a dash": (["-"], "", "", USAGE, 2),
+    "a dash after --": (["--", "-"], "", "", USAGE, 2),
+    "help": (["--help"], "", "", USAGE, 2),
+    "an empty word": ([""], "", "err unknown-command\n", "", 1),
 }
 
 
+def commands(given):
+    """The commands of a session with their blocks."""
+    found, block = [], None
+    for line in given.splitlines(keepends=True):
+        if block is None:
+            found.append(line)
+            if line.split(b" ")[0].strip() in (b"import", b"ownertrust"):
+                block = True
+        else:
+            found[-1] += line
+            block = None if line.strip() == b"." else True
+    return found
 
-def short(text):
-    return repr(text if len(text) < 400 else text[:200] + b".." + text[-200:])
+
+def records(listing):
+    """The records of a printed listing without what the state gives: validity, ownertrust and whether the key is disabled."""
+    found = [line.split(b":") for line in listing.splitlines() if line[:3] in (b"pub", b"fpr", b"uid", b"uat", b"sig", b"rev")]
+    return [f if f[0] in (b"sig", b"rev") else [f[0], *f[2:8], *f[9:11], f[11].rstrip(b"D") if f[0] == b"pub" else b""] for f in found]
 
 
-faults = []
+faults, tried = [], 0
+
+
+def differ(name, wanted, told):
+    if wanted != told:
+        faults.append(f"{name}: {told} in place of {wanted}")
+
+
 for name, (given, wanted, status) in SESSIONS.items():
-    run = subprocess.run([PROGRAM], input=given.encode(), capture_output=True, timeout=60)
-    if run.stdout != wanted.encode():
-        faults.append(f"{name}: told {short(run.stdout)} in place of {short(wanted.encode())}")
-    if run.returncode != status:
-        faults.append(f"{name}: the status is {run.returncode} in place of {status}")
-    if run.stderr:
-        faults.append(f"{name}: {short(run.stderr)} on standard error")
-words = subprocess.run([PROGRAM, "list"], input=b"", capture_output=True, timeout=60)
-if (words.stdout, words.stderr, words.returncode) != (b"", b"usage: wot [--workers N] [WORD]...\n", 2):
-    faults.append(f"a word: {words}")
+    given, wanted = (x.encode() if isinstance(x, str) else x for x in (given, wanted))
+    done, tried = run(given), tried + 1
+    if (done.stdout, done.returncode, done.stderr) != (wanted, status, b""):
+        faults.append(f"{name}: told {short(done.stdout)}, status {done.returncode}, {short(done.stderr)} in place of {short(wanted)}, {status}")
+    if "quit" in name:
+        continue
+    with folder() as store:
+        again = b"".join(run(command, where=store).stdout for command in commands(given))
+        printed = run(b"sigs\n", where=store).stdout
+    if again != wanted:
+        faults.append(f"{name}, reopened after each command: told {short(again)} in place of {short(wanted)}")
+    tried += 2
+    read = run(b"import\n" + printed[: -len(b"ok\n")] + b".\nsigs\n").stdout
+    if records(read) != records(printed):
+        faults.append(f"{name}: {short(printed)} reads back as {short(read)}")
+for name, (ask, wanted) in LETTERS.items():
+    differ(name, wanted, ask())
+for name, (words, given, *wanted) in WORDS.items():
+    done = run(given, words)
+    differ(name, wanted, [done.stdout.decode(), done.stderr.decode(), done.returncode])
 if faults:
     sys.exit("\n".join(faults))
-print(f"sessions: {len(SESSIONS) + 1} ok")
+print(f"sessions: {tried + len(LETTERS) + len(WORDS)} ok")

@@ -1,0 +1,94 @@
+#!/usr/bin/env python3
+"""Recounts letters outside the program's own explanation, over a keyring made at random.
+
+For some user IDs the cut keyring is made from what `why` and `sigs` print, imported into an empty store with the same ownertrust, date
+and options, and the letter there is compared with the letter in the whole.
+"""
+import random
+import sys
+
+from program import folder, run
+
+KEYS, ASKED = 300, 40
+chance = random.Random(17)
+SETTINGS = "date 5000\noptions pgp 1 2 40 1\n"
+
+
+def fingerprint(number):
+    return f"{number:040X}"
+
+
+def key_id(number):
+    return f"{number:016X}"
+
+
+def certification(number):
+    """A certification by an earlier key, or by a few later ones; some are trust signatures, revocations or expired."""
+    issuer = chance.choice([chance.randrange(1, 20), chance.randrange(max(1, number - 20), number + 2)])
+    if issuer == number:
+        return ""
+    record, kind = ("rev", "30x") if chance.random() < 0.05 else ("sig", chance.choice(["10x", "13x", "13l"]))
+    trusts, scope = "", ""
+    if record == "sig" and chance.random() < 0.3:
+        trusts = f"{chance.choice([1, 2, 3])} {chance.choice([60, 120])}"
+        scope = chance.choice(["", "", "<[^>]+[@.]d1\\x5c.example>$"])
+    expires = chance.choice(["", "", "", "", 4000, 9000])
+    return f"{record}:!:::{key_id(issuer)}:{chance.randrange(1000, 5000)}:{expires}:{trusts}:{scope}::{kind}:\n"
+
+
+def key(number):
+    revoked = "r" if chance.random() < 0.03 else "-"
+    lines = [f"pub:{revoked}:255:22:{key_id(number)}:1000:{chance.choice([''] * 8 + [4000, 9000])}::-:::scSC:\n", f"fpr:::::::::{fingerprint(number)}:\n"]
+    for user in range(chance.choice([1, 1, 2])):
+        lines.append(f"uid:{chance.choice('-----------r')}::::1000::::Key {number} <u{user}k{number}@d{number % 3}.example>:\n")
+        lines += [certification(number) for _ in range(chance.randrange(2, 9))]
+    return "".join(lines)
+
+
+def entry(number):
+    trust = 6 if number <= 3 else chance.choice([0, 3, 4, 4, 5, 5, 5])
+    return f"{fingerprint(number)}:{trust}:\n"
+
+
+def blocks(listing):
+    """The lines of each key of a printed listing, by key ID."""
+    found, lines = {}, []
+    for line in listing.splitlines(keepends=True):
+        if line.startswith("pub:"):
+            lines = found.setdefault(line.split(":")[4], [])
+        if line.split(":")[0] in ("pub", "fpr", "uid", "uat", "sig", "rev"):
+            lines.append(line)
+    return found
+
+
+def letters(lines):
+    return [line.split(":")[1] for line in lines if line.startswith(("uid:", "uat:"))]
+
+
+def cut(sigs, kept, explained):
+    """The keys of the explanation and the explained one, and on them only what keys of the explanation certify."""
+    return "".join(
+        line for key, lines in sigs.items() if key in kept or key == explained
+        for line in lines if line[:3] not in ("sig", "rev") or line.split(":")[4] in kept
+    )
+
+
+ownertrust = "ownertrust\n" + "".join(entry(n) for n in range(1, KEYS + 1)) + ".\n"
+whole = SETTINGS + ownertrust + "import\n" + "".join(key(n) for n in range(1, KEYS + 1)) + ".\n"
+seen, sizes = {}, []
+with folder() as store:
+    assert run(whole, where=store).returncode == 0
+    sigs = blocks(run("sigs\n", where=store).stdout.decode())
+    users = [(key, place) for key, lines in sigs.items() for place in range(1, len(letters(lines)) + 1)]
+    for key, place in chance.sample(users, ASKED):
+        told = run(f"why {key:0>40} {place}\n", where=store).stdout.decode()
+        lines = [line.split(":") for line in told.splitlines()]
+        kept = {line[1] for line in lines if line[0] == "row"}
+        wanted = letters(sigs[key])[place - 1]
+        there = run(SETTINGS + ownertrust + "import\n" + cut(sigs, kept, key) + ".\nlist\n").stdout.decode()
+        found = letters(blocks(there)[key])[place - 1]
+        if not lines[0][1] == lines[-2][1] == wanted == found or lines[-2][0] != "cut":
+            sys.exit(f"explanations: user ID {place} of {key} is {wanted}, and {found} on the cut keyring; why told\n{told}")
+        seen[wanted] = seen.get(wanted, 0) + 1
+        sizes.append(len(kept))
+print(f"explanations: {ASKED} user IDs have their letter on the cut keyring too: {dict(sorted(seen.items()))}, up to {max(sizes)} keys")
