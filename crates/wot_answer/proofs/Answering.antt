@@ -2,7 +2,7 @@
 use Rattle.std.proofs.Common.{◌≡◌, Bool, true, false, ◌||◌, [], ◌∷◌, if◌then◌else◌, Result, Ok, Err, refl, sym, ap, ◌∙◌, subst}
 use Rattle.std.specs.Prelude.{IfOk}
 use Rattle.std.proofs.lemmas.List.{append-nil}
-use Rattle.wot_types.specs.declared.state.State.{State}
+use Rattle.wot_types.specs.State.{State}
 use Rattle.wot_types.specs.Commands as lines
 use Rattle.wot_types.specs.Commands.{Command, ReadLine, closed, cut_by, ends, is_quit, made_by, of_line, opened, opens_block, with_line, words_in}
 use Rattle.wot_types.specs.Commands.Cut.{between, within, over}

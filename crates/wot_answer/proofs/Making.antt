@@ -7,7 +7,7 @@ use Rattle.wot_types.specs.declared.edit.Edit.{Edit}
 use Rattle.wot_types.specs.declared.limit.Limit.TheVariants.{Record}
 use Rattle.wot_types.specs.declared.refusal.Refusal.{Refusal}
 use Rattle.wot_types.specs.declared.refusal.Refusal.TheVariants.{Full, JournalFull, KeyIdTaken}
-use Rattle.wot_types.specs.declared.state.State.{State}
+use Rattle.wot_types.specs.State.{State}
 use Rattle.wot_types.specs.Outcome.{edit_outcome, edited, edited_store, is_past, missing_key, refusal_of, refuse, state_limit, taken_key, unless_refused}
 use Rattle.wot_types.specs.Limits.{most_record, record_passed}
 use Rattle.wot_types.specs.Payload.{IsPayload, payload}

@@ -7,7 +7,7 @@ use Rattle.std.proofs.lemmas.Bool.Decides.{nat_tests}
 use Rattle.wot_types.specs.declared.edit.Query.TheVariants.{Why}
 use Rattle.wot_types.specs.declared.key.Key.{Key}
 use Rattle.wot_types.specs.declared.refusal.Refusal.TheVariants.{NoSuchKey, NoSuchUser}
-use Rattle.wot_types.specs.declared.state.State.{State}
+use Rattle.wot_types.specs.State.{State}
 use Rattle.wot_types.specs.declared.user.User.{User}
 use Rattle.wot_types.specs.Arrangement.{spot_at}
 use Rattle.wot_types.specs.Fingerprint.{key_id_of}

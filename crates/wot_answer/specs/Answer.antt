@@ -1,7 +1,7 @@
 -- What a line of a session is answered with.
 use Rattle.std.specs.Prelude.{◌≡◌, ◌||◌}
 use Rattle.wot_types.specs.declared.edit.Edit.{Edit}
-use Rattle.wot_types.specs.declared.state.State.{State}
+use Rattle.wot_types.specs.State.{State}
 use Rattle.wot_types.specs.Commands as lines
 use Rattle.wot_types.specs.Commands.{Command, ReadLine}
 use Rattle.wot_types.specs.Commands.Cut.{between, within, over}

@@ -25,7 +25,7 @@ use Rattle.wot_types.specs.declared.limit.Limit.{Limit}
 use Rattle.wot_types.specs.declared.limit.Limit.TheVariants.{Keys, Users, Certs, Text, Trusts, Record, Scope}
 use Rattle.wot_types.specs.declared.refusal.Refusal.{Refusal}
 use Rattle.wot_types.specs.declared.refusal.Refusal.TheVariants.{LineTooLong, UnknownCommand, BadArgument, UnendedBlock, Listing, Ownertrust as OwnertrustRefusal, NoSuchKey, NoSuchUser, Full, KeyIdTaken, JournalFull}
-use Rattle.wot_types.specs.declared.state.State.{State}
+use Rattle.wot_types.specs.State.{State}
 use Rattle.wot_types.specs.declared.user.User.{User}
 use Rattle.wot_types.specs.Candidates.{RowMap}
 use Rattle.wot_types.specs.Commands.{Command, block_texts}

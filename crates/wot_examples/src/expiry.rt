@@ -2,7 +2,7 @@
 
 ghost use Rattle.std.specs.Prelude.{◌≡◌, ◌∷◌, [], true, false};
 ghost use Rattle.wot_types.specs.declared.letter.Letter.TheVariants.{E};
-ghost use Rattle.wot_types.specs.declared.state.State.{State};
+ghost use Rattle.wot_types.specs.State.{State};
 ghost use Rattle.wot_types.specs.Candidates.{RowMap};
 ghost use Rattle.wot_types.specs.Expiry.{key_is_live};
 ghost use Rattle.wot_types.specs.Keyring.{Keyring};

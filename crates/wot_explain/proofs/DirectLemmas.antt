@@ -3,7 +3,7 @@ use Rattle.std.proofs.Common.{◌≡◌, ◌&&◌, ℕ, Bool, true, false, cond,
 use Rattle.std.specs.FinMap as finmap
 use Rattle.wot_types.specs.declared.key.Key.{Key}
 use Rattle.wot_types.specs.declared.row.Row.{Row}
-use Rattle.wot_types.specs.declared.state.State.{State}
+use Rattle.wot_types.specs.State.{State}
 use Rattle.wot_types.specs.Arrangement.{spot_at}
 use Rattle.wot_types.specs.Candidates.{count_of}
 use Rattle.wot_types.specs.Explanation.{are_candidates, candidate_rows, candidates_of, count_by_trust, direct, explained_rows, from_some, needs_introducers, spot_of}

@@ -9,7 +9,7 @@ use Rattle.std.proofs.lemmas.Bool.Decides.{nat_tests}
 use Rattle.wot_types.specs.declared.options.Options.{Options}
 use Rattle.wot_types.specs.declared.placed.Placed.{Placed}
 use Rattle.wot_types.specs.declared.row.Row.{Row}
-use Rattle.wot_types.specs.declared.state.State.{State}
+use Rattle.wot_types.specs.State.{State}
 use Rattle.wot_types.specs.Candidates.{RowMap, candidacy}
 use Rattle.wot_types.specs.Explanation.{KeySet, are_candidates, candidate_rows, explained_rows}
 use Rattle.wot_types.specs.Scope.{admits}

@@ -8,7 +8,7 @@ use Rattle.wot_types.specs.declared.key.Key.{Key}
 use Rattle.wot_types.specs.declared.options.Options.{Options}
 use Rattle.wot_types.specs.declared.placed.Placed.{Placed}
 use Rattle.wot_types.specs.declared.row.Row.{Row}
-use Rattle.wot_types.specs.declared.state.State.{State}
+use Rattle.wot_types.specs.State.{State}
 use Rattle.wot_types.specs.Candidates.{RowMap, count_of, is_full}
 use Rattle.wot_types.specs.Expiry.{user_is_live}
 use Rattle.wot_types.specs.Explanation.{are_candidates, first_full, from_some, is_issuer, new_row_rests_on, rests_on}

@@ -7,7 +7,7 @@ use Rattle.std.proofs.lemmas.Option.{slice_get-map}
 use Rattle.wot_types.specs.declared.key.Key.{Key}
 use Rattle.wot_types.specs.declared.letter.Letter.{Letter}
 use Rattle.wot_types.specs.declared.letter.Letter.TheVariants.{U, R, E}
-use Rattle.wot_types.specs.declared.state.State.{State}
+use Rattle.wot_types.specs.State.{State}
 use Rattle.wot_types.specs.Candidates.{count_of}
 use Rattle.wot_types.specs.Expiry.{is_expired}
 use Rattle.wot_types.specs.Letters.{letter_at, letter_of_count, user_letter}

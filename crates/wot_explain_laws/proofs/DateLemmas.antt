@@ -13,7 +13,7 @@ use Rattle.wot_types.specs.declared.letter.Letter.TheVariants.{U, R, E}
 use Rattle.wot_types.specs.declared.placed.Placed.{Placed}
 use Rattle.wot_types.specs.declared.row.Row.{Row}
 use Rattle.wot_types.specs.declared.trust.Trust.TheVariants.{Ultimate}
-use Rattle.wot_types.specs.declared.state.State.{State}
+use Rattle.wot_types.specs.State.{State}
 use Rattle.wot_types.specs.declared.user.User.{User}
 use Rattle.wot_types.specs.Candidates.{RowMap, candidacy, candidates, count_of, is_candidate, is_full}
 use Rattle.wot_types.specs.Expiry.{is_expired, key_is_live, user_is_live}

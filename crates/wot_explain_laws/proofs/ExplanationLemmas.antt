@@ -8,7 +8,7 @@ use Rattle.wot_types.specs.declared.key.Key.{Key}
 use Rattle.wot_types.specs.declared.options.Options.{Options}
 use Rattle.wot_types.specs.declared.placed.Placed.{Placed}
 use Rattle.wot_types.specs.declared.row.Row.{Row}
-use Rattle.wot_types.specs.declared.state.State.{State}
+use Rattle.wot_types.specs.State.{State}
 use Rattle.wot_types.specs.Candidates.{RowMap, candidacy}
 use Rattle.wot_types.specs.Levels.{delegating, delegation, delegations_on, live_spots, rows_of, rows_upto}
 use Rattle.wot_types.specs.Selection.{Spot, latest}

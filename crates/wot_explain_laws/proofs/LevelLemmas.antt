@@ -5,7 +5,7 @@ use Rattle.std.proofs.lemmas.Bool.Decides.{nat_tests}
 use Rattle.wot_types.specs.declared.key.Key.{Key}
 use Rattle.wot_types.specs.declared.placed.Placed.{Placed}
 use Rattle.wot_types.specs.declared.row.Row.{Row}
-use Rattle.wot_types.specs.declared.state.State.{State}
+use Rattle.wot_types.specs.State.{State}
 use Rattle.wot_types.specs.declared.trust.Trust.{Trust}
 use Rattle.wot_types.specs.declared.trust.Trust.TheVariants.{Ultimate}
 use Rattle.wot_types.specs.Candidates.{RowMap}

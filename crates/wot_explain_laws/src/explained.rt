@@ -3,7 +3,7 @@
 ghost use Rattle.std.specs.Prelude.{◌≡◌, ℕ, true};
 ghost use Rattle.std.specs.FinMap as map;
 ghost use Rattle.wot_types.specs.declared.key.Key.{Key};
-ghost use Rattle.wot_types.specs.declared.state.State.{State};
+ghost use Rattle.wot_types.specs.State.{State};
 ghost use Rattle.wot_types.specs.CutState.{cut, cut_key};
 ghost use Rattle.wot_types.specs.Explanation.{KeySet, direct, explained_rows, explanation, named_by, rests_on};
 ghost use Rattle.wot_types.specs.Letters.{letter_at};

@@ -2,7 +2,7 @@
 use Rattle.std.proofs.Common.{◌≡◌, ◌+◌, ◌-◌, ◌≤◌, zero, suc, ℕ, Option, Some, None, option_and_then, refl, ap, ◌∙◌, arith}
 use Rattle.std.specs.FinMap as finmap
 use Rattle.wot_types.specs.declared.row.Row.{Row}
-use Rattle.wot_types.specs.declared.state.State.{State}
+use Rattle.wot_types.specs.State.{State}
 use Rattle.wot_types.specs.Candidates.{RowMap}
 use Rattle.wot_types.specs.Levels.{first_row, map_by, next_rows, rows_upto}
 use Rattle.wot_levels.specs.Given.{if_below, in_limit, limited}

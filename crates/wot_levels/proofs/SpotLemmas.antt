@@ -6,7 +6,7 @@ use Rattle.std.specs.Cmp.{nat_cmp_total}
 use Rattle.std.specs.FinMap as finmap
 use Rattle.std.specs.FinMap.{nat_cmp-IsAntisymmetric}
 use Rattle.wot_types.proofs.FinMaps.{IfSome-get}
-use Rattle.wot_types.specs.Listing.{most_certs}
+use Rattle.wot_types.specs.Limits.{most_certs}
 use Rattle.wot_table.specs.Kept.{IsKept}
 use Rattle.std.proofs.lemmas.List.Sums.{sum_by-cons}
 use Rattle.wot_types.specs.declared.cert.Cert.{Cert}

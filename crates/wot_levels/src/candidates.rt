@@ -6,7 +6,7 @@ ghost use Rattle.wot_types.specs.Arrangement.{IsRising};
 ghost use Rattle.wot_types.specs.Candidates.{is_full};
 ghost use Rattle.wot_types.specs.Letters.{letter_of_count};
 ghost use Rattle.wot_types.specs.Levels.{allowed_depth};
-ghost use Rattle.wot_types.specs.Listing.{most_certs};
+ghost use Rattle.wot_types.specs.Limits.{most_certs};
 ghost use Rattle.wot_types.specs.Scope.{admits};
 ghost use Rattle.wot_types.specs.Selection.{is_earlier, later, usable};
 ghost use Rattle.wot_types.specs.declared.placed.Placed.{Placed};

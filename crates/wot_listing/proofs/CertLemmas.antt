@@ -6,7 +6,8 @@ use Rattle.wot_types.specs.declared.cert.Cert.{Cert}
 use Rattle.wot_types.specs.declared.limit.Limit.TheVariants.{Certs as CertsLimit}
 use Rattle.wot_types.specs.declared.fault.ListingWhat.TheVariants.{BadHex, LimitReached, ShortRecord}
 use Rattle.wot_types.specs.Fields.{field, has_fewer}
-use Rattle.wot_types.specs.Listing.{Line, cert_checks, certifies, first_failing, most_certs, sig_checks}
+use Rattle.wot_types.specs.Listing.{Line, cert_checks, certifies, first_failing, sig_checks}
+use Rattle.wot_types.specs.Limits.{most_certs}
 use Rattle.wot_types.specs.Records.{class_at, class_of, is_good, is_kept_class, key_id, key_id_at}
 use Rattle.wot_listing.specs.declared.error.LineError.{LineError}
 use Rattle.wot_listing.specs.declared.key_block.KeyBlock.{KeyBlock}

@@ -14,7 +14,8 @@ use Rattle.wot_types.specs.declared.fault.ListingWhat.TheVariants.{LimitReached,
 use Rattle.wot_types.specs.declared.record.RecordKind.{RecordKind}
 use Rattle.wot_types.specs.declared.record.RecordKind.TheVariants.{Primary, Fingerprint, UserId, Signature, Subkey, Foreign, Other}
 use Rattle.wot_types.specs.Keyring.{Keyring}
-use Rattle.wot_types.specs.Listing.{Line, begins_keyblock, block_id, blocks, cert_count, checks_of, ends_keyblock, failing, first_failing, fpr_checks, fpr_line, in_block, is_repeated_key, is_repeated_user, is_same_user, keys_of, lacks_fingerprint, most_users, open_block, open_user, pub_checks, sig_checks, user_at, user_checks, user_kind, user_of, user_runs, wants_fpr, with_keyblock}
+use Rattle.wot_types.specs.Listing.{Line, begins_keyblock, block_id, blocks, cert_count, checks_of, ends_keyblock, failing, first_failing, fpr_checks, fpr_line, in_block, is_repeated_key, is_repeated_user, is_same_user, keys_of, lacks_fingerprint, open_block, open_user, pub_checks, sig_checks, user_at, user_checks, user_kind, user_of, user_runs, wants_fpr, with_keyblock}
+use Rattle.wot_types.specs.Limits.{most_users}
 use Rattle.wot_types.specs.Records.{fingerprint_at, is_good, is_revoked_at, key_id_at, kind_of}
 use Rattle.wot_types.specs.Runs.{Run, alone}
 use Rattle.wot_listing.specs.EndedRuns.{ended_runs}

@@ -7,7 +7,8 @@ use Rattle.std.proofs.lemmas.List.{append-nil}
 use Rattle.wot_types.specs.declared.fault.ListingFault.{ListingFault}
 use Rattle.wot_types.specs.declared.fault.ListingWhat.{ListingWhat}
 use Rattle.wot_types.specs.declared.fault.ListingWhat.TheVariants.{NoFingerprint}
-use Rattle.wot_types.specs.Listing.{Line, Spells, capped, failing, fault, fault_after, fault_at, fault_at_end, is_sig, kept_count, lacks_fingerprint, open_block}
+use Rattle.wot_types.specs.Listing.{Line, Spells, failing, fault, fault_after, fault_at, fault_at_end, is_sig, kept_count, lacks_fingerprint, open_block}
+use Rattle.wot_types.specs.Numbers.{capped}
 use Rattle.wot_listing.specs.declared.error.ListingError.{ListingError}
 use Rattle.wot_listing.specs.declared.error.ListingError.TheVariants.{Fault}
 use Rattle.wot_listing.specs.declared.progress.Progress.{Progress}

@@ -4,7 +4,8 @@ use Rattle.std.specs.Option.{option_map_or}
 use Rattle.std.specs.FinMap as finmap
 use Rattle.wot_types.specs.declared.fault.ListingWhat.{ListingWhat}
 use Rattle.wot_types.specs.declared.fault.ListingWhat.TheVariants.{NoFingerprint}
-use Rattle.wot_types.specs.Listing.{Line, capped, fault_at, first_failing}
+use Rattle.wot_types.specs.Listing.{Line, fault_at, first_failing}
+use Rattle.wot_types.specs.Numbers.{capped}
 use Rattle.wot_listing.specs.declared.blocks.Blocks.{Blocks}
 use Rattle.wot_listing.specs.declared.error.LineError.{LineError}
 use Rattle.wot_listing.specs.declared.error.LineError.TheVariants as line_error
@@ -15,7 +16,7 @@ use Rattle.wot_listing.specs.Answer.{Answers}
 use Rattle.wot_listing.specs.Machine.{after_block, failing_in, is_unnamed, after_line}
 use Rattle.wot_listing.specs.Reading.{Finishes, HasRead, stop_of}
 use Rattle.wot_listing.proofs.LineLemmas.{passed_one}
-use Rattle.wot_types.specs.Accepted.{AreListed}
+use Rattle.wot_types.specs.Accepted.{AreImportable}
 use Rattle.wot_listing.proofs.SoundKeys.{listed}
 use Rattle.wot_listing.proofs.Failing.{finish_fails, finish_spells, finish_stopped, reads_on, still_stopped, stops}
 
@@ -73,5 +74,5 @@ end_fails r s line_error.Memory P lines is h read = tt
 
 -- the keys of a listing with no fault
 pub end_keys : (r : Result Progress ListingError) (s : Progress) (blocks : Blocks) (lines : List Line) → r ≡ Ok s → first_failing ((is_unnamed s.block, NoFingerprint) ∷ []) ≡ None
-    → blocks.keys ≡ finmap.values (after_block s).keys → blocks.kept ≡ s.kept → blocks.passed ≡ s.passed → HasRead r lines → AreListed blocks.keys
+    → blocks.keys ≡ finmap.values (after_block s).keys → blocks.kept ≡ s.kept → blocks.passed ≡ s.passed → HasRead r lines → AreImportable blocks.keys
 end_keys r s blocks lines is named keys kept passed read = listed lines blocks.keys blocks.kept blocks.passed (end_spells r s blocks lines is named keys kept passed read)

@@ -19,7 +19,8 @@ use Rattle.wot_types.specs.declared.fault.ListingWhat.{ListingWhat}
 use Rattle.wot_types.specs.declared.fault.ListingWhat.TheVariants.{BadHex, LimitReached}
 use Rattle.wot_types.specs.Fingerprint.{IsFprLength, fingerprint, key_id_of}
 use Rattle.wot_types.specs.Fields.{field, has_fewer}
-use Rattle.wot_types.specs.Listing.{Line, cert_checks, certifies, first_failing, fpr_checks, is_bad_date, is_bad_quote, is_same_user, issued_checks, longest_scope, most_certs, most_users, sig_checks, user_at}
+use Rattle.wot_types.specs.Listing.{Line, cert_checks, certifies, first_failing, fpr_checks, is_bad_date, is_bad_quote, is_same_user, issued_checks, sig_checks, user_at}
+use Rattle.wot_types.specs.Limits.{longest_scope, most_certs, most_users}
 use Rattle.wot_types.specs.Numbers.{depth_and_amount}
 use Rattle.wot_types.specs.Records.{cert_of, class_at, class_of, fingerprint_at, is_capability, is_good, is_hash_byte, is_kept_class, is_revoked_at, key_id, key_id_at, text_at}
 use Rattle.wot_types.specs.WellFormed.{AreDistinctUsers, IsCert, IsScope, IsUser}

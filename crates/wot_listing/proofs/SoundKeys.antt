@@ -24,9 +24,10 @@ use Rattle.wot_types.specs.declared.record.RecordKind.TheVariants.{Primary, Fing
 use Rattle.wot_types.specs.Fields.{has_fewer}
 use Rattle.wot_types.specs.Fingerprint.{IsFprLength, key_id_of}
 use Rattle.wot_types.specs.Keyring.{Keyring}
-use Rattle.wot_types.specs.Listing.{Line, Spells, blocks, certifies, failing, fault, fault_at, fault_at_end, first_failing, fpr_checks, is_bad_date, is_bad_quote, keys_of, lacks_fingerprint, most_users, open_block, sig_checks, user_at, user_checks}
+use Rattle.wot_types.specs.Listing.{Line, Spells, blocks, certifies, failing, fault, fault_at, fault_at_end, first_failing, fpr_checks, is_bad_date, is_bad_quote, keys_of, lacks_fingerprint, open_block, sig_checks, user_at, user_checks}
+use Rattle.wot_types.specs.Limits.{most_users}
 use Rattle.wot_types.specs.Records.{cert_of, class_at, is_good, is_kept_class, key_id_at, kind_of}
-use Rattle.wot_types.specs.Accepted.{AreListed}
+use Rattle.wot_types.specs.Accepted.{AreImportable}
 use Rattle.wot_types.specs.WellFormed.{IsUser, IsWellFormed}
 use Rattle.wot_listing.specs.declared.key_block.KeyBlock.{KeyBlock}
 use Rattle.wot_listing.specs.declared.progress.Progress.{Progress}
@@ -212,7 +213,7 @@ ids_are (e ∷ es) h =
     let rest = ids_are es (All-tail (λ e. IsSoundKey e.0 e.1) e es h) in
     λ i. id i ∷ rest i
 
-good_values : (m : Keyring) → AreSoundKeys m → AreListed (finmap.values m)
+good_values : (m : Keyring) → AreSoundKeys m → AreImportable (finmap.values m)
 good_values m h =
     let es = finmap.entries m in
     let sorted = when_true (is_sorted nat_cmp es) (finmap.entries_sorted m) in
@@ -223,5 +224,5 @@ good_values m h =
     }
 
 -- what a listing spells may be imported
-pub listed : (lines : List Line) (keys : List Key) (kept passed : ℕ) → Spells lines keys kept passed → AreListed keys
-listed lines keys kept passed h = subst AreListed (sym h.keys_are) (good_values (keys_of (blocks lines)) (all_sound lines h.faultless))
+pub listed : (lines : List Line) (keys : List Key) (kept passed : ℕ) → Spells lines keys kept passed → AreImportable keys
+listed lines keys kept passed h = subst AreImportable (sym h.keys_are) (good_values (keys_of (blocks lines)) (all_sound lines h.faultless))

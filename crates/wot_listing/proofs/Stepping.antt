@@ -7,7 +7,8 @@ use Rattle.std.proofs.lemmas.List.{map-append, append-nil, length-append}
 use Rattle.std.proofs.lemmas.List.Sums.{fold_push, sum_by-append}
 use Rattle.wot_types.specs.declared.record.RecordKind.{RecordKind}
 use Rattle.wot_types.specs.declared.record.RecordKind.TheVariants.{Primary, Fingerprint, UserId, Signature, Subkey, Foreign, Other}
-use Rattle.wot_types.specs.Listing.{Line, begins_keyblock, begins_user, capped, cert_count, ends_keyblock, ends_user, fpr_line, is_sig, kept_count, key_of, keys_of, open_block, open_user, user_of, user_runs, with_keyblock}
+use Rattle.wot_types.specs.Listing.{Line, begins_keyblock, begins_user, cert_count, ends_keyblock, ends_user, fpr_line, is_sig, kept_count, key_of, keys_of, open_block, open_user, user_of, user_runs, with_keyblock}
+use Rattle.wot_types.specs.Numbers.{capped}
 use Rattle.wot_types.specs.Records as record_of
 use Rattle.wot_types.specs.Records.{cert_of, fingerprint_at, is_primary, is_signature, kind_of}
 use Rattle.wot_types.specs.Runs.{Run, alone}

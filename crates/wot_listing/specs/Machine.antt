@@ -12,7 +12,9 @@ use Rattle.wot_types.specs.declared.fault.ListingWhat.TheVariants.{LimitReached,
 use Rattle.wot_types.specs.declared.record.RecordKind.{RecordKind}
 use Rattle.wot_types.specs.declared.record.RecordKind.TheVariants.{Primary, Fingerprint, UserId, Signature, Subkey, Foreign, Other}
 use Rattle.wot_types.specs.Keyring.{Keyring}
-use Rattle.wot_types.specs.Listing.{Check, Line, begins_keyblock, begins_user, capped, cert_count, certifies, ends_keyblock, ends_user, first_failing, fpr_checks, fpr_line, is_same_user, is_sig, kept_count, keys_of, most_users, open_block, open_user, pub_checks, sig_checks, user_at, user_checks, user_of, wants_fpr}
+use Rattle.wot_types.specs.Listing.{Check, Line, begins_keyblock, begins_user, cert_count, certifies, ends_keyblock, ends_user, first_failing, fpr_checks, fpr_line, is_same_user, is_sig, kept_count, keys_of, open_block, open_user, pub_checks, sig_checks, user_at, user_checks, user_of, wants_fpr}
+use Rattle.wot_types.specs.Limits.{most_users}
+use Rattle.wot_types.specs.Numbers.{capped}
 use Rattle.wot_types.specs.Records.{capabilities_at, cert_of, date_at, fingerprint_at, is_good, is_revoked_at, key_id_at, kind_of, number_at}
 use Rattle.wot_types.specs.Runs.{Run}
 use Rattle.wot_listing.specs.declared.primary.Primary.{Primary as PrimaryRecord}

@@ -1,7 +1,8 @@
 //! Certifications of a user ID.
 
 ghost use Rattle.std.specs.Prelude.{◌≡◌, ◌<◌, ◌&&◌, ◌==◌, not, IfOk, IsSome, if◌then◌else◌};
-ghost use Rattle.wot_types.specs.Listing.{cert_checks, first_failing, most_certs, sig_checks};
+ghost use Rattle.wot_types.specs.Listing.{cert_checks, first_failing, sig_checks};
+ghost use Rattle.wot_types.specs.Limits.{most_certs};
 ghost use Rattle.wot_types.specs.Records.{cert_of, class_at, depth_at, amount_at, is_kept_class, key_id_at, scope_of, text_at};
 ghost use Rattle.wot_listing.specs.Answer.{Answers};
 

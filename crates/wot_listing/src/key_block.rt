@@ -1,7 +1,8 @@
 //! The block that is being read.
 
 ghost use Rattle.std.specs.Prelude.{◌≡◌, ◌∷◌, [], ◌++◌, ◌<◌, ◌&&◌, is_none, is_some, length, nat_le, OnOk, if◌then◌else◌};
-ghost use Rattle.wot_types.specs.Listing.{certifies, first_failing, fpr_checks, most_users, most_certs, sig_checks, user_at, user_checks};
+ghost use Rattle.wot_types.specs.Listing.{certifies, first_failing, fpr_checks, sig_checks, user_at, user_checks};
+ghost use Rattle.wot_types.specs.Limits.{most_users, most_certs};
 ghost use Rattle.wot_types.specs.Records.{cert_of, fingerprint_at, is_good};
 ghost use Rattle.wot_listing.specs.Answer.{Answers};
 ghost use Rattle.wot_listing.specs.Machine.{at_primary, at_sub, after_user, key_at_end, repeats_user, users_of, with_cert, with_fpr, with_user};

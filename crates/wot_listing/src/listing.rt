@@ -1,7 +1,7 @@
 //! The reader of a listing.
 
 ghost use Rattle.std.specs.Prelude.{◌≡◌, ◌∷◌, ◌++◌, [], ℕ, List, IfErr, IfOk};
-ghost use Rattle.wot_types.specs.Accepted.{AreListed};
+ghost use Rattle.wot_types.specs.Accepted.{AreImportable};
 ghost use Rattle.wot_listing.specs.Reading.{Finishes, HasRead, answer_of, reading, stop_of};
 
 use crate::blocks::Blocks;
@@ -74,7 +74,7 @@ impl Listing {
         // what the lines that were read spell, or their first fault
         ensures finishes { (lines : List (List ℕ)) → HasRead self lines → Finishes lines result }
         // keys that may be imported: well formed, and rising by key ID
-        ensures listed { (lines : List (List ℕ)) → HasRead self lines → IfOk result (λ blocks. AreListed blocks.keys) }
+        ensures listed { (lines : List (List ℕ)) → HasRead self lines → IfOk result (λ blocks. AreImportable blocks.keys) }
         ensures stays { IfErr self (λ e. result ≡ Err e) }
     {
         let Listing {

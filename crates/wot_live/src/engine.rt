@@ -37,7 +37,7 @@ pub struct Engine {
 }
 
 impl Model for Engine {
-    ghost use Rattle.wot_types.specs.declared.state.State.{State};
+    ghost use Rattle.wot_types.specs.State.{State};
     ghost use Rattle.wot_types.specs.contracts.state.State as state_struct;
     ghost use Rattle.wot_levels.specs.Given.{state_of};
     ghost use Rattle.wot_live.specs.Follows.{Follows};

@@ -6,7 +6,7 @@ use Rattle.wot_types.specs.declared.ownertrust.Entry.{Entry}
 use Rattle.wot_types.specs.declared.ownertrust.Ownertrust.{Ownertrust}
 use Rattle.wot_types.specs.Ownertrust.{OwnertrustMap, kept_of}
 use Rattle.wot_types.specs.OwnertrustText.{entry_of_line, ownertrust_fault, text_entries}
-use Rattle.wot_types.specs.Totals.{capped}
+use Rattle.wot_types.specs.Numbers.{capped}
 
 -- what is kept of lines: their entries and how many lines there are, or the first fault
 abbrev pub SoFar : Type 0

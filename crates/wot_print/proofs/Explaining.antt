@@ -6,7 +6,7 @@ use Rattle.std.specs.Option.{unwrap_or}
 use Rattle.std.proofs.lemmas.List.Folds.{flat_map-map}
 use Rattle.wot_types.specs.declared.letter.Letter.{Letter}
 use Rattle.wot_types.specs.declared.letter.Letter.TheVariants.{Dash}
-use Rattle.wot_types.specs.declared.state.State.{State}
+use Rattle.wot_types.specs.State.{State}
 use Rattle.wot_types.specs.CutState.{cut}
 use Rattle.wot_types.specs.Explanation.{direct, explained_rows, explanation}
 use Rattle.wot_types.specs.WhyText.{by_line, cut_line, letter_of, row_line, why_line, why_text}

@@ -2,7 +2,7 @@
 
 ghost use Rattle.std.specs.Prelude.{◌≡◌, ◌+◌, ◌++◌, IfOk, OnOk};
 ghost use Rattle.std.specs.List.{flat_map};
-ghost use Rattle.wot_types.specs.declared.state.State.{State};
+ghost use Rattle.wot_types.specs.State.{State};
 ghost use Rattle.wot_types.specs.CutState.{cut};
 ghost use Rattle.wot_types.specs.Explanation.{explanation};
 ghost use Rattle.wot_types.specs.Printing.{number_field};

@@ -11,7 +11,7 @@ ghost use Rattle.wot_types.specs.Listing.{Spells};
 ghost use Rattle.wot_types.specs.Ownertrust.{ownertrust_of};
 ghost use Rattle.wot_types.specs.Printing.{cert_line, key_lines, list_text, listed, user_lines};
 ghost use Rattle.wot_types.specs.Selection.{Spot, spots_from};
-ghost use Rattle.wot_types.specs.Totals.{capped};
+ghost use Rattle.wot_types.specs.Numbers.{capped};
 ghost use Rattle.wot_table.specs.Heads.{IsKeyHead, IsUserHead};
 ghost use Rattle.wot_print_laws.specs.Fits.{FitsCert, FitsKey, FitsState, FitsUser};
 ghost use Rattle.wot_print_laws.specs.ListingLines.{listing_lines};

@@ -14,7 +14,8 @@ use Rattle.wot_types.specs.declared.user.User.{User}
 use Rattle.wot_types.specs.declared.limit.Limit.TheVariants.{Users as UsersLimit, Certs as CertsLimit}
 use Rattle.wot_types.specs.declared.fault.ListingWhat.TheVariants.{ShortRecord, BadHex, RepeatedUser, LimitReached}
 use Rattle.wot_types.specs.Fingerprint.{key_id_of}
-use Rattle.wot_types.specs.Listing.{Check, Line, begins_keyblock, begins_user, block_id, cert_checks, cert_count, certifications, checks_of, ends_keyblock, ends_user, fault_at, first_failing, fpr_checks, in_block, is_certification, is_repeated_user, is_same_user, most_certs, most_users, open_block, open_user, same_kind, sig_checks, user_checks, user_kind, user_of, user_runs, wants_fpr}
+use Rattle.wot_types.specs.Listing.{Check, Line, begins_keyblock, begins_user, block_id, cert_checks, cert_count, certifications, checks_of, ends_keyblock, ends_user, fault_at, first_failing, fpr_checks, in_block, is_certification, is_repeated_user, is_same_user, open_block, open_user, same_kind, sig_checks, user_checks, user_kind, user_of, user_runs, wants_fpr}
+use Rattle.wot_types.specs.Limits.{most_certs, most_users}
 use Rattle.wot_types.specs.Records as record_of
 use Rattle.wot_types.specs.Records.{class_at, is_good, is_kept_class, is_primary, is_user_id, key_id_at, kind_of}
 use Rattle.wot_types.specs.Runs.{Run, alone}

@@ -17,7 +17,8 @@ use Rattle.wot_types.specs.Fields.{field, has_fewer}
 use Rattle.wot_types.specs.Fingerprint.{IsFprLength, fingerprint, key_id_of}
 use Rattle.wot_types.specs.Numbers.{depth_and_amount, number_or_0}
 use Rattle.wot_types.specs.Quotes.{printed, unquoted}
-use Rattle.wot_types.specs.Listing.{cert_checks, first_failing, fpr_checks, longest_scope, pub_checks, user_checks}
+use Rattle.wot_types.specs.Listing.{cert_checks, first_failing, fpr_checks, pub_checks, user_checks}
+use Rattle.wot_types.specs.Limits.{longest_scope}
 use Rattle.wot_types.specs.Printing.{cert_name, class_text, depth_text, key_id_text, kind_text, scope_text}
 use Rattle.wot_types.specs.Records.{begins_with, capabilities_at, cert_of, class_of, date_at, fingerprint_at, hash_at, is_capability, is_good, is_hash_byte, is_local_at, is_revoked_at, key_id, key_id_at, kind_of, kind_of_name, number_at, scope_of, text_at}
 use Rattle.wot_types.specs.WellFormed.{IsScope}

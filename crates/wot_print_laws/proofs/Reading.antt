@@ -10,7 +10,7 @@ use Rattle.std.proofs.lemmas.List.Folds.{list_any-append}
 use Rattle.hex.specs.Hex.{IsBytes}
 use Rattle.wot_types.specs.declared.cert.Cert.{Cert}
 use Rattle.wot_types.specs.declared.key.Key.{Key}
-use Rattle.wot_types.specs.declared.state.State.{State}
+use Rattle.wot_types.specs.State.{State}
 use Rattle.wot_types.specs.declared.user.User.{User}
 use Rattle.wot_types.specs.declared.record.RecordKind.TheVariants.{Other}
 use Rattle.wot_types.specs.declared.user.UserKind.{UserKind}
@@ -29,7 +29,8 @@ use Rattle.wot_types.specs.Fingerprint.{key_id_of}
 use Rattle.wot_types.specs.Keyring.{cert_total, with_keys}
 use Rattle.wot_types.specs.Letters.{key_letter, user_letter}
 use Rattle.wot_types.specs.Levels.{rows_of}
-use Rattle.wot_types.specs.Listing.{Line, Spells, capped, fault_at_end, kept_of, listed_keys, passed_of}
+use Rattle.wot_types.specs.Listing.{Line, Spells, fault_at_end, kept_of, listed_keys, passed_of}
+use Rattle.wot_types.specs.Numbers.{capped}
 use Rattle.wot_types.specs.NextCheck.{key_expiries, next_check, sooner, soonest, user_expiries}
 use Rattle.wot_types.specs.Ownertrust.{ownertrust_of}
 use Rattle.wot_types.specs.Printing.{capabilities_text, kind_text, letter_text, list_text, model_text}

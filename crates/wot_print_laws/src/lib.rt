@@ -4,14 +4,15 @@
 ghost use Rattle.std.specs.Prelude.{◌≡◌, ◌≤◌, All, false, length, map, true, None, Some};
 ghost use Rattle.std.specs.List.{list_any};
 ghost use Rattle.std.specs.FinMap as finmap;
-ghost use Rattle.wot_types.specs.declared.state.State.{State};
+ghost use Rattle.wot_types.specs.State.{State};
 ghost use Rattle.wot_types.specs.Accepted.{IsFiled};
 ghost use Rattle.wot_types.specs.declared.edit.Edit.TheVariants.{Import};
 ghost use Rattle.wot_types.specs.declared.edit.Head.TheVariants.{Import as ImportHead};
 ghost use Rattle.wot_types.specs.Commands.{block_texts, ends_block};
 ghost use Rattle.wot_types.specs.Keyring.{cert_total, with_keys};
 ghost use Rattle.wot_types.specs.Lines.{lines, read_line};
-ghost use Rattle.wot_types.specs.Listing.{Spells, capped};
+ghost use Rattle.wot_types.specs.Listing.{Spells};
+ghost use Rattle.wot_types.specs.Numbers.{capped};
 ghost use Rattle.wot_types.specs.Outcome.{block_outcome, edit_outcome, import_line};
 ghost use Rattle.wot_types.specs.Printing.{list_text};
 ghost use Rattle.wot_types.specs.Store.{Store};

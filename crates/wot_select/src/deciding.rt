@@ -3,7 +3,7 @@
 ghost use Rattle.std.specs.Prelude.{◌≡◌, ◌≤◌, ◌<◌, ℕ, None, length, slice_get};
 ghost use Rattle.std.specs.Option.{MatchOption};
 ghost use Rattle.wot_types.specs.Arrangement.{IsRising};
-ghost use Rattle.wot_types.specs.Listing.{most_certs};
+ghost use Rattle.wot_types.specs.Limits.{most_certs};
 ghost use Rattle.wot_types.specs.Selection.{is_disregarded, is_in_force, usable};
 ghost use Rattle.wot_select.specs.Run.{IsBy};
 

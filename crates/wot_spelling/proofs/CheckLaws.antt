@@ -16,11 +16,13 @@ use Rattle.std.specs.declared.cmp.Ordering.TheVariants.{Less, Equal, Greater}
 use Rattle.std.specs.Ordering.{is_lt}
 use Rattle.wot_types.specs.Fingerprint.{IsFprLength, fpr_cmp}
 use Rattle.wot_types.specs.Keyring.{id_of, key_certs}
-use Rattle.wot_types.specs.Listing.{is_same_user, most_certs, most_users}
+use Rattle.wot_types.specs.Listing.{is_same_user}
+use Rattle.wot_types.specs.Limits.{most_certs, most_users}
 use Rattle.wot_types.specs.Records.{is_capability, is_hash_byte, is_kept_class}
 use Rattle.wot_types.specs.WellFormed.{AreDistinctUsers, IsScope, IsCert, IsUser, IsWellFormed}
 use Rattle.wot_spelling.specs.Checks.{has_scope, is_cert, is_user, are_distinct, is_marked_once, has_few_certs, is_well_formed, is_rising, are_importable, is_in_range, are_rising_entries, are_settable}
-use Rattle.wot_types.specs.Payload.{AreImportable, IsInRange, IsRisingBy, AreSettable}
+use Rattle.wot_types.specs.Payload.{IsInRange, IsRisingBy, AreSettable}
+use Rattle.wot_types.specs.Accepted.{AreImportable}
 use Rattle.wot_spelling.proofs.Lengths.{scope_yes, scope_is}
 
 -- what a test means

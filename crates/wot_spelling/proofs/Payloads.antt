@@ -13,7 +13,8 @@ use Rattle.wot_types.specs.Spelling.{number_1, entry_bytes, EntryFits, list_byte
 use Rattle.wot_spelling.specs.Reading.{Read, made, number_1_at}
 use Rattle.wot_spelling.specs.Checks.{are_importable, are_settable, is_in_range}
 use Rattle.wot_types.specs.Limits.{most_record}
-use Rattle.wot_types.specs.Payload.{AreImportable, AreSettable, EditFits, IsInRange, IsPayload, IsProper, payload}
+use Rattle.wot_types.specs.Payload.{AreSettable, EditFits, IsInRange, IsPayload, IsProper, payload}
+use Rattle.wot_types.specs.Accepted.{AreImportable}
 use Rattle.wot_spelling.specs.Edits.{entries_at, flag_of, keys_at, range_at, set_of, edit_after, edit_at, edit_of}
 use Rattle.wot_spelling.proofs.Parts.{IsBytes, Taken, IsPart, bind_some, some_is, both_part, part_of, flag_part, number_1_part, number_4_part, number_8_part}
 use Rattle.wot_spelling.proofs.ValueParts.{kept_part, list_part, fpr_part, trust_part, entry_part, key_part, options_part}

@@ -10,7 +10,8 @@ use Rattle.wot_types.specs.Fingerprint.{fpr_cmp}
 use Rattle.wot_types.specs.Ownertrust.{is_unset, kept_of}
 use Rattle.std.specs.Ordering.{is_lt}
 use Rattle.wot_types.specs.Keyring.{id_of, key_certs}
-use Rattle.wot_types.specs.Listing.{is_same_user, longest_scope, most_certs, most_users}
+use Rattle.wot_types.specs.Listing.{is_same_user}
+use Rattle.wot_types.specs.Limits.{longest_scope, most_certs, most_users}
 use Rattle.wot_types.specs.Records.{is_capability, is_hash_byte, is_kept_class}
 
 -- a regular expression has 1 to 255 bytes

@@ -2,7 +2,7 @@
 
 ghost use Rattle.std.specs.Prelude.{◌≡◌, length, sum_by};
 ghost use Rattle.wot_types.specs.Payload.{payload};
-ghost use Rattle.wot_types.specs.Totals.{capped};
+ghost use Rattle.wot_types.specs.Numbers.{capped};
 ghost use Rattle.wot_spelling.specs.Sizes.{cert_size, entry_size, key_size, payload_size, scope_size, user_size};
 
 use wot_types::{Cert, Edit, Entry, Key, Text, User};

@@ -3,7 +3,7 @@ use Rattle.std.proofs.Common.{◌≡◌, ◌≢◌, ◌⊎◌, inl, inr, ⊎_eli
 use Rattle.std.proofs.lemmas.List.{take-append-drop, drop-drop, length-drop, drop-append-le, drop-take, take_at, drop_at, take-take, length-take-le, length-append, get_or-take, get_or-drop, get_or_at}
 use Rattle.std.proofs.lemmas.Bool.Decides.{nat_tests}
 use Rattle.wot_types.specs.declared.edit.Edit.{Edit}
-use Rattle.wot_types.specs.declared.state.State.{State}
+use Rattle.wot_types.specs.State.{State}
 use Rattle.wot_types.specs.Outcome.{refusal_of, edited, edited_store}
 use Rattle.wot_types.specs.Payload.{IsPayload, payload}
 use Rattle.wot_types.specs.State.{opening_state}

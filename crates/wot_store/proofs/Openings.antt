@@ -23,7 +23,7 @@ use Rattle.wot_store.specs.Opening.{Settles, Settling, Keeping, Opening, Opens, 
 use Rattle.wot_store.specs.declared.header.Look.{Look}
 use Rattle.wot_store.specs.declared.header.Look.TheVariants.{Blank, Bad, Base}
 use Rattle.wot_store.specs.declared.error.BadStore.{BadStore}
-use Rattle.wot_types.specs.declared.state.State.{State}
+use Rattle.wot_types.specs.State.{State}
 use Rattle.wot_store.proofs.Replaying.{reaches_start}
 
 -- with nothing pending an image is what the sides read

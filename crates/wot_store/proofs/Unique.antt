@@ -8,7 +8,7 @@ use Rattle.std.proofs.lemmas.List.{take_at, drop_at, length-append, length-drop,
 use Rattle.std.proofs.lemmas.List.Elements.{All-head, All-tail}
 use Rattle.wot_types.specs.declared.edit.Edit.{Edit}
 use Rattle.wot_types.specs.declared.refusal.Refusal.{Refusal}
-use Rattle.wot_types.specs.declared.state.State.{State}
+use Rattle.wot_types.specs.State.{State}
 use Rattle.wot_types.specs.State.{opening_state}
 use Rattle.wot_types.specs.Outcome.{refusal_of, edited}
 use Rattle.wot_types.specs.Payload.{IsPayload, payload}

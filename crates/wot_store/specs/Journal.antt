@@ -1,7 +1,7 @@
 -- What the records of a journal stand for.
 use Rattle.std.specs.Prelude.{ℕ, ◌≡◌, ◌+◌, ◌<◌, List, [], ◌∷◌, ◌++◌, length, drop, slice_index, flat_map, All, if◌then◌else◌, is_none, Option, Some, None, IsSome, option_and_then}
 use Rattle.wot_types.specs.declared.edit.Edit.{Edit}
-use Rattle.wot_types.specs.declared.state.State.{State}
+use Rattle.wot_types.specs.State.{State}
 use Rattle.wot_types.specs.Outcome.{refusal_of, edited}
 use Rattle.wot_types.specs.Payload.{IsPayload, payload}
 use Rattle.wot_site.specs.Disk.{disk_of}

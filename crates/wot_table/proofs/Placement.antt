@@ -17,7 +17,7 @@ use Rattle.wot_types.specs.declared.placed.Placed.{Placed}
 use Rattle.wot_types.specs.declared.user.User.{User}
 use Rattle.wot_types.specs.declared.key.Key.{Key}
 use Rattle.wot_types.specs.Arrangement.{IsRising, in_order}
-use Rattle.wot_types.specs.Listing.{most_certs, most_users}
+use Rattle.wot_types.specs.Limits.{most_certs, most_users}
 use Rattle.wot_types.specs.Selection.{Spot, placed_from, spots_from}
 use Rattle.wot_table.specs.Held.{IsArranged, IsHeld}
 use Rattle.wot_table.specs.declared.weight.Weight.{Weight}

@@ -13,7 +13,8 @@ use Rattle.std.specs.Map.{keys_of}
 use Rattle.wot_types.specs.declared.key.Key.{Key}
 use Rattle.wot_types.specs.declared.totals.Totals.{Totals}
 use Rattle.wot_types.specs.Keyring.{Keyring, id_of, with_key}
-use Rattle.wot_types.specs.Totals.{capped, key_text, totals_of, user_text}
+use Rattle.wot_types.specs.Totals.{key_text, totals_of, user_text}
+use Rattle.wot_types.specs.Numbers.{capped}
 use Rattle.wot_types.specs.WellFormed.{IsWellFormed}
 use Rattle.wot_types.proofs.Maps.{entries_are}
 use Rattle.wot_types.proofs.FinMaps.{All-insert, sum_by-insert}

@@ -4,7 +4,8 @@ use Rattle.std.specs.FinMap as finmap
 use Rattle.wot_types.specs.declared.user.User.{User}
 use Rattle.wot_types.specs.declared.key.Key.{Key}
 use Rattle.wot_types.specs.Keyring.{Keyring}
-use Rattle.wot_types.specs.Totals.{capped, user_text}
+use Rattle.wot_types.specs.Totals.{user_text}
+use Rattle.wot_types.specs.Numbers.{capped}
 use Rattle.wot_table.specs.Kept.{IsKept}
 use Rattle.wot_table.specs.declared.weight.Weight.{Weight}
 use Rattle.wot_table.specs.declared.sums.Sums.{Sums}

@@ -6,7 +6,7 @@ ghost use Rattle.std.specs.List.{flat_map};
 ghost use Rattle.std.specs.Option.{option_copied};
 ghost use Rattle.wot_types.specs.Arrangement.{IsRising};
 ghost use Rattle.wot_types.specs.Keyring.{key_certs};
-ghost use Rattle.wot_types.specs.Listing.{most_certs, most_users};
+ghost use Rattle.wot_types.specs.Limits.{most_certs, most_users};
 ghost use Rattle.wot_types.specs.NextCheck.{key_expiries, user_expiries};
 ghost use Rattle.wot_types.specs.Selection.{placed_from, spots_from};
 ghost use Rattle.wot_table.specs.Heads.{IsKeyHead, IsUserHead};

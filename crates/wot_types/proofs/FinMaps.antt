@@ -5,7 +5,7 @@ use Rattle.std.specs.declared.cmp.Ordering.{Ordering}
 use Rattle.std.specs.declared.cmp.Ordering.TheVariants.{Less, Equal, Greater}
 use Rattle.std.specs.Ordering.{is_eq}
 use Rattle.std.specs.Cmp.{IsTotalOrder}
-use Rattle.std.specs.FinMap.{FinMap, IsAntisymmetric, find, put, is_sorted, entries, entries_sorted, values, get, get-entries, insert, entries-insert}
+use Rattle.std.specs.FinMap.{FinMap, IsAntisymmetric, find, put, is_sorted, entries, entries_sorted, values, get, get-entries, insert, entries-insert, len, len-entries}
 use Rattle.std.specs.FinMap.Entries.{by_order, length-put}
 use Rattle.std.proofs.lemmas.List.Elements.{All-cons, All-head, All-tail}
 use Rattle.std.proofs.lemmas.List.Sums.{sum_by-cons}
@@ -72,3 +72,10 @@ module _ {K X : Type 0} {R : K → K → Ordering} (o : IsTotalOrder R) where
   -- what holds of each entry holds of what is found
   pub IfSome-get : IsAntisymmetric R → (P : K × X → Type 0) (m : FinMap R X) (q : K) → All P (entries m) → IfSome (get m q) (λ v. P (q, v))
   IfSome-get same P m q h = subst (λ r. IfSome r (λ v. P (q, v))) (sym (get-entries m q)) (IfSome-find same P q (entries m) h)
+
+pub no_entries : {K X : Type 0} {R : K → K → Ordering} (m : FinMap R X) → len m ≡ 0 → entries m ≡ []
+no_entries m e = none (entries m) (sym (len-entries m) ∙ e)
+  where
+    none : {A : Type 0} (xs : List A) → length xs ≡ 0 → xs ≡ []
+    none [] h = refl
+    none (x ∷ xs) h = absurd (omega arith)

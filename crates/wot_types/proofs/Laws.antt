@@ -3,7 +3,7 @@ use Rattle.std.proofs.Common.{◌≡◌, ℕ, ◌<◌, Bool, true, false, List, 
 use Rattle.std.specs.Prelude.{unwrap_or, codes}
 use Rattle.std.specs.Fmt.{decimal}
 use Rattle.wot_types.specs.declared.edit.Edit.{Edit}
-use Rattle.wot_types.specs.declared.edit.Edit.TheVariants.{Import, Ownertrust, Delete}
+use Rattle.wot_types.specs.declared.edit.Edit.TheVariants.{Import, Ownertrust, Set, Flag, Delete, Date, Options, Sample}
 use Rattle.wot_types.specs.declared.edit.Head.{Head}
 use Rattle.wot_types.specs.declared.edit.Head.TheVariants.{Edit as EditHead, Query as QueryHead, DeleteKey, Import as ImportHead, Ownertrust as OwnertrustHead}
 use Rattle.wot_types.specs.declared.fault.ListingFault.{ListingFault}
@@ -15,11 +15,14 @@ use Rattle.wot_types.specs.Commands.{Command, block_texts}
 use Rattle.wot_types.specs.Fingerprint.{key_id_of}
 use Rattle.wot_types.specs.Grammar.{command_of}
 use Rattle.wot_types.specs.Keyring.{has_fpr}
+use Rattle.wot_types.specs.Levels.{rows_of}
 use Rattle.wot_types.specs.Listing.{fault_at_end, kept_of, listed_keys, passed_of}
-use Rattle.wot_types.specs.Outcome.{Accepts, Outcome, block_outcome, edit_outcome, entries_line, entries_outcome, has_long_line, head_outcome, if_ended, import_line, is_past, listing_outcome, ok_line, outcome, query_outcome, query_refusal, answer_to, refusal_of, refuse, unless_refused, unless_unanswered, words_outcome}
+use Rattle.wot_types.specs.Outcome.{Accepts, Outcome, block_outcome, edit_outcome, edit_reply, edited, entries_line, entries_outcome, has_long_line, head_outcome, import_line, is_past, keys_line, listing_outcome, ok_line, outcome, query_refusal, answer_to, refusal_of, refuse, unless_refused, unless_unanswered, words_outcome}
 use Rattle.wot_types.specs.OwnertrustText.{listed_entries, ownertrust_fault}
+use Rattle.wot_types.specs.State.{State}
 use Rattle.wot_types.specs.Store.{Change, Store}
 use Rattle.wot_types.specs.Store.Change.{keeps, makes}
+use Rattle.wot_types.specs.Tally.{tally_line}
 
 -- an edit that is made is accepted, and replied to
 abbrev pub IsLegalChange : Store → List ℕ → Change → Type 0
@@ -53,6 +56,16 @@ some_entries entries = some_end (codes "ok entries " ++ decimal entries)
 some_ok : 0 < length ok_line
 some_ok = some_end (codes "ok")
 
+some_reply : (s : State) (edit : Edit) → 0 < length (edit_reply s edit)
+some_reply s (Import keys) = some_ok
+some_reply s (Ownertrust entries) = some_ok
+some_reply s (Set fpr trust) = some_ok
+some_reply s (Flag fpr disabled) = some_ok
+some_reply s (Delete id) = some_ok
+some_reply s (Date date) = some_ok
+some_reply s (Options options) = some_ok
+some_reply s (Sample seed count) = omega (arith, length-append (tally_line (edited s (Sample seed count)) (rows_of (edited s (Sample seed count)))) (keys_line count), some_end (codes "ok keys " ++ decimal count))
+
 legal_listing : (fault : Option ListingFault) (s : Store) (lines : List (List ℕ)) → IsLegal s (listing_outcome fault s lines)
 legal_listing (Some fault) s lines = tt
 legal_listing None s lines = legal_edit (import_line (length (listed_keys lines)) (kept_of lines) (passed_of lines)) s (Import (listed_keys lines))
@@ -76,7 +89,7 @@ legal_query s None text = tt
 
 legal_head : (s : Store) (command : Command) (head : Result Head Refusal) → IsLegal s (head_outcome s command head)
 legal_head s command (Err why) = tt
-legal_head s command (Ok (EditHead edit)) = legal_edit ok_line s edit some_ok
+legal_head s command (Ok (EditHead edit)) = legal_edit (edit_reply s.state edit) s edit (some_reply s.state edit)
 legal_head s command (Ok (QueryHead query)) = legal_query s (query_refusal s.state query) (answer_to s.state query)
 legal_head s command (Ok (DeleteKey fpr)) = legal_delete s fpr (has_fpr s.state.keys fpr)
 legal_head s command (Ok ImportHead) =

@@ -1,9 +1,12 @@
 pub mod Maps
 pub mod Fingerprints
 pub mod FinMaps
-pub mod Keyrings
 pub mod Removals
 pub mod Nexts
 pub mod Cuts
 pub mod Counting
 pub mod Laws
+pub mod Tests
+pub mod MapBy
+pub mod RecordKinds
+pub mod ListEnds

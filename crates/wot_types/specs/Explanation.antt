@@ -7,7 +7,7 @@ use Rattle.wot_types.specs.declared.options.Options.{Options}
 use Rattle.wot_types.specs.declared.count.Count.{Count}
 use Rattle.wot_types.specs.declared.placed.Placed.{Placed}
 use Rattle.wot_types.specs.declared.row.Row.{Row}
-use Rattle.wot_types.specs.declared.state.State.{State}
+use Rattle.wot_types.specs.State.{State}
 use Rattle.wot_types.specs.Candidates.{RowMap, candidacy, count_of, is_full}
 use Rattle.wot_types.specs.Expiry.{user_is_live}
 use Rattle.wot_types.specs.Letters.{has_level_0}

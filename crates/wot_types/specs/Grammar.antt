@@ -2,19 +2,19 @@
 use Rattle.std.specs.Prelude.{ℕ, Bool, true, false, ◌+◌, ◌-◌, ◌^◌, ◌&&◌, nat_le, List, [], ◌∷◌, if◌then◌else◌, Option, Some, None, is_some, unwrap_or, slice_get, option_and_then, Result, Ok, Err, codes}
 use Rattle.wot_types.specs.declared.command_name.CommandName.{CommandName}
 use Rattle.wot_types.specs.declared.command_name.CommandName.TheVariants as named
-use Rattle.wot_types.specs.declared.edit.Edit.TheVariants.{Set, Flag, Date, Options as SetOptions}
+use Rattle.wot_types.specs.declared.edit.Edit.TheVariants.{Set, Flag, Date, Options as SetOptions, Sample}
 use Rattle.wot_types.specs.declared.edit.Head.{Head}
 use Rattle.wot_types.specs.declared.edit.Head.TheVariants.{Edit as EditHead, Query as QueryHead, DeleteKey, Import as ImportHead, Ownertrust as OwnertrustHead}
 use Rattle.wot_types.specs.declared.edit.Query.{Query}
 use Rattle.wot_types.specs.declared.edit.Query.TheVariants.{List as ListAll, ListOne, Sigs, SigsOne, Export, Why, Quit}
-use Rattle.wot_types.specs.declared.options.Options.{Options}
 use Rattle.wot_types.specs.declared.refusal.Refusal.{Refusal}
 use Rattle.wot_types.specs.declared.refusal.Refusal.TheVariants.{UnknownCommand, BadArgument}
 use Rattle.wot_types.specs.declared.trust.Trust.TheVariants.{Unknown}
 use Rattle.wot_types.specs.Bytes.{is_word}
 use Rattle.wot_types.specs.Dates.{date}
 use Rattle.wot_types.specs.Fingerprint.{fingerprint}
-use Rattle.wot_types.specs.Numbers.{number}
+use Rattle.wot_types.specs.Limits.{most_sample}
+use Rattle.wot_types.specs.Numbers.{number, number_up_to}
 use Rattle.wot_types.specs.Trust.{trust_of_letter}
 
 -- the command that a first word names
@@ -28,6 +28,7 @@ command_name word =
     if is_word (codes "options") word then Some named.Options else
     if is_word (codes "import") word then Some named.Import else
     if is_word (codes "ownertrust") word then Some named.Ownertrust else
+    if is_word (codes "sample") word then Some named.Sample else
     if is_word (codes "list") word then Some named.List else
     if is_word (codes "sigs") word then Some named.Sigs else
     if is_word (codes "export") word then Some named.Export else
@@ -91,6 +92,13 @@ depth word = number_within 1 255 word
 abbrev pub level : List ℕ → Option ℕ
 level word = number_within 1 3 word
 
+-- the number that a sample is made from, and how many keys it has: 1 to 100,000
+abbrev pub seed : List ℕ → Option ℕ
+seed word = number_up_to (2 ^ 64 - 1) word
+
+abbrev pub sample_count : List ℕ → Option ℕ
+sample_count word = number_within 1 most_sample word
+
 -- the place of a user ID in its key's block, counted from 1
 abbrev pub place : List ℕ → Option ℕ
 place word = number_within 1 (2 ^ 32 - 1) word
@@ -128,6 +136,10 @@ options_of words = EditHead (SetOptions (record {
   level = number_at level 4 words;
 }))
 
+-- `sample SEED COUNT`
+abbrev pub sample_of : List (List ℕ) → Head
+sample_of words = EditHead (Sample (number_at seed 0 words) (number_at sample_count 1 words))
+
 -- `why FPR PLACE`
 abbrev pub why_of : List (List ℕ) → Head
 why_of words = QueryHead (Why (fpr_at 0 words) (number_at place 1 words))
@@ -147,6 +159,7 @@ head_of named.Date words = with_arguments (is_read date ∷ []) words (date_of w
 head_of named.Options words = with_arguments (is_read model ∷ is_read completes ∷ is_read marginals ∷ is_read depth ∷ is_read level ∷ []) words (options_of words)
 head_of named.Import words = with_arguments [] words ImportHead
 head_of named.Ownertrust words = with_arguments [] words OwnertrustHead
+head_of named.Sample words = with_arguments (is_read seed ∷ is_read sample_count ∷ []) words (sample_of words)
 head_of named.List words = one_or_all ListAll ListOne words
 head_of named.Sigs words = one_or_all Sigs SigsOne words
 head_of named.Export words = with_arguments [] words (QueryHead Export)

@@ -7,7 +7,7 @@ use Rattle.wot_types.specs.declared.count.Count.{Count}
 use Rattle.wot_types.specs.declared.letter.Letter.{Letter}
 use Rattle.wot_types.specs.declared.letter.Letter.TheVariants.{Dash, Q, M, F, U, R, E}
 use Rattle.wot_types.specs.declared.row.Row.{Row}
-use Rattle.wot_types.specs.declared.state.State.{State}
+use Rattle.wot_types.specs.State.{State}
 use Rattle.wot_types.specs.Candidates.{RowMap, count_of, is_full}
 use Rattle.wot_types.specs.Expiry.{is_expired, user_is_live}
 use Rattle.wot_types.specs.Levels.{rows_of}

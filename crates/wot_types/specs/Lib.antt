@@ -16,6 +16,7 @@ pub mod WellFormed
 pub mod Accepted
 pub mod Keyring
 pub mod State
+pub mod StateCode
 pub mod Totals
 pub mod Limits
 pub mod Expiry
@@ -30,8 +31,10 @@ pub mod NextCheck
 pub mod Quiet
 pub mod Explanation
 pub mod CutState
+pub mod Sample
 pub mod Printing
 pub mod WhyText
+pub mod Tally
 pub mod Spelling
 pub mod Payload
 pub mod Grammar

@@ -6,6 +6,16 @@ use Rattle.wot_types.specs.declared.limit.Limit.TheVariants.{Keys, Users, Certs,
 use Rattle.wot_types.specs.declared.totals.Totals.{Totals}
 use Rattle.wot_types.specs.Ownertrust.{OwnertrustMap}
 
+-- the most user IDs and certifications of a key, and the most bytes of a trust signature's regular expression
+abbrev pub most_users : ℕ
+most_users = 1024
+
+abbrev pub most_certs : ℕ
+most_certs = 4194304
+
+abbrev pub longest_scope : ℕ
+longest_scope = 255
+
 -- the most keys, user IDs and certifications of a keyring, and the most bytes of its texts
 abbrev pub most_keys : ℕ
 most_keys = 262144
@@ -22,6 +32,10 @@ most_text = 268435456
 -- the most ownertrust entries
 abbrev pub most_trusts : ℕ
 most_trusts = 262144
+
+-- the most keys of a sample
+abbrev pub most_sample : ℕ
+most_sample = 100000
 
 -- the most bytes of a record's payload
 abbrev pub most_record : ℕ

@@ -1,5 +1,5 @@
 -- A checked colon listing: its keys, or its first fault (doc/DETAILS; which records count for validity is this project's own).
-use Rattle.std.specs.Prelude.{◌≡◌, ℕ, Bool, true, false, ◌==◌, nat_eq, not, ◌+◌, ◌-◌, ◌^◌, ◌&&◌, nat_le, nat_lt, min, List, [], ◌∷◌, ◌++◌, length, filter, map, find, fold, sum_by, count_by, if◌then◌else◌, Option, Some, None, is_some, is_none, option_map}
+use Rattle.std.specs.Prelude.{◌≡◌, ℕ, Bool, true, false, ◌==◌, nat_eq, not, ◌+◌, ◌-◌, ◌&&◌, nat_le, nat_lt, List, [], ◌∷◌, ◌++◌, length, filter, map, find, fold, sum_by, count_by, if◌then◌else◌, Option, Some, None, is_some, is_none, option_map}
 use Rattle.std.specs.List.{list_any}
 use Rattle.std.specs.Option.{option_or, option_map_or}
 use Rattle.std.specs.Cmp.Lexicographic.{pointwise}
@@ -18,7 +18,8 @@ use Rattle.wot_types.specs.declared.record.RecordKind.TheVariants.{Primary, Fing
 use Rattle.wot_types.specs.Dates.{date_or_0}
 use Rattle.wot_types.specs.Fields.{field, has_fewer}
 use Rattle.wot_types.specs.Fingerprint.{fingerprint, key_id_of}
-use Rattle.wot_types.specs.Numbers.{depth_and_amount, number_or_0}
+use Rattle.wot_types.specs.Limits.{longest_scope, most_certs, most_users}
+use Rattle.wot_types.specs.Numbers.{capped, depth_and_amount, number_or_0}
 use Rattle.wot_types.specs.Quotes.{unquoted}
 use Rattle.wot_types.specs.Records as record_of
 use Rattle.wot_types.specs.Records.{kind_of, is_primary, is_fingerprint_record, is_user_id, is_signature, is_subkey, key_id, key_id_at, class_of, class_at, is_kept_class, is_good, is_revoked_at, cert_of, number_at, date_at, text_at, fingerprint_at, hash_at, capabilities_at}
@@ -180,16 +181,6 @@ is_same_user u v = same_kind u.kind v.kind && pointwise nat_eq u.text v.text && 
 abbrev pub is_repeated_user : Run Line → Line → Bool
 is_repeated_user block line = list_any (λ user. is_same_user (user_of block user) (user_of block (alone line))) (user_runs block)
 
--- a key has at most so many user IDs and certifications, and a regular expression so many bytes
-abbrev pub most_users : ℕ
-most_users = 1024
-
-abbrev pub most_certs : ℕ
-most_certs = 4194304
-
-abbrev pub longest_scope : ℕ
-longest_scope = 255
-
 -- what is read of a certification, once its class and its issuer are known to count
 abbrev pub cert_checks : Line → List Check
 cert_checks line =
@@ -229,10 +220,6 @@ checks_of _ before line = []
 -- the first check of a line that fails
 abbrev pub failing : List Line → Line → Option ListingWhat
 failing before line = first_failing (checks_of (kind_of line) before line)
-
--- line numbers and counts above 2^64 - 1 are given as 2^64 - 1
-abbrev pub capped : ℕ → ℕ
-capped n = min n (2 ^ 64 - 1)
 
 abbrev pub fault_at : ℕ → ListingWhat → ListingFault
 fault_at line what = record { line = capped line; what = what }

@@ -1,5 +1,5 @@
--- Numbers of a listing: decimal digits, of any count, with a greatest value.
-use Rattle.std.specs.Prelude.{ℕ, Bool, ◌==◌, ◌+◌, ◌-◌, ◌*◌, ◌^◌, ◌&&◌, nat_le, List, [], ◌∷◌, fold, length, if◌then◌else◌, Option, Some, None}
+-- Numbers of a listing: decimal digits, of any count, with a greatest value; and counts, which stand still at theirs.
+use Rattle.std.specs.Prelude.{ℕ, Bool, ◌==◌, ◌+◌, ◌-◌, ◌*◌, ◌^◌, ◌&&◌, min, nat_le, List, [], ◌∷◌, fold, length, if◌then◌else◌, Option, Some, None}
 use Rattle.std.specs.List.{list_all, slice_split}
 use Rattle.wot_types.specs.Lines.{is_space}
 
@@ -17,6 +17,10 @@ number_up_to greatest f =
 
 abbrev pub number : List ℕ → Option ℕ
 number f = number_up_to (2 ^ 32 - 1) f
+
+-- a count above 2^64 - 1 is given as 2^64 - 1
+abbrev pub capped : ℕ → ℕ
+capped n = min n (2 ^ 64 - 1)
 
 -- an empty field is 0
 abbrev pub number_or_0 : List ℕ → Option ℕ

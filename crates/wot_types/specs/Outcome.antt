@@ -1,26 +1,26 @@
 -- One command of a run: its reply, whether that is a refusal, and what is done to the store before it is told.
-use Rattle.std.specs.Prelude.{ℕ, ◌≡◌, Bool, true, false, ◌+◌, ◌-◌, ◌^◌, ◌==◌, ◌||◌, nat_lt, List, [], ◌∷◌, ◌++◌, length, if◌then◌else◌, Option, Some, None, is_none, unwrap_or, option_map, Result, Ok, Err, codes}
+use Rattle.std.specs.Prelude.{ℕ, ◌≡◌, Bool, true, false, ◌+◌, ◌-◌, ◌^◌, ◌||◌, nat_lt, List, [], ◌∷◌, ◌++◌, length, if◌then◌else◌, Option, Some, None, is_none, unwrap_or, option_map, Result, Ok, Err, codes}
 use Rattle.std.specs.FinMap as finmap
 use Rattle.std.specs.Fmt.{decimal}
 use Rattle.std.specs.List.{list_any}
 use Rattle.std.specs.Option.{option_or, option_map_or}
 use Rattle.wot_types.specs.declared.edit.Edit.{Edit}
-use Rattle.wot_types.specs.declared.edit.Edit.TheVariants.{Import, Ownertrust, Set, Flag, Delete, Date, Options}
+use Rattle.wot_types.specs.declared.edit.Edit.TheVariants.{Import, Ownertrust, Set, Flag, Delete, Date, Options, Sample}
 use Rattle.wot_types.specs.declared.edit.Head.{Head}
 use Rattle.wot_types.specs.declared.edit.Head.TheVariants.{Edit as EditHead, Query as QueryHead, DeleteKey, Import as ImportHead, Ownertrust as OwnertrustHead}
 use Rattle.wot_types.specs.declared.edit.Query.{Query}
 use Rattle.wot_types.specs.declared.edit.Query.TheVariants.{List as ListAll, ListOne, Sigs, SigsOne, Export, Why, Quit}
 use Rattle.wot_types.specs.declared.fault.ListingFault.{ListingFault}
 use Rattle.wot_types.specs.declared.fault.OwnertrustFault.{OwnertrustFault}
-use Rattle.wot_types.specs.declared.key.Key.{Key}
 use Rattle.wot_types.specs.declared.limit.Limit.{Limit}
 use Rattle.wot_types.specs.declared.refusal.Refusal.{Refusal}
 use Rattle.wot_types.specs.declared.refusal.Refusal.TheVariants.{LineTooLong, UnendedBlock, Listing, Ownertrust as OwnertrustRefusal, NoSuchKey, NoSuchUser, Full, KeyIdTaken, JournalFull}
-use Rattle.wot_types.specs.declared.state.State.{State}
+use Rattle.wot_types.specs.State.{State}
 use Rattle.wot_types.specs.Commands.{Command, block_texts}
 use Rattle.wot_types.specs.Fingerprint.{key_id_of}
 use Rattle.wot_types.specs.Grammar.{command_of}
 use Rattle.wot_types.specs.Keyring.{has_fpr, taken_id, with_keys, without_key}
+use Rattle.wot_types.specs.Levels.{rows_of}
 use Rattle.wot_types.specs.Limits.{limit_passed, record_passed, trusts_passed}
 use Rattle.wot_types.specs.Listing.{fault_at_end, kept_of, listed_keys, passed_of}
 use Rattle.wot_types.specs.Ownertrust.{ownertrust_text, with_entries, with_flag, with_trust}
@@ -28,8 +28,10 @@ use Rattle.wot_types.specs.OwnertrustText.{listed_entries, ownertrust_fault}
 use Rattle.wot_types.specs.Payload.{payload}
 use Rattle.wot_types.specs.Printing.{list_text}
 use Rattle.wot_types.specs.Refusals.{refusal_text, reply_line}
+use Rattle.wot_types.specs.Sample.{sample_entries, sample_keys}
 use Rattle.wot_types.specs.Store.{Change, Store}
 use Rattle.wot_types.specs.Store.Change.{keeps, makes}
+use Rattle.wot_types.specs.Tally.{tally_line}
 use Rattle.wot_types.specs.Totals.{totals_of}
 use Rattle.wot_types.specs.WhyText.{why_text}
 
@@ -53,6 +55,13 @@ import_line keys kept passed = reply_line (codes "ok keys " ++ decimal keys ++ c
 abbrev pub entries_line : ℕ → List ℕ
 entries_line entries = reply_line (codes "ok entries " ++ decimal entries)
 
+-- after a sample: how many user IDs have which letter, and how many keys it has
+abbrev pub keys_line : ℕ → List ℕ
+keys_line keys = reply_line (codes "ok keys " ++ decimal keys)
+
+abbrev pub sample_reply : State → ℕ → List ℕ
+sample_reply s count = tally_line s (rows_of s) ++ keys_line count
+
 -- the state after an edit
 abbrev pub edited : State → Edit → State
 edited s (Import keys) = record s { keys = with_keys s.keys keys }
@@ -62,6 +71,7 @@ edited s (Flag fpr disabled) = record s { trusts = with_flag s.trusts fpr disabl
 edited s (Delete id) = record s { keys = without_key s.keys id }
 edited s (Date date) = record s { date = date }
 edited s (Options options) = record s { options = options }
+edited s (Sample seed count) = record s { keys = with_keys s.keys (sample_keys seed count); trusts = with_entries s.trusts (sample_entries seed count) }
 
 -- the first limit that the state after an edit passes: only more keys or more entries can pass one
 abbrev pub state_limit : State → Edit → Option Limit
@@ -69,6 +79,8 @@ state_limit s (Import keys) = limit_passed (totals_of (with_keys s.keys keys))
 state_limit s (Ownertrust entries) = trusts_passed (with_entries s.trusts entries)
 state_limit s (Set fpr trust) = trusts_passed (with_trust s.trusts fpr trust)
 state_limit s (Flag fpr disabled) = trusts_passed (with_flag s.trusts fpr disabled)
+state_limit s (Sample seed count) =
+    option_or (limit_passed (totals_of (with_keys s.keys (sample_keys seed count)))) (trusts_passed (with_entries s.trusts (sample_entries seed count)))
 state_limit s _ = None
 
 -- the key that an edit takes away isn't there
@@ -79,6 +91,7 @@ missing_key s _ = None
 -- the least key ID of an edit's keys that is taken by another fingerprint
 abbrev pub taken_key : State → Edit → Option ℕ
 taken_key s (Import keys) = taken_id s.keys keys
+taken_key s (Sample seed count) = taken_id s.keys (sample_keys seed count)
 taken_key s _ = None
 
 -- why an edit can't be made in a state: its key isn't there, a limit is passed by the state after it or by its record, a key ID is taken
@@ -116,6 +129,11 @@ edit_outcome text s edit = unless_refused (refusal_of s.state edit) text s edit
 pub record Accepts (s : Store) (edit : Edit) : Type 0 where
   pub fits : is_past s.end edit ≡ false
   pub allowed : refusal_of s.state edit ≡ None
+
+-- the reply to an edit that a command's words make
+abbrev pub edit_reply : State → Edit → List ℕ
+edit_reply s (Sample seed count) = sample_reply (edited s (Sample seed count)) count
+edit_reply s _ = ok_line
 
 -- the key of a fingerprint is taken away
 abbrev pub delete_outcome : Store → List ℕ → Outcome
@@ -172,7 +190,7 @@ if_ended command outcome = if command.ended then outcome else refuse UnendedBloc
 
 abbrev pub head_outcome : Store → Command → Result Head Refusal → Outcome
 head_outcome s command (Err refusal) = refuse refusal
-head_outcome s command (Ok (EditHead edit)) = edit_outcome ok_line s edit
+head_outcome s command (Ok (EditHead edit)) = edit_outcome (edit_reply s.state edit) s edit
 head_outcome s command (Ok (QueryHead query)) = query_outcome s query
 head_outcome s command (Ok (DeleteKey fpr)) = delete_outcome s fpr
 head_outcome s command (Ok ImportHead) = if_ended command (block_outcome ImportHead s (block_texts command.block))

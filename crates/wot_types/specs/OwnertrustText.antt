@@ -1,5 +1,5 @@
 -- An ownertrust text, as GnuPG exports it: the entries that its lines give, or its first fault.
-use Rattle.std.specs.Prelude.{ℕ, Bool, true, false, ◌==◌, ◌||◌, ◌+◌, ◌-◌, nat_lt, List, [], ◌∷◌, ◌++◌, fold, length, map, if◌then◌else◌, Option, Some, None, option_map, Result, Ok, Err}
+use Rattle.std.specs.Prelude.{ℕ, Bool, true, false, ◌==◌, ◌||◌, ◌+◌, ◌-◌, nat_lt, List, [], ◌∷◌, fold, map, if◌then◌else◌, Option, Some, None, option_map, Result, Ok, Err}
 use Rattle.std.specs.FinMap as finmap
 use Rattle.std.specs.Option.{option_or}
 use Rattle.wot_types.specs.declared.fault.OwnertrustFault.{OwnertrustFault}
@@ -10,9 +10,8 @@ use Rattle.wot_types.specs.declared.trust.Trust.{Trust}
 use Rattle.wot_types.specs.Fields.{fields}
 use Rattle.wot_types.specs.Fingerprint.{fingerprint}
 use Rattle.wot_types.specs.Lines.{is_blank, is_comment}
-use Rattle.wot_types.specs.Numbers.{number}
+use Rattle.wot_types.specs.Numbers.{number, capped}
 use Rattle.wot_types.specs.Ownertrust.{OwnertrustMap, kept_of}
-use Rattle.wot_types.specs.Totals.{capped}
 use Rattle.wot_types.specs.Trust.{trust_of_number}
 
 abbrev pub of_trust : Bool → Option Trust → Option Ownertrust

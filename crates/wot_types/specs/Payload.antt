@@ -1,23 +1,16 @@
 -- The payloads of the journal's records.
-use Rattle.std.specs.Prelude.{◌≡◌, ℕ, ◌<◌, ◌≤◌, ◌^◌, false, List, [], ◌∷◌, ◌++◌, map, All}
-use Rattle.std.specs.List.Sorted.{IsStrictlyIncreasing}
+use Rattle.std.specs.Prelude.{◌≡◌, ℕ, ◌<◌, ◌≤◌, ◌^◌, false, List, [], ◌∷◌, ◌++◌, All}
 use Rattle.std.specs.declared.cmp.Ordering.{Ordering}
 use Rattle.std.specs.declared.cmp.Ordering.TheVariants.{Less}
-use Rattle.wot_types.specs.declared.key.Key.{Key}
 use Rattle.wot_types.specs.declared.options.Options.{Options}
 use Rattle.wot_types.specs.declared.edit.Edit.{Edit}
-use Rattle.wot_types.specs.declared.edit.Edit.TheVariants.{Import, Ownertrust, Set, Flag, Delete, Date, Options as SetOptions}
+use Rattle.wot_types.specs.declared.edit.Edit.TheVariants.{Import, Ownertrust, Set, Flag, Delete, Date, Options as SetOptions, Sample}
 use Rattle.wot_types.specs.declared.ownertrust.Entry.{Entry}
 use Rattle.wot_types.specs.Fingerprint.{IsFprLength, fpr_cmp}
-use Rattle.wot_types.specs.Keyring.{id_of}
+use Rattle.wot_types.specs.Accepted.{AreImportable}
+use Rattle.wot_types.specs.Limits.{most_sample}
 use Rattle.wot_types.specs.Ownertrust.{is_unset, kept_of}
 use Rattle.wot_types.specs.Spelling.{number_1, number_4, number_8, flag_bytes, entry_bytes, EntryFits, fpr_bytes, trust_bytes, list_bytes, key_bytes, options_bytes, KeyFits, ListFits, OptionsFit}
-use Rattle.wot_types.specs.WellFormed.{IsWellFormed}
-
--- keys to import: well formed, and their key IDs strictly rise
-pub record AreImportable (keys : List Key) : Type 0 where
-  pub each : All IsWellFormed keys
-  pub rising : IsStrictlyIncreasing (map id_of keys)
 
 -- each is below the next
 abbrev pub IsRisingBy : {A : Type 0} → (A → A → Ordering) → List A → Type 0
@@ -47,12 +40,14 @@ EditFits (Flag fpr disabled) = IsFprLength fpr
 EditFits (Delete id) = id < 2 ^ 64
 EditFits (Date date) = date < 2 ^ 32
 EditFits (SetOptions o) = OptionsFit o
+EditFits (Sample seed count) = (seed < 2 ^ 64) × (count < 2 ^ 32)
 
--- what may be spelled: well formed keys in order, entries in order, options in their ranges
+-- what may be spelled: well formed keys in order, entries in order, options in their ranges, a sample of 1 to 100,000 keys
 abbrev pub IsProper : Edit → Type 0
 IsProper (Import keys) = AreImportable keys
 IsProper (Ownertrust entries) = AreSettable entries
 IsProper (SetOptions o) = IsInRange o
+IsProper (Sample seed count) = (1 ≤ count) × (count ≤ most_sample)
 IsProper _ = Unit {0}
 
 -- a tag, and what is edited
@@ -64,6 +59,7 @@ payload (Flag fpr disabled) = number_1 4 ++ (fpr_bytes fpr ++ flag_bytes disable
 payload (Delete id) = number_1 5 ++ number_8 id
 payload (Date date) = number_1 6 ++ number_4 date
 payload (SetOptions o) = number_1 7 ++ options_bytes o
+payload (Sample seed count) = number_1 8 ++ (number_8 seed ++ number_4 count)
 
 -- these bytes spell this edit
 pub record IsPayload (bytes : List ℕ) (edit : Edit) : Type 0 where

@@ -1,5 +1,5 @@
 -- Trust values, their numbers in an ownertrust export (GnuPG) and their letters in a listing (doc/DETAILS).
-use Rattle.std.specs.Prelude.{ℕ, ◌==◌, nat_eq, Bool, List, if◌then◌else◌, Option, Some, None, codes}
+use Rattle.std.specs.Prelude.{ℕ, ◌==◌, List, if◌then◌else◌, Option, Some, None, codes}
 use Rattle.wot_types.specs.declared.trust.Trust.{Trust}
 use Rattle.wot_types.specs.declared.trust.Trust.TheVariants.{Unknown, Undefined, Never, Marginal, Full, Ultimate}
 use Rattle.wot_types.specs.Bytes.{is_word}

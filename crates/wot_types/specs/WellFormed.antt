@@ -5,7 +5,8 @@ use Rattle.wot_types.specs.declared.cert.Cert.{Cert}
 use Rattle.wot_types.specs.declared.user.User.{User}
 use Rattle.wot_types.specs.declared.key.Key.{Key}
 use Rattle.wot_types.specs.Fingerprint.{IsFprLength, key_id_of}
-use Rattle.wot_types.specs.Listing.{is_same_user, longest_scope, most_certs, most_users}
+use Rattle.wot_types.specs.Listing.{is_same_user}
+use Rattle.wot_types.specs.Limits.{longest_scope, most_certs, most_users}
 use Rattle.wot_types.specs.Records.{is_capability, is_hash_byte, is_kept_class}
 
 -- no two agree in kind, text and hash

@@ -7,7 +7,7 @@ use Rattle.wot_types.specs.declared.count.Count.{Count}
 use Rattle.wot_types.specs.declared.letter.Letter.{Letter}
 use Rattle.wot_types.specs.declared.letter.Letter.TheVariants.{Dash}
 use Rattle.wot_types.specs.declared.row.Row.{Row}
-use Rattle.wot_types.specs.declared.state.State.{State}
+use Rattle.wot_types.specs.State.{State}
 use Rattle.wot_types.specs.Printing.{ended_field, key_id_text, letter_text, number_field}
 use Rattle.wot_types.specs.Letters.{letter_at}
 use Rattle.wot_types.specs.Trust.{trust_text}

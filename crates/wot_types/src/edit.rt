@@ -24,6 +24,8 @@ pub enum Edit {
     Date(u32),
     /// Sets all options of the trust model.
     Options(Options),
+    /// Adds the keys that are made from a number, so many of them, and sets their ownertrust.
+    Sample(u64, u32),
 }
 
 /// A command that only asks, or ends the session.

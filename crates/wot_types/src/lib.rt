@@ -11,7 +11,6 @@ pub mod fault; // the faults of a listing and of an ownertrust text
 pub mod fpr; // fingerprints
 pub mod key; // keys
 pub mod key_id; // key IDs
-pub mod keyring; // keys by key ID
 pub mod letter; // validity letters
 pub mod limit; // the limits of what is kept
 pub mod list; // lists that contracts see as lists
@@ -24,7 +23,6 @@ pub mod refusal; // why a command is refused
 pub mod row; // introducers
 pub mod rows; // introducers by key ID
 mod shared; // what threads may share
-pub mod state; // what commands change and queries answer from
 pub mod steps; // a count of the certifications that were read
 pub mod text; // bytes that are kept
 pub mod totals; // what the limits count
@@ -40,11 +38,10 @@ pub use fault::{ListingFault, ListingWhat, OwnertrustFault};
 pub use fpr::Fpr;
 pub use key::{Key, Keys};
 pub use key_id::KeyId;
-pub use keyring::Keyring;
 pub use letter::Letter;
 pub use limit::{
-    Limit, MOST_CERTS, MOST_KEYRING_USERS, MOST_KEYS, MOST_RECORD, MOST_TEXT, MOST_TRUSTS,
-    MOST_USERS,
+    Limit, MOST_CERTS, MOST_KEYRING_USERS, MOST_KEYS, MOST_RECORD, MOST_SAMPLE, MOST_TEXT,
+    MOST_TRUSTS, MOST_USERS,
 };
 pub use list::List;
 pub use mem::Mem;
@@ -55,7 +52,6 @@ pub use record::RecordKind;
 pub use refusal::Refusal;
 pub use row::Row;
 pub use rows::Rows;
-pub use state::State;
 pub use steps::Steps;
 pub use text::{Text, Words};
 pub use totals::Totals;

@@ -3,7 +3,7 @@ use Rattle.std.specs.Prelude.{if◌then◌else◌}
 use Rattle.std.proofs.lemmas.Result.{IfOk-weaker}
 use Rattle.wot_types.specs.declared.edit.Edit.TheVariants.{Delete}
 use Rattle.wot_types.specs.declared.refusal.Refusal.TheVariants.{NoSuchKey}
-use Rattle.wot_types.specs.declared.state.State.{State}
+use Rattle.wot_types.specs.State.{State}
 use Rattle.wot_types.specs.Fingerprint.{key_id_of}
 use Rattle.wot_types.specs.Keyring.{has_fpr}
 use Rattle.wot_types.specs.Outcome.{edit_outcome, ok_line, refuse}

@@ -1,6 +1,6 @@
 use Rattle.std.proofs.Common.{◌≡◌, ◌++◌, false, sym, ap, subst, ◌∙◌}
 use Rattle.std.proofs.lemmas.Result.{IfOk-weaker}
-use Rattle.wot_types.specs.declared.state.State.{State}
+use Rattle.wot_types.specs.State.{State}
 use Rattle.wot_types.specs.Outcome.{answer_to, ok_line, query_refusal, unless_unanswered}
 use Rattle.wot_types.specs.Store.Change.{keeps}
 use Rattle.wot_answer.specs.Answer.{Ends}

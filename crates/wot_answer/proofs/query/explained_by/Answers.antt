@@ -1,7 +1,7 @@
 use Rattle.std.proofs.Common.{◌≡◌, sym, ap, ◌∙◌}
 use Rattle.std.specs.Prelude.{unwrap_or}
 use Rattle.wot_types.specs.declared.letter.Letter.TheVariants.{Dash}
-use Rattle.wot_types.specs.declared.state.State.{State}
+use Rattle.wot_types.specs.State.{State}
 use Rattle.wot_types.specs.CutState.{cut}
 use Rattle.wot_types.specs.Explanation.{explanation}
 use Rattle.wot_types.specs.Letters.{letter_at}

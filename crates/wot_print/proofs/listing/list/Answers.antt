@@ -1,7 +1,7 @@
 use Rattle.std.proofs.Common.{All, subst}
 use Rattle.std.specs.FinMap as map
 use Rattle.wot_types.specs.Keyring.{cert_total}
-use Rattle.wot_types.specs.Totals.{capped}
+use Rattle.wot_types.specs.Numbers.{capped}
 use Rattle.wot_table.specs.Kept.{IsKept}
 use Rattle.wot_print.proofs.Pieces.{filed, reads_back}
 use Rattle.wot_print.proofs.listing.list.Goals as goal

@@ -1,5 +1,5 @@
 use Rattle.std.proofs.Common.{◌≡◌, sym, subst, ◌∙◌, arith}
-use Rattle.wot_types.specs.Totals.{capped}
+use Rattle.wot_types.specs.Numbers.{capped}
 use Rattle.wot_types.specs.declared.totals.Totals.{Totals}
 use Rattle.wot_table.specs.Weights.{IsSummed}
 use Rattle.wot_table.proofs.Summing.{len_seen, totals_equal}

@@ -4,7 +4,8 @@ use Rattle.std.specs.List.Sorted.{IsStrictlyIncreasing}
 use Rattle.std.specs.Option.{option_copied}
 use Rattle.std.proofs.lemmas.List.{take_all}
 use Rattle.wot_types.specs.Keyring.{id_of, with_keys}
-use Rattle.wot_types.specs.Totals.{capped, totals_of}
+use Rattle.wot_types.specs.Totals.{totals_of}
+use Rattle.wot_types.specs.Numbers.{capped}
 use Rattle.wot_types.specs.declared.totals.Totals.{Totals}
 use Rattle.wot_types.specs.WellFormed.{IsWellFormed}
 use Rattle.wot_table.specs.Weights.{HasRoom, Includes, IsSummed, minus, plus, weight_of, weight_or_none}
