@@ -219,7 +219,7 @@ good_values m h =
     let sorted = when_true (is_sorted nat_cmp es) (finmap.entries_sorted m) in
     let each = each_sound es sorted (λ q key found. h q key (finmap.get-entries m q ∙ found)) in
     record {
-      well_formed = All-map IsWellFormed (λ e. e.1) es (λ k d below. (each k d below).0);
+      each = All-map IsWellFormed (λ e. e.1) es (λ k d below. (each k d below).0);
       rising = subst IsStrictlyIncreasing (sym (ids_are es each)) (IsStrictlyIncreasing-from_sorted (map (λ e. e.0) es) (strictly es sorted));
     }
 

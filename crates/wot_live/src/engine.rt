@@ -38,13 +38,13 @@ pub struct Engine {
 
 impl Model for Engine {
     ghost use Rattle.wot_types.specs.State.{State};
-    ghost use Rattle.wot_types.specs.contracts.state.State as state_struct;
+    ghost use Rattle.wot_types.specs.StateCode.{state_code};
     ghost use Rattle.wot_levels.specs.Given.{state_of};
     ghost use Rattle.wot_live.specs.Follows.{Follows};
 
     ghost Value = { State };
 
-    ghost coded = { state_struct.the_row.coded };
+    ghost coded = { state_code };
 
     ghost view = { λ e. state_of e.table e.trusts e.date e.options };
 
