@@ -4,12 +4,12 @@ ghost use Rattle.std.specs.Prelude.{◌≡◌, ◌-◌, ◌<◌, ◌≤◌, slic
 ghost use Rattle.std.specs.Option.{option_copied};
 ghost use Rattle.wot_types.specs.Dates as dates;
 ghost use Rattle.wot_types.specs.Fingerprint.{fingerprint};
-ghost use Rattle.wot_types.specs.Grammar.{model, number_within};
+ghost use Rattle.wot_types.specs.Grammar.{model, number_within, seed};
 ghost use Rattle.wot_types.specs.Trust.{trust_of_letter};
 ghost use Rattle.wot_commands.specs.Arguments.{argument_at, none_at};
 
 use wot_fields::date::date;
-use wot_fields::number::number;
+use wot_fields::number::{long, number};
 use wot_types::{Fpr, Refusal, Text, Trust};
 
 /// A fingerprint.
@@ -41,6 +41,17 @@ pub fn date_at(arguments: &[Text], number: u32) -> Result<u32, Refusal>
 {
     match word_at(arguments, number) {
         Some(word) => date(word).map_err(|_| Refusal::BadArgument(number)),
+        None => Err(Refusal::BadArgument(number)),
+    }
+}
+
+/// The number that a sample is made from, up to 2^64 - 1.
+pub fn seed_at(arguments: &[Text], number: u32) -> Result<u64, Refusal>
+    requires { 0 < number }
+    ensures { result ≡ argument_at seed arguments.now number }
+{
+    match word_at(arguments, number) {
+        Some(word) => long(word).map_err(|_| Refusal::BadArgument(number)),
         None => Err(Refusal::BadArgument(number)),
     }
 }

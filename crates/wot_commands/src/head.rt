@@ -2,13 +2,15 @@
 
 ghost use Rattle.std.specs.Prelude.{◌≡◌, [], ◌∷◌, IfOk};
 ghost use Rattle.wot_types.specs.Fingerprint.{fingerprint};
-ghost use Rattle.wot_types.specs.Grammar.{command_of, completes, date_of, depth, flag_of, head_of, is_read, level, marginals, model, one_or_all, options_of, place, set_of, why_of, with_arguments};
+ghost use Rattle.wot_types.specs.Grammar.{command_of, completes, date_of, depth, flag_of, head_of, is_read, level, marginals, model, one_or_all, options_of, place, sample_count, sample_of, seed, set_of, why_of, with_arguments};
 ghost use Rattle.wot_types.specs.Dates as dates;
 ghost use Rattle.wot_types.specs.Trust.{trust_of_letter};
 ghost use Rattle.wot_commands.specs.Heads.{IsProperHead};
 
-use crate::arguments::{date_at, fingerprint_at, letter_at, model_at, none_at, number_at};
-use wot_types::{CommandName, Edit, Head, Options, Query, Refusal, Text, Words};
+use crate::arguments::{
+    date_at, fingerprint_at, letter_at, model_at, none_at, number_at, seed_at,
+};
+use wot_types::{CommandName, Edit, Head, MOST_SAMPLE, Options, Query, Refusal, Text, Words};
 
 /// The command that these words ask for, or the first reason to refuse them.
 pub fn read_head(words: &Words) -> Result<Head, Refusal>
@@ -38,6 +40,7 @@ fn read_arguments(name: CommandName, arguments: &[Text]) -> Result<Head, Refusal
         CommandName::Options => read_options(arguments),
         CommandName::Import => read_nothing(arguments, Head::Import),
         CommandName::Ownertrust => read_nothing(arguments, Head::Ownertrust),
+        CommandName::Sample => read_sample(arguments),
         CommandName::List => read_list(arguments),
         CommandName::Sigs => read_sigs(arguments),
         CommandName::Export => read_nothing(arguments, Head::Query(Query::Export)),
@@ -142,6 +145,17 @@ fn read_sigs(arguments: &[Text]) -> Result<Head, Refusal>
     let fpr = fingerprint_at(arguments, 1)?;
     none_at(arguments, 2)?;
     Ok(Head::Query(Query::SigsOne(fpr)))
+}
+
+/// `sample SEED COUNT`
+fn read_sample(arguments: &[Text]) -> Result<Head, Refusal>
+    ensures head { result ≡ with_arguments (is_read seed ∷ is_read sample_count ∷ []) arguments.now (sample_of arguments.now) }
+    ensures proper { IfOk result IsProperHead }
+{
+    let seed = seed_at(arguments, 1)?;
+    let count = number_at(arguments, 2, 1, MOST_SAMPLE)?;
+    none_at(arguments, 3)?;
+    Ok(Head::Edit(Edit::Sample(seed, count)))
 }
 
 /// `why FPR PLACE`

@@ -15,11 +15,11 @@ use Rattle.wot_types.specs.declared.options.Options.{Options}
 use Rattle.wot_types.specs.declared.count.Count.{Count}
 use Rattle.wot_types.specs.declared.placed.Placed.{Placed}
 use Rattle.wot_types.specs.declared.row.Row.{Row}
+use Rattle.wot_types.specs.declared.trust.Trust.{Trust}
 use Rattle.wot_types.specs.Candidates.{RowMap, candidacy, candidates, count_of, is_candidate, is_full}
 use Rattle.wot_types.specs.Levels.{allowed_depth, delegating, delegation, delegations_on, live_spots}
 use Rattle.wot_types.specs.Scope.{admits}
 use Rattle.wot_types.specs.Selection.{Spot, latest, spots_from, usable}
-use Rattle.wot_types.specs.Trust.{trust_number}
 use Rattle.wot_types.specs.Explanation.{KeySet, are_candidates}
 use Rattle.wot_types.specs.CutState.{cut_key}
 use Rattle.wot_explain_laws.proofs.MapLemmas.{count_fewer, count_only, entries_only, get_only}
@@ -70,7 +70,7 @@ weaker_full o c d u f m h = grind (arith, nat_tests)
 -- more candidates make a user ID no less full
 pub full_by_more : (keep : KeySet) (o : Options) (now : ℕ) (spot : Spot) (rows : RowMap) → is_full o (count_of o now spot (only keep rows)) ≡ true → is_full o (count_of o now spot rows) ≡ true
 full_by_more keep o now spot rows h =
-    let fewer = λ (test : ℕ → Bool). count_fewer (is_candidate test o now spot) keep rows in
+    let fewer = λ (test : Trust → Bool). count_fewer (is_candidate test o now spot) keep rows in
     weaker_full o (count_of o now spot (only keep rows)) (count_of o now spot rows) (fewer (λ n. n == 6)) (fewer (λ n. n == 5)) (fewer (λ n. n == 4)) h
 
 -- where the candidates are in the set, the part counts as the whole
@@ -91,9 +91,9 @@ count_by_set keep o now spot rows within =
         never : false ≡ true → ⊥
         never e = cc
 
-    each : (test : ℕ → Bool) → candidates test o now spot rows ≡ candidates test o now spot (only keep rows)
+    each : (test : Trust → Bool) → candidates test o now spot rows ≡ candidates test o now spot (only keep rows)
     each test = count_only (is_candidate test o now spot) keep rows (λ y row at passed.
-        within y (ap (λ r. is_some (option_and_then (candidacy o now spot y) r)) at ∙ second (test (trust_number row.trust)) _ passed))
+        within y (ap (λ r. is_some (option_and_then (candidacy o now spot y) r)) at ∙ second (test row.trust) _ passed))
 
 module _ (keep : KeySet) (kept_at : ℕ → Bool) (o : Options) (now : ℕ) (rows rows' : RowMap) (same : AgreeOn keep rows rows') where
   abbrev mv : Placed → Placed
@@ -120,7 +120,7 @@ module _ (keep : KeySet) (kept_at : ℕ → Bool) (o : Options) (now : ℕ) (row
   some_moved None = refl
   some_moved (Some p) = refl
 
-  candidates_cut : (test : ℕ → Bool) (spot : Spot) → SpotTells keep kept_at spot → candidates test o now (cs spot) rows' ≡ candidates test o now spot (only keep rows)
+  candidates_cut : (test : Trust → Bool) (spot : Spot) → SpotTells keep kept_at spot → candidates test o now (cs spot) rows' ≡ candidates test o now spot (only keep rows)
   candidates_cut test spot tells =
       count_only (is_candidate test o now (cs spot)) keep rows' (λ y row at passed. of_the_set y row passed)
       ∙ ap (λ m. count_by (is_candidate test o now (cs spot)) (finmap.entries m)) (only_same keep rows rows' same)
@@ -130,14 +130,14 @@ module _ (keep : KeySet) (kept_at : ℕ → Bool) (o : Options) (now : ℕ) (row
       of_the_set y row passed =
           elim (keep y) as (λ b. keep y ≡ b → b ≡ true) [
             | true ↦ λ _. refl
-            | false ↦ λ gone. absurd (none_passes (test (trust_number row.trust)) _ (ap is_some (candidacy_gone spot y row gone)) passed)
+            | false ↦ λ gone. absurd (none_passes (test row.trust) _ (ap is_some (candidacy_gone spot y row gone)) passed)
           ] refl
 
       tests : (es : List (ℕ × Row)) → AllByRecursion (λ (e : ℕ × Row). keep e.0 ≡ true) es
           → AllByRecursion (λ (e : ℕ × Row). is_candidate test o now (cs spot) e ≡ is_candidate test o now spot e) es
       tests [] h = tt
       tests (e ∷ es) h =
-          (ap (λ b. test (trust_number e.1.trust) && b) (ap is_some (candidacy_moved spot e.0 e.1 tells h.0) ∙ some_moved (candidacy o now spot e.0 e.1)), tests es h.1)
+          (ap (λ b. test e.1.trust && b) (ap is_some (candidacy_moved spot e.0 e.1 tells h.0) ∙ some_moved (candidacy o now spot e.0 e.1)), tests es h.1)
 
   -- a user ID of the cut key has the candidates that are in the set
   pub count_cut : (spot : Spot) → SpotTells keep kept_at spot → count_of o now (cs spot) rows' ≡ count_of o now spot (only keep rows)

@@ -15,6 +15,7 @@ use Rattle.wot_types.specs.declared.row.Row.{Row}
 use Rattle.wot_types.specs.declared.trust.Trust.TheVariants.{Ultimate}
 use Rattle.wot_types.specs.State.{State}
 use Rattle.wot_types.specs.declared.user.User.{User}
+use Rattle.wot_types.specs.declared.trust.Trust.{Trust}
 use Rattle.wot_types.specs.Candidates.{RowMap, candidacy, candidates, count_of, is_candidate, is_full}
 use Rattle.wot_types.specs.Expiry.{is_expired, key_is_live, user_is_live}
 use Rattle.wot_types.specs.Letters.{best_letter, has_level_0, key_letter, letter_at, letter_of_count, user_letter}
@@ -22,7 +23,7 @@ use Rattle.wot_types.specs.Levels.{delegating, delegation, delegations_on, first
 use Rattle.wot_types.specs.NextCheck.{key_expiries, next_check, soonest, sooner, user_expiries}
 use Rattle.wot_types.specs.Scope.{admits}
 use Rattle.wot_types.specs.Selection.{Spot, counts_for, deciding, in_force, latest, placed_from, spots_from, usable}
-use Rattle.wot_types.specs.Trust.{trust_number}
+use Rattle.wot_types.specs.Trust.{is_ultimate}
 use Rattle.wot_types.specs.Explanation.{spot_of}
 use Rattle.wot_explain_laws.proofs.LevelLemmas.{get_first, get_next}
 use Rattle.wot_explain_laws.proofs.CutPlaces.{All-filter, latest_has}
@@ -155,11 +156,11 @@ module _ (a b : ℕ) (later : a ≤ b) where
     same_candidacy : (spot : Spot) → SameSpot spot → (y : ℕ) (row : Row) → candidacy o a spot y row ≡ candidacy o b spot y row
     same_candidacy spot h y row = ap (λ r. cond (not o.pgp || admits row.scope spot.user.text) r None) (same_usable o.level y spot.certs h.certs)
 
-    each_test : (test : ℕ → Bool) (spot : Spot) → SameSpot spot → (es : List (ℕ × Row)) → AllByRecursion (λ e. is_candidate test o a spot e ≡ is_candidate test o b spot e) es
+    each_test : (test : Trust → Bool) (spot : Spot) → SameSpot spot → (es : List (ℕ × Row)) → AllByRecursion (λ e. is_candidate test o a spot e ≡ is_candidate test o b spot e) es
     each_test test spot h [] = tt
-    each_test test spot h (e ∷ es) = (ap (λ r. test (trust_number e.1.trust) && is_some r) (same_candidacy spot h e.0 e.1), each_test test spot h es)
+    each_test test spot h (e ∷ es) = (ap (λ r. test e.1.trust && is_some r) (same_candidacy spot h e.0 e.1), each_test test spot h es)
 
-    same_candidates : (test : ℕ → Bool) (spot : Spot) → SameSpot spot → candidates test o a spot rows ≡ candidates test o b spot rows
+    same_candidates : (test : Trust → Bool) (spot : Spot) → SameSpot spot → candidates test o a spot rows ≡ candidates test o b spot rows
     same_candidates test spot h = same_count (is_candidate test o a spot) (is_candidate test o b spot) (finmap.entries rows) (each_test test spot h (finmap.entries rows))
 
     same_counts : (spot : Spot) → SameSpot spot → count_of o a spot rows ≡ count_of o b spot rows
@@ -218,7 +219,7 @@ module _ (s : State) (b : ℕ) (later : s.date ≤ b) (quiet : IsBefore b (next_
 
   same_first : (q : ℕ) (key : Key) → SameKey s.date b later key → first_row at_date q key ≡ first_row s q key
   same_first q key h =
-      ap (λ t. cond (t && (trust_number (trust_of_owner s key) == 6)) (Some (record { key = q; level = 0; trust = Ultimate; left = 0; scope = None })) None) (sym (same_live s.date b later key h.own))
+      ap (λ t. cond (t && is_ultimate (trust_of_owner s key)) (Some (record { key = q; level = 0; trust = Ultimate; left = 0; scope = None })) None) (sym (same_live s.date b later key h.own))
 
   same_new : (rows : RowMap) (level q : ℕ) (key : Key) → SameKey s.date b later key → new_row at_date rows level q key ≡ new_row s rows level q key
   same_new rows level q key h =

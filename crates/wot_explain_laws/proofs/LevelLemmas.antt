@@ -12,7 +12,7 @@ use Rattle.wot_types.specs.Candidates.{RowMap}
 use Rattle.wot_types.specs.Expiry.{key_is_live}
 use Rattle.wot_types.specs.Letters.{has_level_0}
 use Rattle.wot_types.specs.Levels.{delegation, first_row, has_full_user, kept_or, new_row, row_by, rows_of, rows_upto, trust_of_owner}
-use Rattle.wot_types.specs.Trust.{trust_number}
+use Rattle.wot_types.specs.Trust.{is_ultimate}
 use Rattle.wot_explain_laws.proofs.MapLemmas.{get-map_by}
 
 pub get_first : (s : State) (q : ℕ) → finmap.get (rows_upto s zero) q ≡ option_and_then (first_row s q) (finmap.get s.keys q)
@@ -76,7 +76,7 @@ unfolding level_0_row
 up_to s zero q =
     subst (IsUpTo zero) (sym (get_first s q)) (elim (finmap.get s.keys q) as (λ o. IsUpTo zero (option_and_then (first_row s q) o)) [
       | None ↦ tt
-      | Some key ↦ elim (key_is_live s.date key && (trust_number (trust_of_owner s key) == 6)) as (λ b. IsUpTo zero (cond b (Some (level_0_row q)) None)) [ true ↦ omega arith | false ↦ tt ]
+      | Some key ↦ elim (key_is_live s.date key && is_ultimate (trust_of_owner s key)) as (λ b. IsUpTo zero (cond b (Some (level_0_row q)) None)) [ true ↦ omega arith | false ↦ tt ]
     ])
 up_to s (suc n) q =
     subst (IsUpTo (suc n)) (sym (get_next s n q)) (elim (finmap.get s.keys q) as (λ o. IsUpTo (suc n) (option_and_then (λ key. kept_or (finmap.get (rows_upto s n) q) (new_row s (rows_upto s n) (suc n) q key)) o)) [

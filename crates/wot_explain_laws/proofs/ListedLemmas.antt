@@ -18,7 +18,7 @@ use Rattle.wot_types.specs.Candidates.{RowMap, candidacy, candidates, count_of, 
 use Rattle.wot_types.specs.Expiry.{key_is_live}
 use Rattle.wot_types.specs.Levels.{delegation, first_row, has_full_user, kept_or, map_by, new_row, row_by, rows_of, rows_upto, trust_of_owner}
 use Rattle.wot_types.specs.Selection.{Spot}
-use Rattle.wot_types.specs.Trust.{trust_number}
+use Rattle.wot_types.specs.Trust.{is_ultimate}
 use Rattle.wot_types.specs.Explanation.{KeySet, are_candidates, candidate_rows, explained_rows, from_some, level_rests_on, named_by, new_row_rests_on, rests_on, row_rests_on, count_by_trust, with_support_times}
 use Rattle.wot_explain_laws.proofs.MapLemmas.{IsAt, any_key, count_only, entries_at, get-map_by, get_only}
 use Rattle.wot_explain_laws.proofs.LevelLemmas.{get_first, get_next, level_le, row_by_level, some_none, stays_one, stays_to_the_end}
@@ -43,7 +43,7 @@ names : (s : State) (n q : ℕ) → Names q (finmap.get (rows_upto s n) q)
 names s zero q =
     subst (Names q) (sym (get_first s q)) (elim (finmap.get s.keys q) as (λ o. Names q (option_and_then (first_row s q) o)) [
       | None ↦ tt
-      | Some key ↦ if_names (key_is_live s.date key && (trust_number (trust_of_owner s key) == 6)) q _ refl
+      | Some key ↦ if_names (key_is_live s.date key && is_ultimate (trust_of_owner s key)) q _ refl
     ])
 names s (suc n) q =
     let rows = rows_upto s n in
@@ -214,24 +214,24 @@ counted o now rows spot =
     and_true true b h = h
     and_true false b h = refl
 
-    tests : (test : ℕ → Bool) (es : List (ℕ × Row)) → AllByRecursion (IsAt (candidate_rows o now rows spot)) es
-        → AllByRecursion (λ (e : ℕ × Row). is_candidate test o now spot e ≡ test (trust_number e.1.trust)) es
+    tests : (test : Trust → Bool) (es : List (ℕ × Row)) → AllByRecursion (IsAt (candidate_rows o now rows spot)) es
+        → AllByRecursion (λ (e : ℕ × Row). is_candidate test o now spot e ≡ test e.1.trust) es
     tests test [] h = tt
     tests test (e ∷ es) h =
         let is = part (are_candidates o now rows spot e.0) (finmap.get rows e.0) e.1 (sym (get_only rows (are_candidates o now rows spot) e.0) ∙ h.0) in
-        (and_true (test (trust_number e.1.trust)) _ (sym (candidate e.0 e.1 is.0) ∙ is.1), tests test es h.1)
+        (and_true (test e.1.trust) _ (sym (candidate e.0 e.1 is.0) ∙ is.1), tests test es h.1)
 
-    over_values : (test : ℕ → Bool) (es : List (ℕ × Row)) → count_by (λ (e : ℕ × Row). test (trust_number e.1.trust)) es ≡ count_by (λ (row : Row). test (trust_number row.trust)) (map (λ (e : ℕ × Row). e.1) es)
+    over_values : (test : Trust → Bool) (es : List (ℕ × Row)) → count_by (λ (e : ℕ × Row). test e.1.trust) es ≡ count_by (λ (row : Row). test row.trust) (map (λ (e : ℕ × Row). e.1) es)
     over_values test [] = refl
     over_values test (e ∷ es) =
-        sum_by-cons (λ (x : ℕ × Row). cond (test (trust_number x.1.trust)) 1 0) e es
-        ∙ ap (λ n. cond (test (trust_number e.1.trust)) 1 0 + n) (over_values test es)
-        ∙ sym (sum_by-cons (λ (row : Row). cond (test (trust_number row.trust)) 1 0) e.1 (map (λ (x : ℕ × Row). x.1) es))
+        sum_by-cons (λ (x : ℕ × Row). cond (test x.1.trust) 1 0) e es
+        ∙ ap (λ n. cond (test e.1.trust) 1 0 + n) (over_values test es)
+        ∙ sym (sum_by-cons (λ (row : Row). cond (test row.trust) 1 0) e.1 (map (λ (x : ℕ × Row). x.1) es))
 
-    each : (test : ℕ → Bool) → candidates test o now spot rows ≡ count_by (λ (row : Row). test (trust_number row.trust)) (finmap.values (candidate_rows o now rows spot))
+    each : (test : Trust → Bool) → candidates test o now spot rows ≡ count_by (λ (row : Row). test row.trust) (finmap.values (candidate_rows o now rows spot))
     each test =
-        count_only (is_candidate test o now spot) (are_candidates o now rows spot) rows (λ y row at passed. candidate y row at ∙ second (test (trust_number row.trust)) _ passed)
-        ∙ same_count (is_candidate test o now spot) (λ (e : ℕ × Row). test (trust_number e.1.trust)) (finmap.entries (candidate_rows o now rows spot))
+        count_only (is_candidate test o now spot) (are_candidates o now rows spot) rows (λ y row at passed. candidate y row at ∙ second (test row.trust) _ passed)
+        ∙ same_count (is_candidate test o now spot) (λ (e : ℕ × Row). test e.1.trust) (finmap.entries (candidate_rows o now rows spot))
         (tests test (finmap.entries (candidate_rows o now rows spot)) (entries_at (candidate_rows o now rows spot)))
         ∙ over_values test (finmap.entries (candidate_rows o now rows spot))
 

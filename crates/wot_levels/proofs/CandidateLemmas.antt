@@ -14,11 +14,11 @@ use Rattle.wot_types.specs.declared.options.Options.{Options}
 use Rattle.wot_types.specs.declared.count.Count.{Count}
 use Rattle.wot_types.specs.declared.placed.Placed.{Placed}
 use Rattle.wot_types.specs.declared.row.Row.{Row}
+use Rattle.wot_types.specs.declared.trust.Trust.{Trust}
 use Rattle.wot_types.specs.Candidates.{RowMap, candidacy, count_of, is_candidate}
 use Rattle.wot_types.specs.Levels.{delegating, delegations_on}
 use Rattle.wot_types.specs.Scope.{admits}
 use Rattle.wot_types.specs.Selection.{Spot, counts_for, in_force, is_disregarded, is_earlier, later, latest, usable}
-use Rattle.wot_types.specs.Trust.{trust_number}
 use Rattle.wot_levels.specs.Candidates.{IsAtMost, bare, best_of, candidate_at, candidate_list, candidate_of, counted, delegates, has_trust, later_of, one_if, plus, tally}
 use Rattle.wot_select.specs.Run.{IsBy}
 use Rattle.wot_levels.specs.Runs.{IsBehind}
@@ -153,7 +153,7 @@ module _ (o : Options) (now : ℕ) (text : List ℕ) (rows : RowMap) where
 no_more : (n : ℕ) → n ≡ 0 + n
 no_more n = omega arith
 
-count_more : (test : ℕ → Bool) (found : Option (Row × Placed)) (fs : List (Row × Placed)) → count_by (has_trust test) (cons_option found fs) ≡ one_if test found + count_by (has_trust test) fs
+count_more : (test : Trust → Bool) (found : Option (Row × Placed)) (fs : List (Row × Placed)) → count_by (has_trust test) (cons_option found fs) ≡ one_if test found + count_by (has_trust test) fs
 count_more test None fs = no_more (count_by (has_trust test) fs)
 count_more test (Some f) fs = sum_by-cons (λ x. cond (has_trust test x) 1 0) f fs
 
@@ -174,7 +174,7 @@ tally_more c found fs =
       other = one (λ n. nat_lt n 4) c.other i;
     }
   where
-    one : (test : ℕ → Bool) (n : ℕ) → n + one_if test found + count_by (has_trust test) fs ≡ n + count_by (has_trust test) (cons_option found fs)
+    one : (test : Trust → Bool) (n : ℕ) → n + one_if test found + count_by (has_trust test) fs ≡ n + count_by (has_trust test) (cons_option found fs)
     one test n = let more = count_more test found fs in omega (arith, more)
 
 pub at_most_counted : (c : Count) (n : ℕ) (found : Option (Row × Placed)) → IsAtMost c n → IsAtMost (counted c found) (n + 1)
@@ -185,11 +185,11 @@ at_most_counted c n found h = record {
   other = one (λ t. nat_lt t 4) c.other h.other;
 }
   where
-    small : (test : ℕ → Bool) → (r : Option (Row × Placed)) → one_if test r ≤ 1
+    small : (test : Trust → Bool) → (r : Option (Row × Placed)) → one_if test r ≤ 1
     small test None = omega arith
     small test (Some f) = elim (has_trust test f) as (λ b. cond b 1 0 ≤ 1) [ true ↦ omega arith | false ↦ omega arith ]
 
-    one : (test : ℕ → Bool) (m : ℕ) → m ≤ n → m + one_if test found ≤ n + 1
+    one : (test : Trust → Bool) (m : ℕ) → m ≤ n → m + one_if test found ≤ n + 1
     one test m le = let s = small test found in omega (arith, le, s)
 
 pub at_most_more : (c : Count) (m n : ℕ) → m ≤ n → IsAtMost c m → IsAtMost c n
@@ -240,16 +240,16 @@ best_more b found fs = later_of-assoc b (option_and_then delegates found) (best_
 
 -- ---- the definitions over all introducers
 
-counts_alike : (test : ℕ → Bool) (o : Options) (now : ℕ) (spot : Spot) (es : List (ℕ × Row)) → count_by (has_trust test) (filter_map (candidate_at o now spot) es) ≡ count_by (is_candidate test o now spot) es
+counts_alike : (test : Trust → Bool) (o : Options) (now : ℕ) (spot : Spot) (es : List (ℕ × Row)) → count_by (has_trust test) (filter_map (candidate_at o now spot) es) ≡ count_by (is_candidate test o now spot) es
 counts_alike test o now spot [] = refl
 counts_alike test o now spot (e ∷ es) =
     count_more test (candidate_at o now spot e) (filter_map (candidate_at o now spot) es)
     ∙ (λ i. here (candidacy o now spot e.0 e.1) i + counts_alike test o now spot es i)
     ∙ sym (sum_by-cons (λ x. cond (is_candidate test o now spot x) 1 0) e es)
   where
-    here : (c : Option Placed) → one_if test (option_map (λ p. (e.1, p)) c) ≡ cond (test (trust_number e.1.trust) && is_some c) 1 0
-    here None = elim (test (trust_number e.1.trust)) as (λ b. ◌≡◌ {A = ℕ} 0 (cond (b && false) 1 0)) [ true ↦ refl | false ↦ refl ]
-    here (Some p) = elim (test (trust_number e.1.trust)) as (λ b. ◌≡◌ {A = ℕ} (cond b 1 0) (cond (b && true) 1 0)) [ true ↦ refl | false ↦ refl ]
+    here : (c : Option Placed) → one_if test (option_map (λ p. (e.1, p)) c) ≡ cond (test e.1.trust && is_some c) 1 0
+    here None = elim (test e.1.trust) as (λ b. ◌≡◌ {A = ℕ} 0 (cond (b && false) 1 0)) [ true ↦ refl | false ↦ refl ]
+    here (Some p) = elim (test e.1.trust) as (λ b. ◌≡◌ {A = ℕ} (cond b 1 0) (cond (b && true) 1 0)) [ true ↦ refl | false ↦ refl ]
 
 -- the count of a user ID is that of its candidates
 pub tally_is : (o : Options) (now : ℕ) (spot : Spot) (rows : RowMap) → tally (candidate_list o now spot rows) ≡ count_of o now spot rows

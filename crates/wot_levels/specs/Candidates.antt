@@ -6,11 +6,12 @@ use Rattle.wot_types.specs.declared.options.Options.{Options}
 use Rattle.wot_types.specs.declared.count.Count.{Count}
 use Rattle.wot_types.specs.declared.placed.Placed.{Placed}
 use Rattle.wot_types.specs.declared.row.Row.{Row}
+use Rattle.wot_types.specs.declared.trust.Trust.{Trust}
 use Rattle.wot_types.specs.declared.user.UserKind.TheVariants.{Uid}
 use Rattle.wot_types.specs.Candidates.{RowMap, candidacy}
 use Rattle.wot_types.specs.Levels.{delegating}
 use Rattle.wot_types.specs.Selection.{Spot, later, latest}
-use Rattle.wot_types.specs.Trust.{trust_number}
+use Rattle.wot_types.specs.Trust.{is_below_marginal, is_fully_trusted, is_marginal, is_ultimate}
 
 -- a user ID of which only the text and the certifications matter
 abbrev pub bare : List ℕ → List Placed → Spot
@@ -27,15 +28,15 @@ candidate_of o now spot rows issuer = option_and_then (λ row. candidate_at o no
 abbrev pub candidate_list : Options → ℕ → Spot → RowMap → List (Row × Placed)
 candidate_list o now spot rows = filter_map (candidate_at o now spot) (map.entries rows)
 
-abbrev pub has_trust : (ℕ → Bool) → Row × Placed → Bool
-has_trust test f = test (trust_number f.0.trust)
+abbrev pub has_trust : (Trust → Bool) → Row × Placed → Bool
+has_trust test f = test f.0.trust
 
 abbrev pub tally : List (Row × Placed) → Count
 tally fs = record {
-  ultimate = count_by (has_trust (λ n. n == 6)) fs;
-  full = count_by (has_trust (λ n. n == 5)) fs;
-  marginal = count_by (has_trust (λ n. n == 4)) fs;
-  other = count_by (has_trust (λ n. nat_lt n 4)) fs;
+  ultimate = count_by (has_trust is_ultimate) fs;
+  full = count_by (has_trust is_fully_trusted) fs;
+  marginal = count_by (has_trust is_marginal) fs;
+  other = count_by (has_trust is_below_marginal) fs;
 }
 
 abbrev pub delegates : Row × Placed → Option Placed
@@ -49,17 +50,17 @@ abbrev pub later_of : Option Placed → Option Placed → Option Placed
 later_of None q = q
 later_of (Some p) q = Some (later p q)
 
-abbrev pub one_if : (ℕ → Bool) → Option (Row × Placed) → ℕ
+abbrev pub one_if : (Trust → Bool) → Option (Row × Placed) → ℕ
 one_if test None = 0
 one_if test (Some f) = if has_trust test f then 1 else 0
 
 -- the count with one more candidate, if there is one
 abbrev pub counted : Count → Option (Row × Placed) → Count
 counted c found = record {
-  ultimate = c.ultimate + one_if (λ n. n == 6) found;
-  full = c.full + one_if (λ n. n == 5) found;
-  marginal = c.marginal + one_if (λ n. n == 4) found;
-  other = c.other + one_if (λ n. nat_lt n 4) found;
+  ultimate = c.ultimate + one_if is_ultimate found;
+  full = c.full + one_if is_fully_trusted found;
+  marginal = c.marginal + one_if is_marginal found;
+  other = c.other + one_if is_below_marginal found;
 }
 
 abbrev pub plus : Count → Count → Count

@@ -1,5 +1,5 @@
 -- Why a user ID is as valid as it is: the introducers on which its letter rests (this project's own).
-use Rattle.std.specs.Prelude.{ℕ, zero, suc, Bool, false, ◌==◌, not, ◌&&◌, ◌||◌, nat_lt, List, count_by, Option, Some, None, option_and_then, is_some, slice_get}
+use Rattle.std.specs.Prelude.{ℕ, zero, suc, Bool, false, ◌==◌, not, ◌&&◌, ◌||◌, List, count_by, Option, Some, None, option_and_then, is_some, slice_get}
 use Rattle.std.specs.FinMap as map
 use Rattle.std.specs.List.{find, list_any}
 use Rattle.wot_types.specs.declared.key.Key.{Key}
@@ -13,7 +13,7 @@ use Rattle.wot_types.specs.Expiry.{user_is_live}
 use Rattle.wot_types.specs.Letters.{has_level_0}
 use Rattle.wot_types.specs.Levels.{delegation, live_spots, rows_of, rows_upto}
 use Rattle.wot_types.specs.Selection.{Spot, spots_from}
-use Rattle.wot_types.specs.Trust.{trust_number}
+use Rattle.wot_types.specs.Trust.{is_below_marginal, is_fully_trusted, is_marginal, is_ultimate}
 
 -- a set of keys, by key ID
 abbrev pub KeySet : Type 0
@@ -94,8 +94,8 @@ candidate_rows o now rows spot = map.retain_keys rows (are_candidates o now rows
 -- how many rows have which trust: the count of candidates, from a list of their rows
 abbrev pub count_by_trust : List Row → Count
 count_by_trust rows = record {
-  ultimate = count_by (λ row. trust_number row.trust == 6) rows;
-  full = count_by (λ row. trust_number row.trust == 5) rows;
-  marginal = count_by (λ row. trust_number row.trust == 4) rows;
-  other = count_by (λ row. nat_lt (trust_number row.trust) 4) rows;
+  ultimate = count_by (λ row. is_ultimate row.trust) rows;
+  full = count_by (λ row. is_fully_trusted row.trust) rows;
+  marginal = count_by (λ row. is_marginal row.trust) rows;
+  other = count_by (λ row. is_below_marginal row.trust) rows;
 }

@@ -1,6 +1,6 @@
 -- Introducers, level by level: a key introduces only from the level after the one at which it became full.
 -- (GnuPG's pgp model; how levels, depth and delegation work together in this exact form is this project's own.)
-use Rattle.std.specs.Prelude.{ℕ, zero, suc, Bool, ◌==◌, ◌-◌, ◌&&◌, nat_le, nat_lt, min, List, filter, if◌then◌else◌, Option, Some, None, unwrap_or, option_map, option_and_then}
+use Rattle.std.specs.Prelude.{ℕ, zero, suc, Bool, ◌-◌, ◌&&◌, nat_le, nat_lt, min, List, filter, if◌then◌else◌, Option, Some, None, unwrap_or, option_map, option_and_then}
 use Rattle.std.specs.FinMap as map
 use Rattle.std.specs.List.{filter_map, flat_map, list_any}
 use Rattle.std.specs.Ordering.{nat_cmp}
@@ -15,7 +15,7 @@ use Rattle.wot_types.specs.Candidates.{RowMap, candidacy, count_of, is_full}
 use Rattle.wot_types.specs.Expiry.{key_is_live, user_is_live}
 use Rattle.wot_types.specs.Ownertrust.{ownertrust_of}
 use Rattle.wot_types.specs.Selection.{Spot, latest, spots_from}
-use Rattle.wot_types.specs.Trust.{trust_number}
+use Rattle.wot_types.specs.Trust.{trust_number, is_ultimate}
 
 abbrev pub trust_of_owner : State → Key → Trust
 trust_of_owner s key = (ownertrust_of s.trusts key.fpr).trust
@@ -29,7 +29,7 @@ has_full_user o now rows key = list_any (λ spot. is_full o (count_of o now spot
 
 -- an ultimate introducer allows the depth of its trust signature, another one no more than it has left
 abbrev pub allowed_depth : Row → Placed → ℕ
-allowed_depth row p = if trust_number row.trust == 6 then p.cert.depth else min p.cert.depth row.left
+allowed_depth row p = if is_ultimate row.trust then p.cert.depth else min p.cert.depth row.left
 
 abbrev pub delegating : Row → Placed → Option Placed
 delegating row p = if nat_le 1 (allowed_depth row p) then Some p else None
@@ -61,7 +61,7 @@ row_by rows id level own (Some p) = record { key = id; level = level; trust = gr
 -- at level 0 stand the live keys of ultimate ownertrust
 abbrev pub first_row : State → ℕ → Key → Option Row
 first_row s id key =
-    if key_is_live s.date key && (trust_number (trust_of_owner s key) == 6)
+    if key_is_live s.date key && is_ultimate (trust_of_owner s key)
     then Some (record { key = id; level = 0; trust = Ultimate; left = 0; scope = None }) else None
 
 -- a live key with a full user ID gets a row of the next level

@@ -1,5 +1,5 @@
 -- Ownertrust: what is kept of each fingerprint, and the lines of GnuPG's ownertrust export.
-use Rattle.std.specs.Prelude.{ℕ, Bool, false, ◌+◌, ◌==◌, ◌&&◌, not, List, [], ◌∷◌, ◌++◌, fold, if◌then◌else◌, unwrap_or}
+use Rattle.std.specs.Prelude.{ℕ, Bool, false, ◌+◌, ◌&&◌, not, List, [], ◌∷◌, ◌++◌, fold, if◌then◌else◌, unwrap_or}
 use Rattle.std.specs.List.{flat_map}
 use Rattle.std.specs.FinMap as map
 use Rattle.std.specs.Fmt.{decimal}
@@ -9,7 +9,8 @@ use Rattle.wot_types.specs.declared.ownertrust.Ownertrust.{Ownertrust}
 use Rattle.wot_types.specs.declared.trust.Trust.{Trust}
 use Rattle.wot_types.specs.declared.trust.Trust.TheVariants.{Unknown}
 use Rattle.wot_types.specs.Fingerprint.{fpr_cmp}
-use Rattle.wot_types.specs.Trust.{trust_number}
+use Rattle.wot_types.specs.Trust.{trust_number, is_unknown}
+use Rattle.wot_types.specs.Bytes.{colon, newline}
 
 -- what is kept, by fingerprint
 abbrev pub OwnertrustMap : Type 0
@@ -23,7 +24,7 @@ abbrev pub ownertrust_of : OwnertrustMap → List ℕ → Ownertrust
 ownertrust_of trusts fpr = unwrap_or (map.get trusts fpr) unset
 
 abbrev pub is_unset : Ownertrust → Bool
-is_unset kept = (trust_number kept.trust == 0) && not kept.disabled
+is_unset kept = is_unknown kept.trust && not kept.disabled
 
 -- an entry takes the place of the former one; one that is unknown and not disabled isn't kept
 abbrev pub with_ownertrust : OwnertrustMap → List ℕ → Ownertrust → OwnertrustMap
@@ -53,7 +54,7 @@ ownertrust_number kept = if kept.disabled then trust_number kept.trust + 128 els
 
 -- `FINGERPRINT:NUMBER:`, in upper case and decimal, and a newline
 abbrev pub ownertrust_line : List ℕ × Ownertrust → List ℕ
-ownertrust_line entry = encode_upper entry.0 ++ 58 ∷ decimal (ownertrust_number entry.1) ++ 58 ∷ 10 ∷ []
+ownertrust_line entry = encode_upper entry.0 ++ colon ∷ decimal (ownertrust_number entry.1) ++ colon ∷ newline ∷ []
 
 -- a line for each entry, in rising order of (length, bytes) of the fingerprint
 abbrev pub ownertrust_text : OwnertrustMap → List ℕ

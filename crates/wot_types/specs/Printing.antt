@@ -16,7 +16,7 @@ use Rattle.wot_types.specs.State.{State}
 use Rattle.wot_types.specs.declared.user.User.{User}
 use Rattle.wot_types.specs.declared.user.UserKind.{UserKind}
 use Rattle.wot_types.specs.declared.user.UserKind.TheVariants.{Uid, Uat}
-use Rattle.wot_types.specs.Bytes.{colon, newline, space}
+use Rattle.wot_types.specs.Bytes.{colon, newline, space, class_revocation}
 use Rattle.wot_types.specs.Candidates.{RowMap}
 use Rattle.wot_types.specs.Letters.{key_letter, user_letter}
 use Rattle.wot_types.specs.Levels.{rows_of}
@@ -91,7 +91,7 @@ user_line letter user =
 
 -- a revocation, of class 0x30, is a `rev` record, any other certification a `sig`
 abbrev pub cert_name : Cert → List ℕ
-cert_name cert = if cert.class == 48 then codes "rev" else codes "sig"
+cert_name cert = if cert.class == class_revocation then codes "rev" else codes "sig"
 
 -- the depth and the amount of a trust signature, and nothing where both are 0
 abbrev pub depth_text : Cert → List ℕ

@@ -7,7 +7,7 @@ use Rattle.wot_types.specs.declared.cert.Cert.{Cert}
 use Rattle.wot_types.specs.declared.user.UserKind.TheVariants.{Uid, Uat}
 use Rattle.wot_types.specs.declared.record.RecordKind.{RecordKind}
 use Rattle.wot_types.specs.declared.record.RecordKind.TheVariants.{Primary, Fingerprint, UserId, Signature, Subkey, Foreign, Other}
-use Rattle.wot_types.specs.Bytes.{is_word}
+use Rattle.wot_types.specs.Bytes.{is_word, class_generic, class_positive, class_revocation, exclamation_mark, lower_a, lower_l, lower_r, lower_z, upper_a, upper_d, upper_z}
 use Rattle.wot_types.specs.Dates.{date_or_0}
 use Rattle.wot_types.specs.Fields.{field}
 use Rattle.wot_types.specs.Fingerprint.{fingerprint}
@@ -89,13 +89,13 @@ class_of f = if nat_le 2 (length f) then option_map (λ bytes. slice_index bytes
 abbrev pub class_at : List ℕ → ℕ
 class_at line = unwrap_or (class_of (field 11 line)) 0
 
--- certifications have the classes 0x10 to 0x13, and their revocations 0x30
+-- certifications and their revocations
 abbrev pub is_kept_class : ℕ → Bool
-is_kept_class class = (nat_le 16 class && nat_le class 19) || (class == 48)
+is_kept_class class = (nat_le class_generic class && nat_le class class_positive) || (class == class_revocation)
 
 -- the third byte of the class says that it is not to be exported
 abbrev pub is_local_at : List ℕ → Bool
-is_local_at line = slice_index (field 11 line) 2 == 108
+is_local_at line = slice_index (field 11 line) 2 == lower_l
 
 -- field 2 of a signature that was checked and is good begins with `!`
 abbrev pub begins_with : ℕ → List ℕ → Bool
@@ -103,11 +103,11 @@ begins_with b [] = false
 begins_with b (c ∷ bytes) = c == b
 
 abbrev pub is_good : List ℕ → Bool
-is_good line = begins_with 33 (field 2 line)
+is_good line = begins_with exclamation_mark (field 2 line)
 
 -- `r` in field 2: revoked
 abbrev pub is_revoked_at : List ℕ → Bool
-is_revoked_at line = begins_with 114 (field 2 line)
+is_revoked_at line = begins_with lower_r (field 2 line)
 
 abbrev pub depth_at : List ℕ → ℕ
 depth_at line = (unwrap_or (depth_and_amount (field 8 line)) (0, 0)).0
@@ -120,11 +120,11 @@ abbrev pub scope_of : List ℕ → Option (List ℕ)
 scope_of text = if length text == 0 then None else Some text
 
 abbrev pub is_letter_byte : ℕ → Bool
-is_letter_byte b = (nat_le 65 b && nat_le b 90) || (nat_le 97 b && nat_le b 122)
+is_letter_byte b = (nat_le upper_a b && nat_le b upper_z) || (nat_le lower_a b && nat_le b lower_z)
 
 -- capabilities are letters; `D` is the disabled flag, which is not imported
 abbrev pub is_capability : ℕ → Bool
-is_capability b = is_letter_byte b && not (b == 68)
+is_capability b = is_letter_byte b && not (b == upper_d)
 
 abbrev pub capabilities_at : List ℕ → List ℕ
 capabilities_at line = filter is_capability (field 12 line)

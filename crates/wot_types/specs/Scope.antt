@@ -4,6 +4,7 @@ use Rattle.std.specs.Cmp.Lexicographic.{pointwise}
 use Rattle.std.specs.List.{list_any}
 use Rattle.wot_types.specs.Numbers.{is_digit}
 use Rattle.wot_types.specs.Records.{is_letter_byte}
+use Rattle.wot_types.specs.Bytes.{at_sign, backslash, dot, greater_than, hyphen, less_than, underscore, upper_a, upper_z}
 
 abbrev pub opening : List ℕ
 opening = codes "<[^>]+[@.]"
@@ -15,7 +16,7 @@ abbrev pub is_alphanumeric : ℕ → Bool
 is_alphanumeric b = is_letter_byte b || is_digit b
 
 abbrev pub is_plain : ℕ → Bool
-is_plain b = is_alphanumeric b || (b == 45) || (b == 95)
+is_plain b = is_alphanumeric b || (b == hyphen) || (b == underscore)
 
 abbrev pub before : ℕ → Option (List ℕ) → Option (List ℕ)
 before b domain = option_map (λ rest. b ∷ rest) domain
@@ -26,7 +27,7 @@ pieces [] = Some []
 pieces (c ∷ []) = if is_plain c then Some (c ∷ []) else None
 pieces (c ∷ d ∷ rest) =
     if is_plain c then before c (pieces (d ∷ rest)) else
-    if (c == 92) && not (is_alphanumeric d) then before d (pieces rest) else None
+    if (c == backslash) && not (is_alphanumeric d) then before d (pieces rest) else None
 
 abbrev pub middle : List ℕ → List ℕ
 middle scope = take (length scope - 12) (drop 10 scope)
@@ -39,7 +40,7 @@ abbrev pub domain_of : List ℕ → Option (List ℕ)
 domain_of scope = if has_domain_form scope then pieces (middle scope) else None
 
 abbrev pub lower : ℕ → ℕ
-lower b = if nat_le 65 b && nat_le b 90 then b + 32 else b
+lower b = if nat_le upper_a b && nat_le b upper_z then b + 32 else b
 
 abbrev pub is_same_up_to_case : List ℕ → List ℕ → Bool
 is_same_up_to_case xs ys = pointwise nat_eq (map lower xs) (map lower ys)
@@ -55,12 +56,12 @@ cuts xs = cuts_after [] xs
 -- the front of an address, not empty and without `>`; then `@` or `.`, the domain and `>`
 abbrev pub is_address : List ℕ → List ℕ × List ℕ → Bool
 is_address domain (front, []) = false
-is_address domain (front, c ∷ back) = not (length front == 0) && not (list_any (λ b. b == 62) front) && ((c == 64) || (c == 46)) && is_same_up_to_case back (domain ++ 62 ∷ [])
+is_address domain (front, c ∷ back) = not (length front == 0) && not (list_any (λ b. b == greater_than) front) && ((c == at_sign) || (c == dot)) && is_same_up_to_case back (domain ++ greater_than ∷ [])
 
 -- a text ends with an address in the domain
 abbrev pub is_mailbox : List ℕ → List ℕ × List ℕ → Bool
 is_mailbox domain (name, []) = false
-is_mailbox domain (name, c ∷ rest) = (c == 60) && list_any (is_address domain) (cuts rest)
+is_mailbox domain (name, c ∷ rest) = (c == less_than) && list_any (is_address domain) (cuts rest)
 
 abbrev pub admits_domain : Option (List ℕ) → List ℕ → Bool
 admits_domain None text = false

@@ -4,10 +4,11 @@ use Rattle.wot_types.specs.declared.cert.Cert.{Cert}
 use Rattle.wot_types.specs.declared.placed.Placed.{Placed}
 use Rattle.wot_types.specs.declared.user.User.{User}
 use Rattle.wot_types.specs.Expiry.{is_expired}
+use Rattle.wot_types.specs.Bytes.{class_generic, class_persona, class_positive, class_revocation}
 
 -- certifications of a level below the least one are disregarded; generic ones and revocations are not (GnuPG's min-cert-level)
 abbrev pub is_disregarded : ℕ → Cert → Bool
-is_disregarded level cert = nat_le 17 cert.class && nat_le cert.class 19 && nat_lt cert.class (16 + level)
+is_disregarded level cert = nat_le class_persona cert.class && nat_le cert.class class_positive && nat_lt cert.class (class_generic + level)
 
 -- by date, then by place in the block
 abbrev pub is_earlier : Placed → Placed → Bool
@@ -31,7 +32,7 @@ deciding level issuer certs = latest (filter (counts_for level issuer) certs)
 
 -- neither a revocation nor expired
 abbrev pub is_in_force : ℕ → Placed → Bool
-is_in_force now p = not (p.cert.class == 48) && not (is_expired p.cert.expires now)
+is_in_force now p = not (p.cert.class == class_revocation) && not (is_expired p.cert.expires now)
 
 abbrev pub in_force : ℕ → Placed → Option Placed
 in_force now p = if is_in_force now p then Some p else None
