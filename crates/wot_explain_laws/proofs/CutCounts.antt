@@ -24,6 +24,7 @@ use Rattle.wot_types.specs.Explanation.{KeySet, are_candidates}
 use Rattle.wot_types.specs.CutState.{cut_key}
 use Rattle.wot_explain_laws.proofs.MapLemmas.{count_fewer, count_only, entries_only, get_only}
 use Rattle.wot_explain_laws.proofs.CutPlaces.{All-filter, SpotTells, Tells, cut_certs, cut_spot, filter_passes, is_kept, latest_kept, live_spots_cut, moved, usable_by, usable_gone, usable_has, usable_moved}
+use Rattle.wot_types.specs.Trust.{is_below_marginal, is_fully_trusted, is_marginal, is_ultimate}
 
 -- the part of the rows that belongs to the set
 abbrev pub only : KeySet → RowMap → RowMap
@@ -71,17 +72,17 @@ weaker_full o c d u f m h = grind (arith, nat_tests)
 pub full_by_more : (keep : KeySet) (o : Options) (now : ℕ) (spot : Spot) (rows : RowMap) → is_full o (count_of o now spot (only keep rows)) ≡ true → is_full o (count_of o now spot rows) ≡ true
 full_by_more keep o now spot rows h =
     let fewer = λ (test : Trust → Bool). count_fewer (is_candidate test o now spot) keep rows in
-    weaker_full o (count_of o now spot (only keep rows)) (count_of o now spot rows) (fewer (λ n. n == 6)) (fewer (λ n. n == 5)) (fewer (λ n. n == 4)) h
+    weaker_full o (count_of o now spot (only keep rows)) (count_of o now spot rows) (fewer is_ultimate) (fewer is_fully_trusted) (fewer is_marginal) h
 
 -- where the candidates are in the set, the part counts as the whole
 pub count_by_set : (keep : KeySet) (o : Options) (now : ℕ) (spot : Spot) (rows : RowMap) → ((y : ℕ) → are_candidates o now rows spot y ≡ true → keep y ≡ true)
     → count_of o now spot rows ≡ count_of o now spot (only keep rows)
 count_by_set keep o now spot rows within =
     λ i. record {
-      ultimate = each (λ n. n == 6) i;
-      full = each (λ n. n == 5) i;
-      marginal = each (λ n. n == 4) i;
-      other = each (λ n. nat_lt n 4) i;
+      ultimate = each is_ultimate i;
+      full = each is_fully_trusted i;
+      marginal = each is_marginal i;
+      other = each is_below_marginal i;
     }
   where
     second : (a b : Bool) → (a && b) ≡ true → b ≡ true
@@ -143,10 +144,10 @@ module _ (keep : KeySet) (kept_at : ℕ → Bool) (o : Options) (now : ℕ) (row
   pub count_cut : (spot : Spot) → SpotTells keep kept_at spot → count_of o now (cs spot) rows' ≡ count_of o now spot (only keep rows)
   count_cut spot tells =
       λ i. record {
-        ultimate = candidates_cut (λ n. n == 6) spot tells i;
-        full = candidates_cut (λ n. n == 5) spot tells i;
-        marginal = candidates_cut (λ n. n == 4) spot tells i;
-        other = candidates_cut (λ n. nat_lt n 4) spot tells i;
+        ultimate = candidates_cut is_ultimate spot tells i;
+        full = candidates_cut is_fully_trusted spot tells i;
+        marginal = candidates_cut is_marginal spot tells i;
+        other = candidates_cut is_below_marginal spot tells i;
       }
 
   -- ---- delegations

@@ -23,7 +23,7 @@ use Rattle.wot_types.specs.Levels.{delegating, delegation, delegations_on, first
 use Rattle.wot_types.specs.NextCheck.{key_expiries, next_check, soonest, sooner, user_expiries}
 use Rattle.wot_types.specs.Scope.{admits}
 use Rattle.wot_types.specs.Selection.{Spot, counts_for, deciding, in_force, latest, placed_from, spots_from, usable}
-use Rattle.wot_types.specs.Trust.{is_ultimate}
+use Rattle.wot_types.specs.Trust.{is_ultimate, is_below_marginal, is_fully_trusted, is_marginal}
 use Rattle.wot_types.specs.Explanation.{spot_of}
 use Rattle.wot_explain_laws.proofs.LevelLemmas.{get_first, get_next}
 use Rattle.wot_explain_laws.proofs.CutPlaces.{All-filter, latest_has}
@@ -165,10 +165,10 @@ module _ (a b : ℕ) (later : a ≤ b) where
 
     same_counts : (spot : Spot) → SameSpot spot → count_of o a spot rows ≡ count_of o b spot rows
     same_counts spot h = λ i. record {
-      ultimate = same_candidates (λ n. n == 6) spot h i;
-      full = same_candidates (λ n. n == 5) spot h i;
-      marginal = same_candidates (λ n. n == 4) spot h i;
-      other = same_candidates (λ n. nat_lt n 4) spot h i;
+      ultimate = same_candidates is_ultimate spot h i;
+      full = same_candidates is_fully_trusted spot h i;
+      marginal = same_candidates is_marginal spot h i;
+      other = same_candidates is_below_marginal spot h i;
     }
 
     same_filter : (key : Key) → Same key.expires → (spots : List Spot) → AllByRecursion SameSpot spots

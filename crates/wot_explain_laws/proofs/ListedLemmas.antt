@@ -18,7 +18,7 @@ use Rattle.wot_types.specs.Candidates.{RowMap, candidacy, candidates, count_of, 
 use Rattle.wot_types.specs.Expiry.{key_is_live}
 use Rattle.wot_types.specs.Levels.{delegation, first_row, has_full_user, kept_or, map_by, new_row, row_by, rows_of, rows_upto, trust_of_owner}
 use Rattle.wot_types.specs.Selection.{Spot}
-use Rattle.wot_types.specs.Trust.{is_ultimate}
+use Rattle.wot_types.specs.Trust.{is_ultimate, is_below_marginal, is_fully_trusted, is_marginal}
 use Rattle.wot_types.specs.Explanation.{KeySet, are_candidates, candidate_rows, explained_rows, from_some, level_rests_on, named_by, new_row_rests_on, rests_on, row_rests_on, count_by_trust, with_support_times}
 use Rattle.wot_explain_laws.proofs.MapLemmas.{IsAt, any_key, count_only, entries_at, get-map_by, get_only}
 use Rattle.wot_explain_laws.proofs.LevelLemmas.{get_first, get_next, level_le, row_by_level, some_none, stays_one, stays_to_the_end}
@@ -193,10 +193,10 @@ rows_below s n low =
 pub counted : (o : Options) (now : ℕ) (rows : RowMap) (spot : Spot) → count_of o now spot rows ≡ count_by_trust (finmap.values (candidate_rows o now rows spot))
 counted o now rows spot =
     λ i. record {
-      ultimate = each (λ n. n == 6) i;
-      full = each (λ n. n == 5) i;
-      marginal = each (λ n. n == 4) i;
-      other = each (λ n. nat_lt n 4) i;
+      ultimate = each is_ultimate i;
+      full = each is_fully_trusted i;
+      marginal = each is_marginal i;
+      other = each is_below_marginal i;
     }
   where
     second : (a b : Bool) → (a && b) ≡ true → b ≡ true

@@ -23,6 +23,7 @@ use Rattle.wot_levels.specs.Candidates.{IsAtMost, bare, best_of, candidate_at, c
 use Rattle.wot_select.specs.Run.{IsBy}
 use Rattle.wot_levels.specs.Runs.{IsBehind}
 use Rattle.wot_levels.proofs.Walks.{absent, first_part, second_part}
+use Rattle.wot_types.specs.Trust.{is_below_marginal, is_fully_trusted, is_marginal, is_ultimate}
 
 -- ---- entries that a rule picks, cut at a key
 
@@ -168,10 +169,10 @@ some_first (x ∷ ps) p h = omega arith
 pub tally_more : (c : Count) (found : Option (Row × Placed)) (fs : List (Row × Placed)) → plus (counted c found) (tally fs) ≡ plus c (tally (cons_option found fs))
 tally_more c found fs =
     λ i. record {
-      ultimate = one (λ n. n == 6) c.ultimate i;
-      full = one (λ n. n == 5) c.full i;
-      marginal = one (λ n. n == 4) c.marginal i;
-      other = one (λ n. nat_lt n 4) c.other i;
+      ultimate = one is_ultimate c.ultimate i;
+      full = one is_fully_trusted c.full i;
+      marginal = one is_marginal c.marginal i;
+      other = one is_below_marginal c.other i;
     }
   where
     one : (test : Trust → Bool) (n : ℕ) → n + one_if test found + count_by (has_trust test) fs ≡ n + count_by (has_trust test) (cons_option found fs)
@@ -255,10 +256,10 @@ counts_alike test o now spot (e ∷ es) =
 pub tally_is : (o : Options) (now : ℕ) (spot : Spot) (rows : RowMap) → tally (candidate_list o now spot rows) ≡ count_of o now spot rows
 tally_is o now spot rows =
     λ i. record {
-      ultimate = counts_alike (λ n. n == 6) o now spot (finmap.entries rows) i;
-      full = counts_alike (λ n. n == 5) o now spot (finmap.entries rows) i;
-      marginal = counts_alike (λ n. n == 4) o now spot (finmap.entries rows) i;
-      other = counts_alike (λ n. nat_lt n 4) o now spot (finmap.entries rows) i;
+      ultimate = counts_alike is_ultimate o now spot (finmap.entries rows) i;
+      full = counts_alike is_fully_trusted o now spot (finmap.entries rows) i;
+      marginal = counts_alike is_marginal o now spot (finmap.entries rows) i;
+      other = counts_alike is_below_marginal o now spot (finmap.entries rows) i;
     }
 
 delegations_alike : (o : Options) (now : ℕ) (spot : Spot) (es : List (ℕ × Row))

@@ -14,7 +14,7 @@ use Rattle.wot_types.specs.Lines.{is_blank, is_comment}
 use Rattle.wot_types.specs.Numbers.{number}
 use Rattle.wot_types.specs.Ownertrust.{is_unset, kept_of}
 use Rattle.wot_types.specs.OwnertrustText.{entry_by, entry_of_fields, entry_of_line, entry_with, of_trust, ownertrust_of_number}
-use Rattle.wot_types.specs.Trust.{trust_number, trust_of_number}
+use Rattle.wot_types.specs.Trust.{is_unknown, trust_of_number}
 
 -- the field at a place from 0; a missing one is empty
 abbrev pub nth : List (List ℕ) → ℕ → List ℕ
@@ -67,7 +67,7 @@ not_unknown (suc (suc (suc (suc (suc zero))))) other e = cc
 not_unknown (suc (suc (suc (suc (suc (suc zero)))))) other e = cc
 not_unknown (suc (suc (suc (suc (suc (suc (suc n))))))) other e = (let none = above (suc (suc (suc (suc (suc (suc (suc n))))))) (omega arith) in cc)
 
-known : (n : ℕ) (t : Trust) → (n == 0) ≡ false → trust_of_number n ≡ Some t → (trust_number t == 0) ≡ false
+known : (n : ℕ) (t : Trust) → (n == 0) ≡ false → trust_of_number n ≡ Some t → is_unknown t ≡ false
 known n Unknown other e = absurd (not_unknown n other e)
 known n Undefined other e = refl
 known n Never other e = refl
@@ -90,7 +90,7 @@ number_sets n kept other e = go (nat_lt n 128) e
   where
     go : (b : Bool) → cond {A = Option Ownertrust} b (of_trust false (trust_of_number n)) (of_trust true (trust_of_number (n - 128))) ≡ Some kept → is_unset kept ≡ false
     go true e = let f = flagged false (trust_of_number n) kept e in rw (known n kept.trust other f.0) refl
-    go false e = let f = flagged true (trust_of_number (n - 128)) kept e in rw f.1 (and_false (trust_number kept.trust == 0))
+    go false e = let f = flagged true (trust_of_number (n - 128)) kept e in rw f.1 (and_false (is_unknown kept.trust))
 
 by_sets : (fpr : Option (List ℕ)) (n : Option ℕ) (e : Entry) → entry_by fpr n ≡ Ok (Some e) → is_unset (kept_of e) ≡ false
 by_sets None n e h = absurd cc
