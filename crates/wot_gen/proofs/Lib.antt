@@ -1,0 +1,4 @@
+pub mod Decimals
+pub mod KeyIds
+pub mod Ranges
+pub mod SoundKeys

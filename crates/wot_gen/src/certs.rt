@@ -1,0 +1,55 @@
+//! The certifications on generated keys.
+
+ghost use Rattle.std.specs.Prelude.{◌≡◌, ◌<◌, ℕ, IfOk};
+ghost use Rattle.wot_types.specs.Keyring.{key_certs};
+ghost use Rattle.wot_types.specs.Sample.{sample_cert, sample_certs, sample_key};
+
+use crate::draws::draw;
+use crate::names::key_id;
+use std::alloc::Global;
+use wot_types::{Cert, Certs, Mem};
+
+/// Certification `c` of key `i`. Its issuer is of the first third of the keys before it, and so never the key itself.
+fn cert(seed: u64, i: u32, c: u8) -> Cert
+    requires { c < 4 }
+    ensures { result ≡ sample_cert seed i c }
+{
+    let issuer = draw(seed, i, c) % u64::from(i / 3 + 1);
+    let made = draw(seed, i, 4 + c) % 100_000_000;
+    let (depth, amount) = if draw(seed, i, 8 + c) % 8 == 0 {
+        (2, 60)
+    } else {
+        (0, 0)
+    };
+    Cert {
+        issuer: key_id(seed, issuer as u32),
+        class: 0x10,
+        local: false,
+        made: 1_600_000_000 + made as u32,
+        expires: 0,
+        depth,
+        amount,
+        scope: None,
+    }
+}
+
+/// The certifications on key `i`, in the order of its block.
+pub fn certs(alloc: Global, seed: u64, i: u32) -> Result<Certs, Mem>
+    ensures { IfOk result (λ certs. certs ≡ sample_certs seed i) }
+{
+    let mut certs = Certs::new(alloc);
+    if i == 0 {
+        return Ok(certs);
+    }
+    for c in 0..4 {
+        certs.push(cert(seed, i, c))?;
+    }
+    Ok(certs)
+}
+
+/// How many certifications are on key `i`.
+pub fn cert_count(i: u32) -> u64
+    ensures { (seed : ℕ) → result ≡ key_certs (sample_key seed i) }
+{
+    if i == 0 { 0 } else { 4 }
+}
