@@ -7,20 +7,20 @@ use Rattle.std.proofs.lemmas.List.Elements.{All-weaker}
 use Rattle.wot_types.specs.declared.ownertrust.Entry.{Entry}
 use Rattle.wot_types.specs.declared.key.Key.{Key}
 use Rattle.wot_types.specs.declared.edit.Edit.{Edit}
-use Rattle.wot_types.specs.declared.edit.Edit.TheVariants.{Import, Set, Delete, Options as SetOptions, Ownertrust, Flag, Date}
+use Rattle.wot_types.specs.declared.edit.Edit.TheVariants.{Import, Set, Delete, Options as SetOptions, Ownertrust, Flag, Date, Sample}
 use Rattle.wot_types.specs.Fingerprint.{IsFprLength}
-use Rattle.wot_types.specs.Spelling.{number_1, entry_bytes, EntryFits, list_bytes, key_bytes, options_bytes, KeyFits, ListFits, OptionsFit}
+use Rattle.wot_types.specs.Spelling.{number_1, number_4, entry_bytes, EntryFits, list_bytes, key_bytes, options_bytes, KeyFits, ListFits, OptionsFit}
 use Rattle.wot_spelling.specs.Reading.{Read, made, number_1_at}
-use Rattle.wot_spelling.specs.Checks.{are_importable, are_settable, is_in_range}
-use Rattle.wot_types.specs.Limits.{most_record}
+use Rattle.wot_spelling.specs.Checks.{are_importable, are_settable, is_in_range, is_sample_count}
+use Rattle.wot_types.specs.Limits.{most_record, most_sample}
 use Rattle.wot_types.specs.Payload.{AreSettable, EditFits, IsInRange, IsPayload, IsProper, payload}
 use Rattle.wot_types.specs.Accepted.{AreImportable}
-use Rattle.wot_spelling.specs.Edits.{entries_at, flag_of, keys_at, range_at, set_of, edit_after, edit_at, edit_of}
+use Rattle.wot_spelling.specs.Edits.{entries_at, flag_of, keys_at, range_at, sample_count_at, sample_of, set_of, edit_after, edit_at, edit_of}
 use Rattle.wot_spelling.proofs.Parts.{IsBytes, Taken, IsPart, bind_some, some_is, both_part, part_of, flag_part, number_1_part, number_4_part, number_8_part}
 use Rattle.wot_spelling.proofs.ValueParts.{kept_part, list_part, fpr_part, trust_part, entry_part, key_part, options_part}
 use Rattle.wot_spelling.proofs.Lists.{few_parts}
 use Rattle.wot_spelling.proofs.Rooms.{entry_some, key_some}
-use Rattle.wot_spelling.proofs.CheckLaws.{importable_tells, in_range_tells, settable_tells}
+use Rattle.wot_spelling.proofs.CheckLaws.{importable_tells, in_range_tells, sample_count_tells, settable_tells}
 
 -- what a payload says of an edit
 abbrev pub HasPayload : Edit → Type 0
@@ -39,6 +39,10 @@ keys_part = part_of
 pub range_part : IsPart options_bytes (λ o. OptionsFit o × IsInRange o) range_at
 unfolding range_at
 range_part = part_of (λ o f. (f.0, (in_range_tells o).is f.1)) (λ o f. (f.0, (in_range_tells o).yes f.1)) (kept_part is_in_range options_part)
+
+pub sample_count_part : IsPart number_4 (λ count. (count < 2 ^ 32) × ((1 ≤ count) × (count ≤ most_sample))) sample_count_at
+unfolding sample_count_at
+sample_count_part = part_of (λ n f. (f.0, (sample_count_tells n).is f.1)) (λ n f. (f.0, (sample_count_tells n).yes f.1)) (kept_part is_sample_count number_4_part)
 
 pub entries_part : IsPart (list_bytes entry_bytes) (λ entries. ListFits EntryFits entries × AreSettable entries) entries_at
 unfolding entries_at
@@ -90,7 +94,10 @@ edit_part = record { takes = takes; again = again }
                     | inl f ↦ variant_takes number_4_part t.0.0 6 Date (λ x. refl) (λ x f. (f, tt)) bytes t.0.1 e rest one (eqb-true t.0.0 6 f.0) f.1
                     | inr f ↦ elim (chosen (t.0.0 == 7) _ _ _ f.1) [
                       | inl g ↦ variant_takes range_part t.0.0 7 SetOptions (λ x. refl) (λ x f. f) bytes t.0.1 e rest one (eqb-true t.0.0 7 g.0) g.1
-                      | inr g ↦ (let gone = g.1 in absurd cc)
+                      | inr g ↦ elim (chosen (t.0.0 == 8) _ _ _ g.1) [
+                        | inl j ↦ variant_takes (both_part number_8_part sample_count_part) t.0.0 8 sample_of (λ x. refl) (λ x f. ((f.0, f.1.0), f.1.1)) bytes t.0.1 e rest one (eqb-true t.0.0 8 j.0) j.1
+                        | inr j ↦ (let gone = j.1 in absurd cc)
+                      ]
                     ]
                   ]
                 ]
@@ -107,6 +114,7 @@ edit_part = record { takes = takes; again = again }
     again (Delete id) rest fits = variant_again number_8_part 5 Delete id rest refl fits.0 (λ bytes. refl)
     again (Date date) rest fits = variant_again number_4_part 6 Date date rest refl fits.0 (λ bytes. refl)
     again (SetOptions o) rest fits = variant_again range_part 7 SetOptions o rest refl fits (λ bytes. refl)
+    again (Sample seed count) rest fits = variant_again (both_part number_8_part sample_count_part) 8 sample_of (seed, count) rest refl (fits.0.0, (fits.0.1, fits.1)) (λ bytes. refl)
 
 pub found : (bytes : List ℕ) (e : Edit) → IsBytes bytes → edit_of bytes ≡ Some e → IsPayload bytes e
 unfolding edit_of

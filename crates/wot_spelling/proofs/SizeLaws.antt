@@ -12,7 +12,7 @@ use Rattle.wot_types.specs.declared.user.UserKind.TheVariants.{Uid, Uat}
 use Rattle.wot_types.specs.declared.ownertrust.Entry.{Entry}
 use Rattle.wot_types.specs.declared.key.Key.{Key}
 use Rattle.wot_types.specs.declared.edit.Edit.{Edit}
-use Rattle.wot_types.specs.declared.edit.Edit.TheVariants.{Import, Set, Delete, Options as SetOptions, Ownertrust, Flag, Date}
+use Rattle.wot_types.specs.declared.edit.Edit.TheVariants.{Import, Set, Delete, Options as SetOptions, Ownertrust, Flag, Date, Sample}
 use Rattle.wot_types.specs.Spelling.{entry_bytes, number_1, number_4, number_8, flag_bytes, text_bytes, scope_bytes, fpr_bytes, trust_bytes, kind_bytes, list_bytes, cert_bytes, user_bytes, key_bytes, options_bytes}
 use Rattle.wot_types.specs.Payload.{payload}
 use Rattle.wot_spelling.specs.Sizes.{entry_size, scope_size, cert_size, user_size, key_size, payload_size}
@@ -81,3 +81,4 @@ payload_is (Flag fpr disabled) = simp (length-append, one, flag_is) (omega arith
 payload_is (Delete id) = simp (length-append, one, eight) (omega arith)
 payload_is (Date date) = simp (length-append, one, four) (omega arith)
 payload_is (SetOptions o) = simp (length-append, one, four, flag_is) (omega arith)
+payload_is (Sample seed count) = simp (length-append, one, four, eight) (omega arith)

@@ -5,11 +5,11 @@ use Rattle.wot_types.specs.declared.options.Options.{Options}
 use Rattle.wot_types.specs.declared.trust.Trust.{Trust}
 use Rattle.wot_types.specs.declared.ownertrust.Entry.{Entry}
 use Rattle.wot_types.specs.declared.edit.Edit.{Edit}
-use Rattle.wot_types.specs.declared.edit.Edit.TheVariants.{Import, Ownertrust, Set, Flag, Delete, Date, Options as SetOptions}
+use Rattle.wot_types.specs.declared.edit.Edit.TheVariants.{Import, Ownertrust, Set, Flag, Delete, Date, Options as SetOptions, Sample}
 use Rattle.wot_spelling.specs.declared.stop.Stop.{Stop}
 use Rattle.wot_spelling.specs.declared.stop.Stop.TheVariants.{NoSpelling, Memory}
 use Rattle.wot_spelling.specs.Reading.{◌>>=◌, Read, ◌&◌, made, kept, number_1_at, number_4_at, number_8_at, flag_at, entry_at, fpr_at, trust_at, list_at, key_at, options_at}
-use Rattle.wot_spelling.specs.Checks.{are_importable, are_settable, is_in_range}
+use Rattle.wot_spelling.specs.Checks.{are_importable, are_settable, is_in_range, is_sample_count}
 
 -- keys that may be imported
 unfoldable pub keys_at : Read (List Key)
@@ -23,11 +23,18 @@ range_at = kept is_in_range options_at
 unfoldable pub entries_at : Read (List Entry)
 entries_at = kept are_settable (list_at entry_at)
 
+-- how many keys a sample has
+unfoldable pub sample_count_at : Read ℕ
+sample_count_at = kept is_sample_count number_4_at
+
 abbrev pub flag_of : List ℕ × Bool → Edit
 flag_of p = Flag p.0 p.1
 
 abbrev pub set_of : List ℕ × Trust → Edit
 set_of p = Set p.0 p.1
+
+abbrev pub sample_of : ℕ × ℕ → Edit
+sample_of p = Sample p.0 p.1
 
 -- what follows the tag
 abbrev pub edit_after : ℕ → Read Edit
@@ -38,7 +45,8 @@ edit_after tag bytes =
     if tag == 4 then made flag_of (fpr_at & flag_at) bytes else
     if tag == 5 then made Delete number_8_at bytes else
     if tag == 6 then made Date number_4_at bytes else
-    if tag == 7 then made SetOptions range_at bytes else None
+    if tag == 7 then made SetOptions range_at bytes else
+    if tag == 8 then made sample_of (number_8_at & sample_count_at) bytes else None
 
 -- a tag, and what is edited
 unfoldable pub edit_at : Read Edit

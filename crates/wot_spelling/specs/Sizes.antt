@@ -5,7 +5,7 @@ use Rattle.wot_types.specs.declared.user.User.{User}
 use Rattle.wot_types.specs.declared.ownertrust.Entry.{Entry}
 use Rattle.wot_types.specs.declared.key.Key.{Key}
 use Rattle.wot_types.specs.declared.edit.Edit.{Edit}
-use Rattle.wot_types.specs.declared.edit.Edit.TheVariants.{Import, Set, Delete, Options as SetOptions, Ownertrust, Flag, Date}
+use Rattle.wot_types.specs.declared.edit.Edit.TheVariants.{Import, Set, Delete, Options as SetOptions, Ownertrust, Flag, Date, Sample}
 
 unfoldable pub scope_size : Option (List ℕ) → ℕ
 scope_size None = 1
@@ -31,3 +31,4 @@ payload_size (Flag fpr disabled) = 3 + length fpr
 payload_size (Delete id) = 9
 payload_size (Date date) = 5
 payload_size (SetOptions o) = 12
+payload_size (Sample seed count) = 13

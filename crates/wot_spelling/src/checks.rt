@@ -5,9 +5,11 @@ ghost use Rattle.std.specs.List.{list_all, list_any};
 ghost use Rattle.wot_types.specs.Listing.{is_same_user};
 ghost use Rattle.wot_types.specs.Ownertrust.{is_unset, kept_of};
 ghost use Rattle.wot_types.specs.Records.{is_capability, is_hash_byte, is_kept_class};
-ghost use Rattle.wot_spelling.specs.Checks.{are_rising_entries, are_settable, are_distinct, are_importable, has_few_certs, has_scope, is_cert, is_in_range, is_marked_once, is_rising, is_user, is_well_formed};
+ghost use Rattle.wot_spelling.specs.Checks.{are_rising_entries, are_settable, are_distinct, are_importable, has_few_certs, has_scope, is_cert, is_in_range, is_marked_once, is_rising, is_sample_count, is_user, is_well_formed};
 
-use wot_types::{Cert, Entry, Key, KeyId, MOST_CERTS, MOST_USERS, Options, Text, Trust, User};
+use wot_types::{
+    Cert, Entry, Key, KeyId, MOST_CERTS, MOST_SAMPLE, MOST_USERS, Options, Text, Trust, User,
+};
 
 fn is_hash_byte(b: u8) -> bool
     ensures { result ≡ is_hash_byte b }
@@ -180,6 +182,13 @@ pub fn is_in_range(options: &Options) -> bool
         && options.marginals >= 2
         && options.depth >= 1
         && matches!(options.level, 1..=3)
+}
+
+#[tactic(auto, unfolding(crate::specs::Checks::is_sample_count))]
+pub fn is_sample_count(count: u32) -> bool
+    ensures { result ≡ is_sample_count count }
+{
+    (1..=MOST_SAMPLE).contains(&count)
 }
 
 fn is_set(entry: &Entry) -> bool

@@ -5,9 +5,9 @@ ghost use Rattle.wot_types.specs.declared.edit.Edit.{Edit};
 ghost use Rattle.wot_spelling.specs.Reading.{Gives};
 ghost use Rattle.wot_types.specs.Limits.{most_record};
 ghost use Rattle.wot_types.specs.Payload.{EditFits, IsPayload, IsProper, payload};
-ghost use Rattle.wot_spelling.specs.Edits.{GivesAll, edit_at, edit_of, entries_at, keys_at, range_at};
+ghost use Rattle.wot_spelling.specs.Edits.{GivesAll, edit_at, edit_of, entries_at, keys_at, range_at, sample_count_at};
 
-use crate::checks::{are_importable, are_settable, is_in_range};
+use crate::checks::{are_importable, are_settable, is_in_range, is_sample_count};
 use crate::reader::Reader;
 use crate::stop::Stop;
 use crate::writer::Writer;
@@ -54,6 +54,19 @@ impl<'a> Reader<'a> {
         }
     }
 
+    /// How many keys a sample has, within its range.
+    #[tactic(auto, unfolding(crate::specs::Edits::sample_count_at))]
+    fn sample_count(&mut self) -> Result<u32, Stop>
+        ensures { Gives (sample_count_at self.old) result self.new }
+    {
+        let count = self.number_4()?;
+        if is_sample_count(count) {
+            Ok(count)
+        } else {
+            Err(Stop::NoSpelling)
+        }
+    }
+
     #[tactic(auto, unfolding(crate::specs::Edits::edit_at))]
     fn edit(&mut self, alloc: Global) -> Result<Edit, Stop>
         ensures { Gives (edit_at self.old) result self.new }
@@ -74,6 +87,11 @@ impl<'a> Reader<'a> {
             5 => Ok(Edit::Delete(self.key_id()?)),
             6 => Ok(Edit::Date(self.number_4()?)),
             7 => Ok(Edit::Options(self.range()?)),
+            8 => {
+                let seed = self.number_8()?;
+                let count = self.sample_count()?;
+                Ok(Edit::Sample(seed, count))
+            }
             _ => Err(Stop::NoSpelling),
         }
     }
@@ -128,6 +146,11 @@ fn write_edit(writer: &mut Writer, edit: &Edit) -> Result<(), Mem>
         Edit::Options(options) => {
             writer.number_1(7)?;
             writer.options(options)?;
+        }
+        Edit::Sample(seed, count) => {
+            writer.number_1(8)?;
+            writer.number_8(*seed)?;
+            writer.number_4(*count)?;
         }
     }
     Ok(())

@@ -103,6 +103,7 @@ fn edit_size(edit: &Edit) -> u64
         Edit::Date(_) => 5,
         Edit::Delete(_) => 9,
         Edit::Options(_) => 12,
+        Edit::Sample(_, _) => 13,
     }
 }
 
