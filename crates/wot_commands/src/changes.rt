@@ -1,14 +1,13 @@
-//! The engine after an edit.
+//! The state after an edit.
 
-ghost use Rattle.std.specs.Prelude.{◌≡◌, ◌<◌, None, IfOk};
+ghost use Rattle.std.specs.Prelude.{◌≡◌, None, IfOk};
 ghost use Rattle.wot_types.specs.Outcome.{edited, refusal_of};
 ghost use Rattle.wot_types.specs.Ownertrust.{with_entry};
 ghost use Rattle.wot_types.specs.Payload.{IsProper};
 
 use crate::entries::ownertrust_of;
-use std::marker::Brand;
-use std::sync::ledger::{Blank, Ledger};
-use wot_live::Engine;
+use std::sync::ledger::Ledger;
+use wot_live::{Engine, Parts};
 use wot_types::{Edit, Entries, Entry, Keys, Mem, Steps};
 
 /// Makes an edit that isn't refused, whatever it reads on the way. At Memory the engine is gone.
@@ -17,18 +16,7 @@ pub fn change(engine: Engine, edit: Edit) -> Result<Engine, Mem>
     requires allowed { refusal_of engine edit ≡ None }
     ensures { IfOk result (λ new. new ≡ edited engine edit) }
 {
-    change_by::<Brand>(engine, edit, Blank::new(1))
-}
-
-/// The same by a counter of its own.
-fn change_by<L: Ledger>(engine: Engine, edit: Edit, blank: Blank) -> Result<Engine, Mem>
-    requires proper { IsProper edit }
-    requires allowed { refusal_of engine edit ≡ None }
-    requires own { (blank.name ≡ L.name) × (blank.parts ≡ L.parts) × (0 < L.parts) }
-    ensures { IfOk result (λ new. new ≡ edited engine edit) }
-{
-    let mut steps = Steps::<L>::open(blank);
-    apply(engine, edit, &mut steps)
+    edited_parts(engine.into_parts(), edit)?.counted()
 }
 
 /// Makes an edit that isn't refused; each certification that is read is a tick. At Memory the engine is gone.
@@ -37,46 +25,53 @@ pub fn apply<L: Ledger>(engine: Engine, edit: Edit, steps: &mut Steps<L>) -> Res
     requires allowed { refusal_of engine edit ≡ None }
     ensures { IfOk result (λ new. new ≡ edited engine edit) }
 {
-    let alloc = engine.table().alloc();
+    edited_parts(engine.into_parts(), edit)?.count(steps)
+}
+
+/// Makes an edit that isn't refused, and counts nothing. At Memory the parts are gone.
+pub fn edited_parts(parts: Parts, edit: Edit) -> Result<Parts, Mem>
+    requires proper { IsProper edit }
+    requires allowed { refusal_of parts edit ≡ None }
+    ensures { IfOk result (λ new. new ≡ edited parts edit) }
+{
+    let alloc = parts.table().alloc();
     match edit {
-        Edit::Import(keys) => engine.put(keys, Entries::new(alloc), steps),
-        Edit::Ownertrust(entries) => engine.put(Keys::new(alloc), entries, steps),
+        Edit::Import(keys) => parts.put(keys, Entries::new(alloc)),
+        Edit::Ownertrust(entries) => parts.put(Keys::new(alloc), entries),
         Edit::Set(fpr, trust) => {
-            let disabled = ownertrust_of(engine.trusts(), &fpr).disabled;
+            let disabled = ownertrust_of(parts.trusts(), &fpr).disabled;
             set_entry(
-                engine,
+                parts,
                 Entry {
                     fpr,
                     trust,
                     disabled,
                 },
-                steps,
             )
         }
         Edit::Flag(fpr, disabled) => {
-            let trust = ownertrust_of(engine.trusts(), &fpr).trust;
+            let trust = ownertrust_of(parts.trusts(), &fpr).trust;
             set_entry(
-                engine,
+                parts,
                 Entry {
                     fpr,
                     trust,
                     disabled,
                 },
-                steps,
             )
         }
-        Edit::Delete(id) => engine.remove(id, steps),
-        Edit::Date(date) => engine.set_date(date, steps),
-        Edit::Options(options) => engine.set_options(options, steps),
+        Edit::Delete(id) => parts.remove(id),
+        Edit::Date(date) => Ok(parts.set_date(date)),
+        Edit::Options(options) => Ok(parts.set_options(options)),
     }
 }
 
 /// Sets one entry.
-fn set_entry<L: Ledger>(engine: Engine, entry: Entry, steps: &mut Steps<L>) -> Result<Engine, Mem>
-    ensures { IfOk result (λ new. new ≡ record engine { trusts = with_entry engine.trusts entry }) }
+fn set_entry(parts: Parts, entry: Entry) -> Result<Parts, Mem>
+    ensures { IfOk result (λ new. new ≡ record parts { trusts = with_entry parts.trusts entry }) }
 {
-    let alloc = engine.table().alloc();
+    let alloc = parts.table().alloc();
     let mut entries = Entries::new(alloc);
     entries.push(entry)?;
-    engine.put(Keys::new(alloc), entries, steps)
+    parts.put(Keys::new(alloc), entries)
 }

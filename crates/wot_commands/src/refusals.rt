@@ -6,6 +6,7 @@ ghost use Rattle.wot_types.specs.Keyring.{is_taken, taken_id};
 ghost use Rattle.wot_types.specs.Limits.{limit_passed, record_passed};
 ghost use Rattle.wot_types.specs.Outcome.{missing_key, refusal_of, state_limit, taken_key};
 ghost use Rattle.wot_types.specs.Payload.{IsProper, payload};
+ghost use Rattle.wot_types.specs.declared.state.State.{State};
 ghost use Rattle.wot_commands.specs.Counted.{count_passed};
 
 use crate::entries::{count_with, count_with_all, ownertrust_of};
@@ -14,7 +15,7 @@ use wot_spelling::payload_length;
 use wot_table::Table;
 use wot_types::{
     Edit, Key, KeyId, Keys, Limit, MOST_CERTS, MOST_KEYRING_USERS, MOST_KEYS, MOST_RECORD,
-    MOST_TEXT, MOST_TRUSTS, Ownertrust, Refusal, Totals,
+    MOST_TEXT, MOST_TRUSTS, Ownertrust, Refusal, Totals, Trusts,
 };
 
 /// Why this edit can't be made: its key isn't there, a limit is passed by the state after it or by its record, a key ID is
@@ -23,42 +24,49 @@ pub fn refusal(engine: &Engine, edit: &Edit) -> Option<Refusal>
     requires proper { IsProper edit.now }
     ensures { result ≡ refusal_of engine.now edit.now }
 {
-    if let Some(refusal) = missing_key(engine, edit) {
-        return Some(refusal);
-    }
-    if let Some(limit) = limit_passed(engine, edit) {
-        return Some(Refusal::Full(limit));
-    }
-    taken_key(engine, edit).map(Refusal::KeyIdTaken)
+    refusal_over(engine.table(), engine.trusts(), edit)
 }
 
-fn missing_key(engine: &Engine, edit: &Edit) -> Option<Refusal>
-    ensures { result ≡ missing_key engine.now edit.now }
+/// The same in any state with this keyring and ownertrust: neither its date nor its options refuse an edit.
+pub fn refusal_over(table: &Table, trusts: &Trusts, edit: &Edit) -> Option<Refusal>
+    requires proper { IsProper edit.now }
+    ensures { (s : State) → s.keys ≡ table.now → s.trusts ≡ trusts.now → result ≡ refusal_of s edit.now }
+{
+    if let Some(refusal) = missing_key(table, edit) {
+        return Some(refusal);
+    }
+    if let Some(limit) = limit_passed(table, trusts, edit) {
+        return Some(Refusal::Full(limit));
+    }
+    taken_key(table, edit).map(Refusal::KeyIdTaken)
+}
+
+fn missing_key(table: &Table, edit: &Edit) -> Option<Refusal>
+    ensures { (s : State) → s.keys ≡ table.now → result ≡ missing_key s edit.now }
 {
     match edit {
-        Edit::Delete(id) if engine.table().key(*id).is_none() => Some(Refusal::NoSuchKey),
+        Edit::Delete(id) if table.key(*id).is_none() => Some(Refusal::NoSuchKey),
         _ => None,
     }
 }
 
 /// The limit that the state after it passes, or else its record.
-fn limit_passed(engine: &Engine, edit: &Edit) -> Option<Limit>
+fn limit_passed(table: &Table, trusts: &Trusts, edit: &Edit) -> Option<Limit>
     requires proper { IsProper edit.now }
-    ensures { result ≡ option_or (state_limit engine.now edit.now) (record_passed (payload edit.now)) }
+    ensures { (s : State) → s.keys ≡ table.now → s.trusts ≡ trusts.now → result ≡ option_or (state_limit s edit.now) (record_passed (payload edit.now)) }
 {
-    match state_limit(engine, edit) {
+    match state_limit(table, trusts, edit) {
         Some(limit) => Some(limit),
         None => record_limit(edit),
     }
 }
 
-fn state_limit(engine: &Engine, edit: &Edit) -> Option<Limit>
+fn state_limit(table: &Table, trusts: &Trusts, edit: &Edit) -> Option<Limit>
     requires proper { IsProper edit.now }
-    ensures { result ≡ state_limit engine.now edit.now }
+    ensures { (s : State) → s.keys ≡ table.now → s.trusts ≡ trusts.now → result ≡ state_limit s edit.now }
 {
-    let trusts = engine.trusts();
     match edit {
-        Edit::Import(keys) => totals_limit(engine.table().totals_with(keys)),
+        Edit::Import(keys) => totals_limit(table.totals_with(keys)),
         Edit::Ownertrust(entries) => trusts_limit(count_with_all(trusts, entries)),
         Edit::Set(fpr, trust) => {
             let disabled = ownertrust_of(trusts, fpr).disabled;
@@ -122,11 +130,11 @@ fn record_limit(edit: &Edit) -> Option<Limit>
     }
 }
 
-fn taken_key(engine: &Engine, edit: &Edit) -> Option<KeyId>
-    ensures { result ≡ taken_key engine.now edit.now }
+fn taken_key(table: &Table, edit: &Edit) -> Option<KeyId>
+    ensures { (s : State) → s.keys ≡ table.now → result ≡ taken_key s edit.now }
 {
     match edit {
-        Edit::Import(keys) => taken_id(engine.table(), keys),
+        Edit::Import(keys) => taken_id(table, keys),
         _ => None,
     }
 }

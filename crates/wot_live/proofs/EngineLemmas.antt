@@ -6,13 +6,11 @@ use Rattle.std.specs.Cmp.{nat_cmp_total}
 use Rattle.std.specs.Ordering.{nat_cmp}
 use Rattle.std.proofs.lemmas.Bool.Decides.{nat_tests}
 use Rattle.wot_types.specs.declared.key.Key.{Key}
+use Rattle.wot_types.specs.declared.state.State.{State}
 use Rattle.wot_types.specs.Candidates.{RowMap}
-use Rattle.wot_types.specs.Keyring.{Keyring}
 use Rattle.wot_types.specs.Levels.{map_by, rows_of, rows_upto}
-use Rattle.wot_types.specs.Ownertrust.{OwnertrustMap}
 use Rattle.wot_types.specs.State.{opening_options, opening_state}
 use Rattle.wot_types.specs.Soonest.{none_at_0}
-use Rattle.wot_levels.specs.Given.{state_of}
 use Rattle.wot_levels.proofs.Walks.{get-map_by}
 use Rattle.wot_live.specs.Counts.{CountMap, key_counts}
 use Rattle.wot_live.specs.Follows.{Follows}
@@ -34,13 +32,11 @@ opening_follows = record {
   counts = sym (map_by_empty (λ (_ : ℕ) (key : Key). Some (key_counts opening_options 0 (rows_of opening_state) key)));
 }
 
-pub opened : (keys : Keyring) (trusts : OwnertrustMap) (rows : RowMap) (counts : CountMap) → keys ≡ finmap.empty → trusts ≡ finmap.empty → rows ≡ finmap.empty → counts ≡ finmap.empty
-    → Follows (state_of keys trusts 0 opening_options) rows counts
-opened keys trusts rows counts k t r c =
-    subst (λ x. Follows (state_of x trusts 0 opening_options) rows counts) (sym k)
-    (subst (λ x. Follows (state_of finmap.empty x 0 opening_options) rows counts) (sym t)
+pub opened : (s : State) (rows : RowMap) (counts : CountMap) → s ≡ opening_state → rows ≡ finmap.empty → counts ≡ finmap.empty → Follows s rows counts
+opened s rows counts is r c =
+    subst (λ x. Follows x rows counts) (sym is)
     (subst (λ x. Follows opening_state x counts) (sym r)
-    (subst (λ x. Follows opening_state finmap.empty x) (sym c) opening_follows)))
+    (subst (λ x. Follows opening_state finmap.empty x) (sym c) opening_follows))
 
 pub none_is_0 : (e : ℕ) → unwrap_or (none_at_0 e) 0 ≡ e
 none_is_0 e = elim (e == 0) as (λ b. (e == 0) ≡ b → unwrap_or (cond b None (Some e)) 0 ≡ e) [

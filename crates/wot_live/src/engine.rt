@@ -15,7 +15,7 @@ ghost use Rattle.wot_live.specs.Counts.{count_at};
 
 use crate::counts::Counts;
 use crate::letters::{letter_of_key, letter_of_user};
-use crate::puts::{put_all, set_all};
+use crate::parts::Parts;
 use crate::recount::counts;
 use std::alloc::Global;
 use std::marker::Model;
@@ -52,7 +52,7 @@ impl Model for Engine {
 }
 
 /// The engine of these parts.
-fn recounted<L: Ledger>(
+pub fn recounted<L: Ledger>(
     table: Table,
     trusts: Trusts,
     date: u32,
@@ -79,17 +79,12 @@ impl Engine {
     pub fn new(alloc: Global) -> Result<Engine, Mem>
         ensures { IfOk result (λ new. new ≡ opening_state) }
     {
+        let parts = Parts::new(alloc)?;
         Ok(Engine {
-            table: Table::new(alloc)?,
-            trusts: Trusts::new(alloc),
-            date: 0,
-            options: Options {
-                pgp: true,
-                completes: 1,
-                marginals: 3,
-                depth: 5,
-                level: 2,
-            },
+            table: parts.table,
+            trusts: parts.trusts,
+            date: parts.date,
+            options: parts.options,
             rows: Rows::new(alloc)?,
             counts: Counts::new(alloc),
         })
@@ -105,9 +100,7 @@ impl Engine {
         requires well_formed { All IsWellFormed keys }
         ensures { IfOk result (λ new. new ≡ record self { keys = with_keys self.keys keys; trusts = with_entries self.trusts entries }) }
     {
-        let table = put_all(self.table, keys)?;
-        let trusts = set_all(self.trusts, entries)?;
-        recounted(table, trusts, self.date, self.options, steps)
+        self.into_parts().put(keys, entries)?.count(steps)
     }
 
     /// Takes a key out.
@@ -115,15 +108,14 @@ impl Engine {
         requires there { IsSome (map.get self.keys id) }
         ensures { IfOk result (λ new. new ≡ record self { keys = map.remove self.keys id }) }
     {
-        let table = self.table.remove(id)?;
-        recounted(table, self.trusts, self.date, self.options, steps)
+        self.into_parts().remove(id)?.count(steps)
     }
 
     /// Sets the date at which expiries are judged, forward or back, in seconds since 1970.
     pub fn set_date<L: Ledger>(self, now: u32, steps: &mut Steps<L>) -> Result<Engine, Mem>
         ensures { IfOk result (λ new. new ≡ record self { date = now }) }
     {
-        recounted(self.table, self.trusts, now, self.options, steps)
+        self.into_parts().set_date(now).count(steps)
     }
 
     /// Sets the options of the trust model.
@@ -135,7 +127,19 @@ impl Engine {
         requires ranges { IsInRange options }
         ensures { IfOk result (λ new. new ≡ record self { options = options }) }
     {
-        recounted(self.table, self.trusts, self.date, options, steps)
+        self.into_parts().set_options(options).count(steps)
+    }
+
+    /// The state without its rows and counts, to make several edits before it is counted again.
+    pub fn into_parts(self) -> Parts
+        ensures { result ≡ self }
+    {
+        Parts {
+            table: self.table,
+            trusts: self.trusts,
+            date: self.date,
+            options: self.options,
+        }
     }
 
     /// When a validity may change next, and 0 where it may not.

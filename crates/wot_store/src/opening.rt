@@ -16,7 +16,7 @@ use crate::place::Place;
 use crate::replay::replay;
 use std::alloc::Global;
 use wot_journal::{RangeError, read_range};
-use wot_live::Engine;
+use wot_live::{Engine, Parts};
 use wot_site::{DiskFault, Failed, Side, Site};
 use wot_types::Mem;
 
@@ -97,7 +97,7 @@ fn create<S: Site>(alloc: Global, site: &mut S, is_closed: bool) -> Result<Opene
     }
 }
 
-// Makes the edits of side Zero's records in the opening state.
+// Makes the edits of side Zero's records in the opening state, and counts once, after the last.
 fn resume<S: Site>(alloc: Global, site: &mut S, size: u64) -> Result<(Engine, u64), StoreError>
     requires within { 24 < size }
     requires size { IfHonest (S.seen site.old) (λ s. size ≡ length (disk_of Zero s.disks).reads) }
@@ -108,8 +108,16 @@ fn resume<S: Site>(alloc: Global, site: &mut S, size: u64) -> Result<(Engine, u6
     ensures counts { NoneFell (S.faults site.old) (S.faults site.new) }
     ensures quiet { (IsErrOf result StoreError.DiskFault → ⊥) → S.faults site.new ≡ S.faults site.old }
 {
-    match Engine::new(alloc) {
-        Ok(engine) => replay(alloc, site, Side::Zero, 24, size, engine),
+    let base = match Parts::new(alloc) {
+        Ok(base) => base,
+        Err(Mem::Memory) => return Err(StoreError::Memory),
+    };
+    let (parts, end) = match replay(alloc, site, Side::Zero, 24, size, base) {
+        Ok(replayed) => replayed,
+        Err(e) => return Err(e),
+    };
+    match parts.counted() {
+        Ok(engine) => Ok((engine, end)),
         Err(Mem::Memory) => Err(StoreError::Memory),
     }
 }
