@@ -6,7 +6,7 @@ ghost use Rattle.wot_types.specs.Keyring.{is_taken, taken_id};
 ghost use Rattle.wot_types.specs.Limits.{limit_passed, record_passed};
 ghost use Rattle.wot_types.specs.Outcome.{missing_key, refusal_of, state_limit, taken_key};
 ghost use Rattle.wot_types.specs.Payload.{IsProper, payload};
-ghost use Rattle.wot_types.specs.declared.state.State.{State};
+ghost use Rattle.wot_types.specs.State.{State};
 ghost use Rattle.wot_commands.specs.Counted.{count_passed};
 
 use crate::entries::{count_with, count_with_all, ownertrust_of};

@@ -27,14 +27,14 @@ pub struct Parts {
 }
 
 impl Model for Parts {
-    ghost use Rattle.wot_types.specs.declared.state.State.{State};
-    ghost use Rattle.wot_types.specs.contracts.state.State as state_struct;
+    ghost use Rattle.wot_types.specs.State.{State};
+    ghost use Rattle.wot_types.specs.StateCode.{state_code};
     ghost use Rattle.wot_types.specs.Payload.{IsInRange};
     ghost use Rattle.wot_levels.specs.Given.{state_of};
 
     ghost Value = { State };
 
-    ghost coded = { state_struct.the_row.coded };
+    ghost coded = { state_code };
 
     ghost view = { λ p. state_of p.table p.trusts p.date p.options };
 
