@@ -63,6 +63,11 @@ pub fn edited_parts(parts: Parts, edit: Edit) -> Result<Parts, Mem>
         Edit::Delete(id) => parts.remove(id),
         Edit::Date(date) => Ok(parts.set_date(date)),
         Edit::Options(options) => Ok(parts.set_options(options)),
+        Edit::Sample(seed, count) => {
+            let keys = wot_gen::keys(alloc, seed, count)?;
+            let entries = wot_gen::entries(alloc, seed, count)?;
+            parts.put(keys, entries)
+        }
     }
 }
 

@@ -2,19 +2,24 @@
 
 ghost use Rattle.std.specs.Prelude.{◌≡◌};
 ghost use Rattle.std.specs.Option.{option_or};
-ghost use Rattle.wot_types.specs.Keyring.{is_taken, taken_id};
-ghost use Rattle.wot_types.specs.Limits.{limit_passed, record_passed};
+ghost use Rattle.wot_types.specs.declared.key.Key.{Key};
+ghost use Rattle.wot_types.specs.Keyring.{is_taken, taken_id, with_keys};
+ghost use Rattle.wot_types.specs.Limits.{limit_passed, most_sample, record_passed, trusts_passed};
 ghost use Rattle.wot_types.specs.Outcome.{missing_key, refusal_of, state_limit, taken_key};
+ghost use Rattle.wot_types.specs.Ownertrust.{with_entries};
 ghost use Rattle.wot_types.specs.Payload.{IsProper, payload};
+ghost use Rattle.wot_types.specs.Sample.{sample_entries, sample_keys};
+ghost use Rattle.wot_types.specs.Totals.{totals_of};
 ghost use Rattle.wot_types.specs.State.{State};
 ghost use Rattle.wot_commands.specs.Counted.{count_passed};
 
 use crate::entries::{count_with, count_with_all, ownertrust_of};
+use crate::samples::{count_with_sample, taken_in_sample, totals_with_sample};
 use wot_live::Engine;
 use wot_spelling::payload_length;
 use wot_table::Table;
 use wot_types::{
-    Edit, Key, KeyId, Keys, Limit, MOST_CERTS, MOST_KEYRING_USERS, MOST_KEYS, MOST_RECORD,
+    Edit, Fpr, KeyId, Keys, Limit, MOST_CERTS, MOST_KEYRING_USERS, MOST_KEYS, MOST_RECORD,
     MOST_TEXT, MOST_TRUSTS, Ownertrust, Refusal, Totals, Trusts,
 };
 
@@ -68,6 +73,7 @@ fn state_limit(table: &Table, trusts: &Trusts, edit: &Edit) -> Option<Limit>
     match edit {
         Edit::Import(keys) => totals_limit(table.totals_with(keys)),
         Edit::Ownertrust(entries) => trusts_limit(count_with_all(trusts, entries)),
+        Edit::Sample(seed, count) => sample_limit(table, trusts, *seed, *count),
         Edit::Set(fpr, trust) => {
             let disabled = ownertrust_of(trusts, fpr).disabled;
             trusts_limit(count_with(
@@ -91,6 +97,16 @@ fn state_limit(table: &Table, trusts: &Trusts, edit: &Edit) -> Option<Limit>
             ))
         }
         Edit::Delete(_) | Edit::Date(_) | Edit::Options(_) => None,
+    }
+}
+
+fn sample_limit(table: &Table, trusts: &Trusts, seed: u64, count: u32) -> Option<Limit>
+    requires few { count ≤ most_sample }
+    ensures { result ≡ option_or (limit_passed (totals_of (with_keys table.now (sample_keys seed count)))) (trusts_passed (with_entries trusts.now (sample_entries seed count))) }
+{
+    match totals_limit(totals_with_sample(table, seed, count)) {
+        Some(limit) => Some(limit),
+        None => trusts_limit(count_with_sample(trusts, seed, count)),
     }
 }
 
@@ -135,6 +151,7 @@ fn taken_key(table: &Table, edit: &Edit) -> Option<KeyId>
 {
     match edit {
         Edit::Import(keys) => taken_id(table, keys),
+        Edit::Sample(seed, count) => taken_in_sample(table, *seed, *count),
         _ => None,
     }
 }
@@ -145,15 +162,16 @@ fn taken_id(table: &Table, keys: &Keys) -> Option<KeyId>
 {
     keys.as_slice()
         .iter()
-        .find(|key| is_taken(table, key))
+        .find(|key| is_taken(table, &key.fpr))
         .map(|key| key.fpr.key_id())
 }
 
-fn is_taken(table: &Table, key: &Key) -> bool
-    ensures { result ≡ is_taken table.now key.now }
+/// Whether a key with another fingerprint has the key ID of this one.
+pub fn is_taken(table: &Table, fpr: &Fpr) -> bool
+    ensures { (key : Key) → key.fpr ≡ fpr.now → result ≡ is_taken table.now key }
 {
-    match table.key(key.fpr.key_id()) {
-        Some(other) => key.fpr != *other.fpr,
+    match table.key(fpr.key_id()) {
+        Some(other) => *fpr != *other.fpr,
         None => false,
     }
 }

@@ -1,12 +1,15 @@
 //! What a sample does to the limits and to key IDs, counted without making its keys.
 
-ghost use Rattle.std.specs.Prelude.{◌≡◌, ◌≤◌};
+ghost use Rattle.std.specs.Prelude.{◌≡◌, ◌<◌, ◌≤◌, ℕ, false};
 ghost use Rattle.std.specs.FinMap as map;
+ghost use Rattle.std.specs.Option.{option_map_or};
 ghost use Rattle.wot_types.specs.Keyring.{taken_id, with_keys};
 ghost use Rattle.wot_types.specs.Limits.{most_sample};
 ghost use Rattle.wot_types.specs.Ownertrust.{with_entries};
-ghost use Rattle.wot_types.specs.Sample.{sample_entries, sample_keys};
+ghost use Rattle.wot_types.specs.Sample.{sample_entries, sample_entry, sample_key, sample_keys};
 ghost use Rattle.wot_types.specs.Totals.{totals_of};
+ghost use Rattle.wot_table.specs.Weights.{weight_of};
+ghost use Rattle.wot_commands.specs.Counted.{is_new};
 
 use crate::refusals::is_taken;
 use wot_gen::{cert_count, entry, fpr, key_id, text_size};
