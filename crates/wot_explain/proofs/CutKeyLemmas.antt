@@ -16,7 +16,7 @@ use Rattle.wot_types.proofs.FinMaps.{IfSome-get}
 use Rattle.wot_types.specs.Arrangement.{spot_at}
 use Rattle.wot_types.specs.Keyring.{Keyring}
 use Rattle.wot_types.specs.Selection.{Spot, placed_from, spots_from}
-use Rattle.wot_table.specs.Kept.{IsKept}
+use Rattle.wot_types.specs.Accepted.{IsFiled}
 use Rattle.wot_types.specs.CutState.{cut_key, cut_keys, cut_user}
 use Rattle.wot_types.specs.Explanation.{KeySet, named_by}
 use Rattle.wot_explain_laws.proofs.MapLemmas.{get-map_by}
@@ -137,8 +137,8 @@ cut_more keep users i spot is = more users i (spot_of_user 0 users i spot is).1
         ap (λ xs. cut_user keep u ∷ xs) (more us j h) ∙ ap (λ n. map (cut_user keep) (take n (u ∷ us))) one
 
 -- what a table tells of its keys
-pub kept_at : (keys : Keyring) (id : ℕ) (key : Key) → All IsKept (finmap.entries keys) → finmap.get keys id ≡ Some key → IsKept (id, key)
-kept_at keys id key kept is = subst (λ o. IfSome o (λ k. IsKept (id, k))) is (IfSome-get nat_cmp_total nat_cmp-IsAntisymmetric IsKept keys id kept)
+pub kept_at : (keys : Keyring) (id : ℕ) (key : Key) → All IsFiled (finmap.entries keys) → finmap.get keys id ≡ Some key → IsFiled (id, key)
+kept_at keys id key kept is = subst (λ o. IfSome o (λ k. IsFiled (id, k))) is (IfSome-get nat_cmp_total nat_cmp-IsAntisymmetric IsFiled keys id kept)
 
 pub map_twice : {X Y Z : Type 0} (g : X → Y) (h : Y → Z) (xs : List X) → map (λ x. h (g x)) xs ≡ map h (map g xs)
 map_twice g h [] = refl

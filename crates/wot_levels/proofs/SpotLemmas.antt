@@ -7,7 +7,7 @@ use Rattle.std.specs.FinMap as finmap
 use Rattle.std.specs.FinMap.{nat_cmp-IsAntisymmetric}
 use Rattle.wot_types.proofs.FinMaps.{IfSome-get}
 use Rattle.wot_types.specs.Limits.{most_certs}
-use Rattle.wot_table.specs.Kept.{IsKept}
+use Rattle.wot_types.specs.Accepted.{IsFiled}
 use Rattle.std.proofs.lemmas.List.Sums.{sum_by-cons}
 use Rattle.wot_types.specs.declared.cert.Cert.{Cert}
 use Rattle.wot_types.specs.declared.key.Key.{Key}
@@ -122,9 +122,9 @@ few_in n (user ∷ users) (suc i) spot is =
     omega (arith, deep, sum_by-cons (λ (u : User). length u.certs) user users)
 
 -- no user ID of a table has more certifications than a key may
-pub few_at : (keys : Keyring) (id user : ℕ) (spot : Spot) → All IsKept (finmap.entries keys) → spot_at keys id user ≡ Some spot → length spot.certs ≤ most_certs
+pub few_at : (keys : Keyring) (id user : ℕ) (spot : Spot) → All IsFiled (finmap.entries keys) → spot_at keys id user ≡ Some spot → length spot.certs ≤ most_certs
 few_at keys id user spot kept is =
-    elim (finmap.get keys id) as (λ k. IfSome k (λ key. IsKept (id, key)) → option_and_then (λ key. slice_get (spots_from 0 key.users) user) k ≡ Some spot → length spot.certs ≤ most_certs) [
+    elim (finmap.get keys id) as (λ k. IfSome k (λ key. IsFiled (id, key)) → option_and_then (λ key. slice_get (spots_from 0 key.users) user) k ≡ Some spot → length spot.certs ≤ most_certs) [
       | None ↦ λ _ h. absurd (none_some spot h)
       | Some key ↦ λ sound h. let few = sound.well_formed.few_certs in let here = few_in 0 key.users user spot h in omega (arith, few, here)
-    ] (IfSome-get nat_cmp_total nat_cmp-IsAntisymmetric IsKept keys id kept) is
+    ] (IfSome-get nat_cmp_total nat_cmp-IsAntisymmetric IsFiled keys id kept) is

@@ -1,9 +1,8 @@
 -- How the printed lines of a key and of a user ID come together.
-use Rattle.std.proofs.Common.{◌≡◌, ℕ, Bool, true, false, List, [], ◌∷◌, ◌++◌, append_assoc, append-nil, All, Option, Some, None, if◌then◌else◌, IfOk, OnOk, Result, Ok, Err, option_map, option_and_then, slice_get, sym, ap, subst, ◌∙◌}
+use Rattle.std.proofs.Common.{◌≡◌, ℕ, Bool, true, false, List, [], ◌∷◌, ◌++◌, append_assoc, append-nil, Option, Some, None, if◌then◌else◌, IfOk, OnOk, Result, Ok, Err, option_map, option_and_then, slice_get, sym, ap, subst, ◌∙◌}
 use Rattle.std.specs.FinMap as finmap
 use Rattle.std.specs.List.{flat_map}
 use Rattle.std.proofs.lemmas.Bool.{cond-false, cond-true}
-use Rattle.std.proofs.lemmas.List.Elements.{All-weaker}
 use Rattle.wot_types.specs.declared.key.Key.{Key}
 use Rattle.wot_types.specs.declared.letter.Letter.{Letter}
 use Rattle.wot_types.specs.State.{State}
@@ -11,10 +10,8 @@ use Rattle.wot_types.specs.declared.user.User.{User}
 use Rattle.wot_types.specs.Letters.{key_letter, key_letter_at, letter_at, user_letter}
 use Rattle.wot_types.specs.Levels.{rows_of}
 use Rattle.wot_types.specs.Listing.{Spells}
-use Rattle.wot_types.specs.Accepted.{IsFiled}
 use Rattle.wot_types.specs.Printing.{cert_line, list_text, user_line}
 use Rattle.wot_types.specs.Selection.{Spot, spots_from}
-use Rattle.wot_table.specs.Kept.{IsKept}
 use Rattle.wot_print_laws.specs.Fits.{FitsState}
 use Rattle.wot_print_laws.specs.ListingLines.{listing_lines}
 
@@ -63,6 +60,3 @@ pub reads_back : {V E : Type 0} (items : V → List ℕ) (result : Result V E) (
 reads_back items (Ok text) s only sigs keys kept all on is fits law =
     subst (λ t. Spells (listing_lines t) keys kept 0) (sym (is ∙ (λ i. list_text s (all i) (on i)))) (law fits)
 reads_back items (Err e) s only sigs keys kept all on is fits law = tt
-
-pub filed : (es : List (ℕ × Key)) → All IsKept es → All IsFiled es
-filed es kept = All-weaker IsKept IsFiled (λ e h. record { own_id = h.own_id; well_formed = h.well_formed }) es kept

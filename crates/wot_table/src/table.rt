@@ -12,9 +12,10 @@ ghost use Rattle.wot_types.specs.WellFormed.{IsWellFormed};
 ghost use Rattle.wot_table.specs.Heads.{IsHeadOf, IsKeyHead, IsUserHead};
 ghost use Rattle.wot_types.specs.Next.{IsNext};
 ghost use Rattle.wot_types.specs.Soonest.{next_expiry};
-ghost use Rattle.wot_table.specs.Kept.{IsKept};
-ghost use Rattle.wot_table.specs.Weights.{weight_or_none};
+ghost use Rattle.wot_types.specs.Accepted.{IsFiled};
+ghost use Rattle.wot_table.specs.Weights.{sums_of, weight_or_none};
 
+use crate::dry_run::DryRun;
 use crate::head::{KeyHead, UserHead};
 use crate::held::{Held, HeldUser};
 use crate::order::in_block_order;
@@ -130,7 +131,7 @@ impl Table {
         }
     }
 
-    fn held(&self, id: KeyId) -> Option<&Held>
+    pub(super) fn held(&self, id: KeyId) -> Option<&Held>
         ensures { option_copied result ≡ finmap.get self.now id }
     {
         self.keys.get(&id)
@@ -152,7 +153,7 @@ impl Table {
         ensures same { IfSome (spot_at self.now id user) (λ spot. IsPermutation spot.certs result.now) }
         ensures placed { IfSome (spot_at self.now id user) (λ spot. (first : ℕ) × (spot.certs ≡ placed_from first spot.user.certs)) }
         ensures cost { steps.new ≡ steps.old + length result.now }
-        ensures kept { All IsKept (finmap.entries self.now) }
+        ensures kept { All IsFiled (finmap.entries self.now) }
     {
         let _keys = self.keys.len();
         match self.held_user(id, user) {
@@ -216,13 +217,26 @@ impl Table {
         none_at_0(next)
     }
 
+    /// How many keys it has.
+    pub(super) fn len(&self) -> u64
+        ensures { result ≡ finmap.len self.now }
+    {
+        self.keys.len() as u64
+    }
+
+    pub(super) fn sums(&self) -> Sums
+        ensures { result ≡ sums_of self.now }
+    {
+        self.sums
+    }
+
     /// What the limits count. No key is read.
     pub fn totals(&self) -> Totals
         ensures totals { result ≡ totals_of self.now }
-        ensures kept { All IsKept (finmap.entries self.now) }
+        ensures kept { All IsFiled (finmap.entries self.now) }
     {
         Totals {
-            keys: self.keys.len() as u64,
+            keys: self.len(),
             users: told(self.sums.users),
             certs: told(self.sums.certs),
             text: told(self.sums.text),
@@ -235,34 +249,21 @@ impl Table {
         requires rising { IsStrictlyIncreasing (map id_of keys.now) }
         ensures { result ≡ totals_of (with_keys self.now keys.now) }
     {
-        let mut count = self.keys.len() as u64;
-        let mut sums = self.sums;
+        let mut run = DryRun::new(self);
         for key in keys.as_slice() {
-            let former = self.held(key.fpr.key_id());
-            count += u64::from(former.is_none());
-            let more = sums.plus(Weight::of(key));
-            sums = more.minus(weight_of_held(former));
+            run.put(key.fpr.key_id(), Weight::of(key));
         }
-        Totals {
-            keys: count,
-            users: told(sums.users),
-            certs: told(sums.certs),
-            text: told(sums.text),
-        }
+        run.totals()
     }
 }
 
 /// What the limits count on a key that is held, if there is one.
-fn weight_of_held(held: Option<&Held>) -> Weight
+pub fn weight_of_held(held: Option<&Held>) -> Weight
     ensures { result ≡ weight_or_none (option_copied held.entry) }
 {
     match held {
         Some(held) => held.weight(),
-        None => Weight {
-            users: 0,
-            certs: 0,
-            text: 0,
-        },
+        None => Weight::none(),
     }
 }
 
@@ -272,10 +273,6 @@ fn weight_or_none(former: &Option<Held>) -> Weight
 {
     match former {
         Some(held) => held.weight(),
-        None => Weight {
-            users: 0,
-            certs: 0,
-            text: 0,
-        },
+        None => Weight::none(),
     }
 }
