@@ -25,12 +25,12 @@ def home():
         subprocess.run(["gpgconf", "--kill", "all"], capture_output=True, check=False)
 
 
-def make(count=1, expires="never"):
+def make(count=1, expires="never", host="example.org"):
     """The fingerprints of keys that are made one after the other."""
     first = len(gnupg.primaries())
     for number in range(first, first + count):
         later()
-        gpg("--quick-generate-key", f"Key {number} <k{number}@example.org>", "ed25519", "cert", expires)
+        gpg("--quick-generate-key", f"Key {number} <k{number}@{host}>", "ed25519", "cert", expires)
     return gnupg.primaries()[first:]
 
 
@@ -51,26 +51,31 @@ def own(**trusts):
     gpg("--import-ownertrust", given="".join(f"{key}:{trusts.get(f'key{place}', UNDEFINED)}:\n" for place, key in enumerate(keys)))
 
 
+def letter(listing, number):
+    """The letter of the one user ID of a key, by its place in the keyring."""
+    return next(found for text, found in letters(listing).items() if text.startswith(f"Key {number} "))
+
+
 def printed():
     return gpg("--with-colons", "--fixed-list-mode", "--check-sigs")
 
 
-def asked_gnupg(user, date=None):
-    """GnuPG's letter of the user ID of a key, by its place, at a date or now."""
+def asked_gnupg(number, date=None):
+    """GnuPG's letter at a date, or now."""
     now, gnupg.clock = gnupg.clock, gnupg.clock if date is None else date
     gpg("--check-trustdb")
-    found = letters(gpg("--with-colons", "--fixed-list-mode", "--list-keys"))
+    found = letter(gpg("--with-colons", "--fixed-list-mode", "--list-keys"), number)
     gnupg.clock = now
-    return found[f"Key {user} <k{user}@example.org>"]
+    return found
 
 
-def asked_program(user, date=None):
-    """The program's letter, where it reads what gpg prints now."""
+def asked_program(number, date=None):
+    """The program's letter at a date, or now, where it reads what gpg prints now."""
     lines = ["ownertrust", *gpg("--export-ownertrust").splitlines(), ".", f"date {gnupg.clock if date is None else date}"]
-    done = run("\n".join([*lines, "import", *printed().splitlines(), ".", "list", ""]))
+    done = run("\n".join([*lines, "import", *printed().split("\n"), ".", "list", ""]).encode(errors="surrogateescape"))
     if done.returncode:
         sys.exit(f"differences: the program ended with {done.returncode}, and told {done.stdout[:300]}")
-    return letters(done.stdout.decode())[f"Key {user} <k{user}@example.org>"]
+    return letter(done.stdout.decode(), number)
 
 
 def expiring_key():
@@ -116,6 +121,16 @@ def scope_that_stays():
     sign(b, c)
     own(key0=ULTIMATE, key2=ULTIMATE)
     return [(asked_gnupg(3), asked_program(3))]
+
+
+def scope_beyond_ascii():
+    """A trust signature for a domain with a letter beyond ASCII, whose bytes gpg escapes one by one."""
+    a, b = make(2)
+    (c,) = make(host="zoë.example")
+    trust_sign(a, b, 2, 1, "zoë.example")
+    sign(b, c)
+    own(key0=ULTIMATE)
+    return [(asked_gnupg(2), asked_program(2))]
 
 
 def key_from_the_future():
@@ -203,12 +218,24 @@ def expired_owner():
     return [(asked_gnupg(1), asked_program(1))]
 
 
+def revoked_owner():
+    """An ultimately trusted key that is revoked; gpg takes the ownertrust of such a key away, and is given it again."""
+    a, b = make(2)
+    sign(a, b)
+    with open(os.path.join(os.environ["GNUPGHOME"], "openpgp-revocs.d", a + ".rev"), encoding="utf-8") as file:
+        later()
+        gpg("--import", given=file.read().replace(":-----BEGIN", "-----BEGIN"))
+    own(key0=ULTIMATE)
+    return [(asked_gnupg(1), asked_program(1))]
+
+
 # what is compared, and what GnuPG and the program answer, each at one date or at some
 DIFFERENT = {
     expiring_key: [("f", "f"), ("f", "e"), ("e", "e")],
     earlier_level: [("q", "f")],
     last_delegation: [("m", "f")],
     scope_that_stays: [("-", "f")],
+    scope_beyond_ascii: [("-", "f")],
     key_from_the_future: [("-", "f")],
     next_check: [("no", "yes")],
     certification_that_cannot_be_revoked: [("f", "f"), ("f", "-")],
@@ -219,6 +246,7 @@ SAME = {
     revocation_of_the_same_second: [("f", "f")],
     never_lifted: [("f", "f")],
     expired_owner: [("-", "-")],
+    revoked_owner: [("-", "-")],
 }
 
 if __name__ == "__main__":

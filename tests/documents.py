@@ -13,7 +13,7 @@ import sys
 from program import PROGRAM, folder
 
 TOP = pathlib.Path(__file__).resolve().parent.parent
-DOCUMENTS = sorted([*TOP.glob("*.md"), *TOP.glob("docs/*.md"), *TOP.glob("bench/*.md"), *TOP.glob("examples/*/README.md")])
+DOCUMENTS = sorted([*TOP.glob("*.md"), *TOP.glob("docs/*.md"), *TOP.glob("bench/*.md"), *TOP.glob("examples/**/README.md")])
 FENCED = re.compile(r"^```.*?^```$", re.M | re.S)
 LINK = re.compile(r"\]\(([^)\s]+)\)")
 SESSION = re.compile(r"^```sh\n((?:(?!```).*\n)*)```\n\n```\n((?:(?!```).*\n)*)```$", re.M)
@@ -55,6 +55,13 @@ def sessions():
     return f"{count} sessions", faults
 
 
+def first_session():
+    """The session of the README is the stored run of the program."""
+    readme = (TOP / "README.md").read_text(encoding="utf-8")
+    stored = [(TOP / "crates" / "wot" / name).read_text(encoding="utf-8") for name in ("stdin", "stdout")]
+    return "the first session", [] if f"{stored[0]}END\n```\n\n```\n{stored[1]}```\n" in readme else ["README.md: not the session of crates/wot"]
+
+
 def rows(heading):
     """The first columns of the tables of the manual under a heading."""
     part = (TOP / "docs" / "MANUAL.md").read_text(encoding="utf-8").split(f"# {heading}\n")[1].split("\n#")[0]
@@ -80,13 +87,13 @@ def man_is_read():
         done = subprocess.run(["mandoc", "-T", "lint", "-W", "warning", page], capture_output=True, text=True, timeout=60, check=False)
         return "read by mandoc", done.stdout.splitlines()
     if shutil.which("man") and shutil.which("groff"):
-        done = subprocess.run(["man", "--warnings", "-l", "-T", "utf8", "-Z", page], capture_output=True, text=True, timeout=60, check=False)
+        done = subprocess.run(["man", "--warnings", "-Tutf8", "-Z", "-l", page], capture_output=True, text=True, timeout=60, check=False)
         return "read by man", done.stderr.splitlines()
     return "not read: no mandoc and no man", []
 
 
 if __name__ == "__main__":
-    found = [check() for check in (dead_links, sessions, man_page, man_is_read)]
+    found = [check() for check in (dead_links, sessions, first_session, man_page, man_is_read)]
     wrong = [line for _, lines in found for line in lines]
     if wrong:
         sys.exit("\n".join(["documents:", *wrong]))
