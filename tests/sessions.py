@@ -115,6 +115,12 @@ SESSIONS = {
         TWO_TOLD + "why:u:00000000000000AA:1:0:0:0:0:\ncut:u:\nok\nerr no-such-user\nerr no-such-key\nerr bad-argument 2\n",
         1,
     ),
+    "each edit twice": (
+        (TWO_KEYS + f"ownertrust\n{B}:4:\n.\ndisable {B}\ndate 3000\noptions pgp 1 2 5 2\n") * 2 + "list\nexport\n",
+        (TWO_TOLD + "ok entries 1\nok\nok\nok\n") * 2
+        + listed(("A", "u", "u"), ("B", "f", "m", "scSCD"), tru="tru::1:3000:0:2:1:5\n") + f"{A}:6:\n{B}:132:\nok\n",
+        0,
+    ),
     "nothing after quit": ("list\nquit\nlist\nfrob\n", listed() + "ok\n", 0),
     "quit with an argument ends nothing": ("quit now\nlist\n", "err bad-argument 1\n" + listed(), 1),
     "options out of their ranges": (
