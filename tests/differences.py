@@ -39,10 +39,10 @@ def sign(issuer, key, *words):
     gpg(*words, "--default-key", issuer, "--quick-sign-key", key)
 
 
-def trust_sign(issuer, key, value, depth, domain=""):
-    """A trust signature; the value is 1 for partial and 2 for full trust."""
+def trust_sign(issuer, key, value, depth, domain="", user=1):
+    """A trust signature on one user ID; the value is 1 for partial and 2 for full trust."""
     later()
-    gpg("-u", issuer, "--command-fd", "0", "--edit-key", key, given=f"tsign\n{value}\n{depth}\n{domain}\ny\nsave\n", batch=False)
+    gpg("-u", issuer, "--command-fd", "0", "--edit-key", key, given=f"uid {user}\ntsign\n{value}\n{depth}\n{domain}\ny\nsave\n", batch=False)
 
 
 def own(**trusts):
@@ -102,25 +102,27 @@ def earlier_level():
 
 def last_delegation():
     """Two trust signatures, of which the later one was stored first."""
-    a, b, f, c = make(4)
+    a, b, c = make(3)
+    gpg("--quick-add-uid", b, "Another user ID")
     later(2 * DAY)
-    trust_sign(a, b, 2, 1)
+    trust_sign(a, b, 2, 1, user=1)
     later(-DAY)
-    trust_sign(f, b, 1, 1)
+    trust_sign(a, b, 1, 1, user=2)
     later(2 * DAY)
     sign(b, c)
-    own(key0=ULTIMATE, key2=ULTIMATE)
-    return [(asked_gnupg(3), asked_program(3))]
+    own(key0=ULTIMATE)
+    return [(asked_gnupg(2), asked_program(2))]
 
 
 def scope_that_stays():
     """A trust signature for a domain, and a later one for all."""
-    a, b, f, c = make(4)
-    trust_sign(a, b, 2, 1, "example.net")
-    trust_sign(f, b, 2, 1)
+    a, b, c = make(3)
+    gpg("--quick-add-uid", b, "Another user ID")
+    trust_sign(a, b, 2, 1, "example.net", user=1)
+    trust_sign(a, b, 2, 1, user=2)
     sign(b, c)
-    own(key0=ULTIMATE, key2=ULTIMATE)
-    return [(asked_gnupg(3), asked_program(3))]
+    own(key0=ULTIMATE)
+    return [(asked_gnupg(2), asked_program(2))]
 
 
 def scope_beyond_ascii():
@@ -170,9 +172,8 @@ def older_certification():
 
 def next_check():
     """A key that expires, and that nobody certifies: whether a check is due."""
-    make()
     make(expires="1d")
-    own(key0=ULTIMATE)
+    own()
     gpg("--check-trustdb")
     listing = printed()
     told = run("\n".join([f"date {gnupg.clock}", "import", *listing.splitlines(), ".", "list", ""])).stdout.decode()
