@@ -35,7 +35,8 @@ def gpg(*words, given="", batch=True):
     always = ["--yes", "--quiet", "--no-tty", "--pinentry-mode", "loopback", "--passphrase", "", "--faked-system-time", f"{clock}!"]
     try:
         return subprocess.run(
-            ["gpg", *(["--batch"] if batch else []), *always, *words], input=given, capture_output=True, text=True, check=True, timeout=60
+            ["gpg", *(["--batch"] if batch else []), *always, *words],
+            input=given, capture_output=True, text=True, errors="surrogateescape", check=True, timeout=60,
         ).stdout
     except (OSError, subprocess.SubprocessError) as fault:
         raise NoGnuPG(fault) from fault

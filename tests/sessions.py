@@ -1,8 +1,9 @@
 #!/usr/bin/env python3
 """Feeds whole sessions to the built program, each on an empty store, and compares what it tells, byte for byte, and its exit status.
 
-Each session is run a second time command by command, a run a command on one store: it tells the same.
+The sessions are those of this file and those of examples/. Each is run a second time command by command, a run a command on one store: it tells the same.
 """
+import pathlib
 import sys
 
 from program import by, fingerprint, folder, imported, key, key_id, letters, run, short, trust
@@ -23,91 +24,13 @@ def listed(*keys, tru=TRU):
     return tru + "".join(lines(*k) for k in keys) + "ok\n"
 
 
-def owned(owners):
-    return "".join(trust(name, letter) for name, letter in owners.items())
-
-
-MARGINALS = {"A": "u", "B": "m", "C": "m", "D": "m", "E": "m"}
-FULL_MARGINALS = [("A", "u", "u"), ("B", "f", "m"), ("C", "f", "m"), ("D", "f", "m"), ("E", "f", "m")]
-
-
-def by_marginals(introducers, validity):
-    """Four introducers of marginal trust, and a key that some of them certify."""
-    keys = [key("A")] + [key(name, "A") for name in "BCDE"] + [key("F", *introducers)]
-    told = "ok\n" * 5 + f"ok keys 6 kept {4 + len(introducers)} passed 0\n" + listed(*FULL_MARGINALS, ("F", validity, "-"))
-    return owned(MARGINALS) + imported(*keys) + "list\n", told, 0
-
-
-def chain(names, given):
-    """Each key certifies the next; all but the last are fully trusted, and the first ultimately."""
-    trusts = dict(zip(names, "u" + "f" * (len(names) - 2)))
-    keys = [key(names[0])] + [key(name, former) for former, name in zip(names, names[1:])]
-    shown = [(name, letter, trusts.get(name, "-")) for name, letter in zip(names, given)]
-    told = "ok\n" * len(trusts) + f"ok keys {len(keys)} kept {len(keys) - 1} passed 0\n" + listed(*shown)
-    return owned(trusts) + imported(*keys) + "list\n", told, 0
-
-
 A, B, C = fingerprint("A"), fingerprint("B"), fingerprint("C")
 TWO_KEYS = trust("A", "u") + imported(key("A"), key("B", "A"))
 TWO_TOLD = "ok\nok keys 2 kept 1 passed 0\n"
 TWO_LISTED = listed(("A", "u", "u"), ("B", "f", "-"))
 OTHER_A = "pub:-:255:22:00000000000000AA:1000:::-:::scSC:\nfpr:::::::::11" + "0" * 36 + "AA:\n"
-EXPIRING = trust("A", "u") + imported(key("A"), key("B", "A", expires="5000"))
-
-
-def b_at(date, check, letter):
-    expiring = lines("B", letter, "-").replace(":1000:::", ":1000:5000::", 1)
-    return f"tru::1:{date}:{check}:3:1:5\n" + lines("A", "u", "u") + expiring + "ok\n"
-
-
-# what GnuPG prints for three keys with a subkey, a designated revoker, self-signatures and one that it could not check
-REAL = """tru::1:1700000000:0:3:1:5
-pub:u:255:22:00000000000000AA:1600000000:::u:::scESC:::::ed25519:::0:
-fpr:::::::::00000000000000000000000000000000000000AA:
-grp:::::::::0123456789ABCDEF0123456789ABCDEF01234567:
-uid:u::::1600000000::0F0F0F0F0F0F0F0F0F0F0F0F0F0F0F0F0F0F0F0F::A <a@example.org>::::::::::0:
-sig:!::22:00000000000000AA:1600000000::::A <a@example.org>:13x:::::8:
-sub:u:255:18:00000000000000A1:1600000000::::::e:::::cv25519::
-fpr:::::::::00000000000000000000000000000000000000A1:
-sig:!::22:00000000000000AA:1600000000::::A <a@example.org>:18x:::::8:
-pub:f:255:22:00000000000000BB:1610000000:1900000000::-:::scESC:::::ed25519:::0:
-fpr:::::::::00000000000000000000000000000000000000BB:
-rvk:::22::::::00000000000000000000000000000000000000AA:80:
-uid:f::::1610000000::1F1F1F1F1F1F1F1F1F1F1F1F1F1F1F1F1F1F1F1F::B <b@example.org>::::::::::0:
-sig:!::22:00000000000000BB:1610000000::::B <b@example.org>:13x:::::8:
-sig:!::22:00000000000000AA:1620000000::::A <a@example.org>:10x:::::8:
-pub:-:255:22:00000000000000CC:1615000000:::-:::scESC:::::ed25519:::0:
-fpr:::::::::00000000000000000000000000000000000000CC:
-uid:-::::1615000000::2F2F2F2F2F2F2F2F2F2F2F2F2F2F2F2F2F2F2F2F::C <c@example.org>::::::::::0:
-sig:!::22:00000000000000CC:1615000000::::C <c@example.org>:13x:::::8:
-sig:?::22:00000000000000DD:1620000000:::::10x:::::8:
-"""
-
-
-def real_listed(b, next_check):
-    return (
-        f"tru::1:0:{next_check}:3:1:5\n"
-        "pub:u:255:22:00000000000000AA:1600000000:::u:::scESC:\nfpr:::::::::00000000000000000000000000000000000000AA:\n"
-        "uid:u::::1600000000::0F0F0F0F0F0F0F0F0F0F0F0F0F0F0F0F0F0F0F0F::A <a@example.org>:\n"
-        f"pub:{b}:255:22:00000000000000BB:1610000000:1900000000::-:::scESC:\nfpr:::::::::00000000000000000000000000000000000000BB:\n"
-        f"uid:{b}::::1610000000::1F1F1F1F1F1F1F1F1F1F1F1F1F1F1F1F1F1F1F1F::B <b@example.org>:\n"
-        "pub:-:255:22:00000000000000CC:1615000000:::-:::scESC:\nfpr:::::::::00000000000000000000000000000000000000CC:\n"
-        "uid:-::::1615000000::2F2F2F2F2F2F2F2F2F2F2F2F2F2F2F2F2F2F2F2F::C <c@example.org>:\nok\n"
-    )
-
-
 QUOTED = "a\\x3ab\\\\c\\n".encode() + bytes([0xC3, 0xA9])
-WHY = (
-    owned({"A": "u", "F": "u"})
-    + imported(
-        key("A"),
-        key("B", by("A", trusts="1 120")) + "uid:-::::1000::::B2 <b2@example.org>:\n" + by("F", made=3000, trusts="1 60"),
-        key("C", by("B", made=4000)),
-        key("F"),
-    )
-    + f"why {C} 1\n"
-)
-DELEGATED = {"A": "u"}
+EXAMPLES = pathlib.Path(__file__).resolve().parent.parent / "examples"
 
 # a session's name, its input, what is told and the status
 SESSIONS = {
@@ -119,7 +42,6 @@ SESSIONS = {
         f"ok\nok\n{A}:6:\n{B}:4:\nok\nok\n{B}:4:\nok\n",
         0,
     ),
-    "a key and the key that certifies it": (TWO_KEYS + "list\n", TWO_TOLD + TWO_LISTED, 0),
     "a key that comes before the key that certifies it": (
         imported(key("B", "A"), key("A")) + trust("A", "u") + "list\n",
         "ok keys 2 kept 1 passed 0\nok\n" + TWO_LISTED,
@@ -130,16 +52,6 @@ SESSIONS = {
         TWO_TOLD + "ok\nok keys 1 kept 1 passed 0\n" + listed(("A", "u", "u"), ("B", "f", "m"), ("C", "m", "-")),
         0,
     ),
-    "two marginal introducers": by_marginals("BC", "m"),
-    "three marginal introducers": by_marginals("BCD", "f"),
-    "four marginal introducers": by_marginals("BCDE", "f"),
-    "an introducer that is never trusted": (
-        TWO_KEYS + trust("B", "n") + imported(key("D", "B")) + "list\n",
-        TWO_TOLD + "ok\nok keys 1 kept 1 passed 0\n" + listed(("A", "u", "u"), ("B", "f", "n"), ("D", "q", "-")),
-        0,
-    ),
-    "a chain as long as the depth allows": chain("ABCDEF", "ufffff"),
-    "a chain of one key more": chain("9ABCDEF", "ufffff-"),
     "a key twice": (imported(key("A"), key("A")) + "list\n", "err listing 4 RepeatedKey\n" + listed(), 1),
     "a line at the limit": ("#" * 65536 + "\nlist\n", listed(), 0),
     "a line beyond the limit": ("#" * 65537 + "\nlist\n", "err line-too-long\n" + listed(), 1),
@@ -151,39 +63,6 @@ SESSIONS = {
         "err listing 5 NoFingerprint\n",
         1,
     ),
-    "a key ID that is taken": (
-        imported(key("A")) + imported(OTHER_A),
-        "ok keys 1 kept 0 passed 0\nerr key-id-taken 00000000000000AA\n",
-        1,
-    ),
-    "what GnuPG prints": (
-        trust("A", "u") + "import\n" + REAL + ".\nlist\n",
-        "ok\nok keys 3 kept 1 passed 5\n" + real_listed("f", 1900000000),
-        0,
-    ),
-    "what GnuPG prints, unchecked": (
-        trust("A", "u") + "import\n" + REAL.replace("sig:!:", "sig::").replace("sig:?:", "sig::") + ".\nlist\n",
-        "ok\nok keys 3 kept 0 passed 6\n" + real_listed("-", 1900000000),
-        0,
-    ),
-    "a certification before and at its expiry": (
-        trust("A", "u") + imported(key("A"), key("B", "A", by("A", made=3000, expires="4000"))) + "date 3999\nlist\ndate 4000\nlist\n",
-        "ok\nok keys 2 kept 2 passed 0\nok\n"
-        + listed(("A", "u", "u"), ("B", "f", "-"), tru="tru::1:3999:4000:3:1:5\n")
-        + "ok\n"
-        + listed(("A", "u", "u"), ("B", "-", "-"), tru="tru::1:4000:0:3:1:5\n"),
-        0,
-    ),
-    "a revocation after a certification of the same date": (
-        trust("A", "u") + imported(key("A"), key("B", "A", by("A", kind="30x", record="rev"))) + "list\n",
-        "ok\nok keys 2 kept 2 passed 0\n" + listed(("A", "u", "u"), ("B", "-", "-")),
-        0,
-    ),
-    "a revocation before a certification of the same date": (
-        trust("A", "u") + imported(key("A"), key("B", by("A", kind="30x", record="rev"), "A")) + "list\n",
-        "ok\nok keys 2 kept 2 passed 0\n" + TWO_LISTED,
-        0,
-    ),
     "a certification level below the least": (
         trust("A", "u") + imported(key("A"), key("B", by("A", kind="11x"))) + "list\noptions pgp 1 3 5 1\nlist\n",
         "ok\nok keys 2 kept 1 passed 0\n" + listed(("A", "u", "u"), ("B", "-", "-")) + "ok\n" + TWO_LISTED,
@@ -193,16 +72,6 @@ SESSIONS = {
         trust("A", "u") + imported(key("A"), key("B", by("A", kind="10x"))) + "list\noptions pgp 1 3 5 1\nlist\n",
         TWO_TOLD + TWO_LISTED + "ok\n" + TWO_LISTED,
         0,
-    ),
-    "a key before and at its expiry, and back": (
-        EXPIRING + "date 4999\nlist\ndate 5000\nlist\ndate 19700101T012319\nlist\n",
-        TWO_TOLD + "ok\n" + b_at(4999, 5000, "f") + "ok\n" + b_at(5000, 0, "e") + "ok\n" + b_at(4999, 5000, "f"),
-        0,
-    ),
-    "a key that is taken away": (
-        TWO_KEYS + f"delete {B}\nlist\ndelete {B}\n" + trust("A", "-") + "list\n",
-        TWO_TOLD + "ok\n" + listed(("A", "u", "u")) + "err no-such-key\nok\n" + listed(("A", "-", "-")),
-        1,
     ),
     "certifications are printed": (
         TWO_KEYS + f"sigs\nsigs {B}\nlist {A}\n",
@@ -215,11 +84,6 @@ SESSIONS = {
     "a key of another fingerprint is not that key": (
         TWO_KEYS + f"list 11{'0' * 36}AA\nsigs {C}\n",
         TWO_TOLD + "err no-such-key\nerr no-such-key\n",
-        1,
-    ),
-    "an ownertrust text": (
-        f"ownertrust\n# List\n\n{A}:6:\n{B}:134:\n{C}:0:\n.\nexport\nownertrust\n{A}:1:\n.\n",
-        f"ok entries 2\n{A}:6:\n{B}:134:\nok\nerr ownertrust 1 BadValue\n",
         1,
     ),
     "the last entry of a fingerprint stands": (f"ownertrust\n{A}:6:\n{A}:0:\n{A}:5:\n.\nexport\n", f"ok entries 1\n{A}:5:\nok\n", 0),
@@ -246,16 +110,16 @@ SESSIONS = {
         "err listing 1027 LimitReached\n",
         1,
     ),
-    "why, by a delegation": (
-        WHY,
-        "ok\nok\nok keys 4 kept 3 passed 0\nwhy:m:00000000000000CC:1:0:0:1:0:\nrow:00000000000000AA:0:u:0::\nrow:00000000000000BB:1:m:0::\n"
-        "row:00000000000000FF:0:u:0::\nby:00000000000000BB:m:\ncut:m:\nok\n",
-        0,
-    ),
     "why, of an ultimately trusted key": (
         TWO_KEYS + f"why {A} 1\nwhy {B} 2\nwhy {C} 1\nwhy {A} 0\n",
         TWO_TOLD + "why:u:00000000000000AA:1:0:0:0:0:\ncut:u:\nok\nerr no-such-user\nerr no-such-key\nerr bad-argument 2\n",
         1,
+    ),
+    "each edit twice": (
+        (TWO_KEYS + f"ownertrust\n{B}:4:\n.\ndisable {B}\ndate 3000\noptions pgp 1 2 5 2\n") * 2 + "list\nexport\n",
+        (TWO_TOLD + "ok entries 1\nok\nok\nok\n") * 2
+        + listed(("A", "u", "u"), ("B", "f", "m", "scSCD"), tru="tru::1:3000:0:2:1:5\n") + f"{A}:6:\n{B}:132:\nok\n",
+        0,
     ),
     "nothing after quit": ("list\nquit\nlist\nfrob\n", listed() + "ok\n", 0),
     "quit with an argument ends nothing": ("quit now\nlist\n", "err bad-argument 1\n" + listed(), 1),
@@ -271,6 +135,15 @@ SESSIONS["quoted bytes"] = (
     b"ok keys 1 kept 0 passed 0\n" + TRU.encode() + lines("A", "-", "-").encode().replace(b"A <a@example.org>", b"a\\x3ab\\x5cc\\x0a\xc3\xa9") + b"ok\n",
     0,
 )
+
+
+def example(name):
+    """A worked session: its input, what is told, and the status, which is 1 where a reply is a refusal."""
+    given, told = ((EXAMPLES / name / part).read_bytes() for part in ("input", "output"))
+    return given, told, int(any(line.startswith(b"err ") for line in told.splitlines()))
+
+
+SESSIONS.update((given.parent.name, example(given.parent.name)) for given in sorted(EXAMPLES.glob("*/input")))
 
 
 def trusted(*certs, text="C <c@example.org>", also="", options=""):

@@ -1,0 +1,263 @@
+#!/usr/bin/env python3
+"""Makes with gpg the keyrings on which docs/GNUPG.md says that GnuPG's letters are others, and those on which it says that they are the same.
+
+The program reads what gpg prints as it stands. It skips where there is no gpg that can make such a keyring.
+"""
+import contextlib
+import os
+import subprocess
+import sys
+import tempfile
+
+import gnupg
+from gnupg import DAY, START, NoGnuPG, gpg, later, letters, records
+from program import run
+
+ULTIMATE, FULL, NEVER, UNDEFINED = 6, 5, 3, 2
+
+
+@contextlib.contextmanager
+def home():
+    """A fresh folder for gpg, in which nothing was made yet."""
+    with tempfile.TemporaryDirectory(prefix="wot", ignore_cleanup_errors=True) as folder:
+        os.environ["GNUPGHOME"], gnupg.clock = folder, START
+        yield
+        subprocess.run(["gpgconf", "--kill", "all"], capture_output=True, check=False)
+
+
+def make(count=1, expires="never", host="example.org"):
+    """The fingerprints of keys that are made one after the other."""
+    first = len(gnupg.primaries())
+    for number in range(first, first + count):
+        later()
+        gpg("--quick-generate-key", f"Key {number} <k{number}@{host}>", "ed25519", "cert", expires)
+    return gnupg.primaries()[first:]
+
+
+def sign(issuer, key, *words):
+    later()
+    gpg(*words, "--default-key", issuer, "--quick-sign-key", key)
+
+
+def trust_sign(issuer, key, value, depth, domain="", user=1):
+    """A trust signature on one user ID; the value is 1 for partial and 2 for full trust."""
+    later()
+    gpg("-u", issuer, "--command-fd", "0", "--edit-key", key, given=f"uid {user}\ntsign\n{value}\n{depth}\n{domain}\ny\nsave\n", batch=False)
+
+
+def own(**trusts):
+    """Sets the ownertrust of each key, by its place in the keyring; gpg has made all of them ultimate."""
+    keys = gnupg.primaries()
+    gpg("--import-ownertrust", given="".join(f"{key}:{trusts.get(f'key{place}', UNDEFINED)}:\n" for place, key in enumerate(keys)))
+
+
+def letter(listing, number):
+    """The letter of the one user ID of a key, by its place in the keyring."""
+    return next(found for text, found in letters(listing).items() if text.startswith(f"Key {number} "))
+
+
+def printed():
+    return gpg("--with-colons", "--fixed-list-mode", "--check-sigs")
+
+
+def asked_gnupg(number, date=None):
+    """GnuPG's letter at a date, or now."""
+    now, gnupg.clock = gnupg.clock, gnupg.clock if date is None else date
+    gpg("--check-trustdb")
+    found = letter(gpg("--with-colons", "--fixed-list-mode", "--list-keys"), number)
+    gnupg.clock = now
+    return found
+
+
+def asked_program(number, date=None):
+    """The program's letter at a date, or now, where it reads what gpg prints now."""
+    lines = ["ownertrust", *gpg("--export-ownertrust").splitlines(), ".", f"date {gnupg.clock if date is None else date}"]
+    done = run("\n".join([*lines, "import", *printed().split("\n"), ".", "list", ""]).encode(errors="surrogateescape"))
+    if done.returncode:
+        sys.exit(f"differences: the program ended with {done.returncode}, and told {done.stdout[:300]}")
+    return letter(done.stdout.decode(), number)
+
+
+def expiring_key():
+    """A key at the second of its expiry."""
+    a, b = make() + make(expires="1d")
+    expiry = gnupg.clock + DAY
+    sign(a, b)
+    own(key0=ULTIMATE)
+    return [(asked_gnupg(1, date), asked_program(1, date)) for date in (expiry - 1, expiry, expiry + 1)]
+
+
+def earlier_level():
+    """A trust signature by an introducer of level 1 on a key that becomes valid by one of level 2."""
+    a, b, c, d, x, y = make(6)
+    trust_sign(a, b, 1, 2)
+    sign(a, d)
+    sign(d, c)
+    trust_sign(b, x, 2, 1)
+    sign(c, x)
+    sign(x, y)
+    own(key0=ULTIMATE, key2=FULL, key3=FULL)
+    return [(asked_gnupg(5), asked_program(5))]
+
+
+def last_delegation():
+    """Two trust signatures, of which the later one was stored first."""
+    a, b, c = make(3)
+    gpg("--quick-add-uid", b, "Another user ID")
+    later(2 * DAY)
+    trust_sign(a, b, 2, 1, user=1)
+    later(-DAY)
+    trust_sign(a, b, 1, 1, user=2)
+    later(2 * DAY)
+    sign(b, c)
+    own(key0=ULTIMATE)
+    return [(asked_gnupg(2), asked_program(2))]
+
+
+def scope_that_stays():
+    """A trust signature for a domain, and a later one for all."""
+    a, b, c = make(3)
+    gpg("--quick-add-uid", b, "Another user ID")
+    trust_sign(a, b, 2, 1, "example.net", user=1)
+    trust_sign(a, b, 2, 1, user=2)
+    sign(b, c)
+    own(key0=ULTIMATE)
+    return [(asked_gnupg(2), asked_program(2))]
+
+
+def scope_beyond_ascii():
+    """A trust signature for a domain with a letter beyond ASCII, whose bytes gpg escapes one by one."""
+    a, b = make(2)
+    (c,) = make(host="zoë.example")
+    trust_sign(a, b, 2, 1, "zoë.example")
+    sign(b, c)
+    own(key0=ULTIMATE)
+    return [(asked_gnupg(2), asked_program(2))]
+
+
+def key_from_the_future():
+    """A key that is made after the date."""
+    (a,) = make()
+    later(DAY)
+    (b,) = make()
+    sign(a, b)
+    own(key0=ULTIMATE)
+    return [(asked_gnupg(1, START + DAY // 2), asked_program(1, START + DAY // 2))]
+
+
+def signed_twice(edit):
+    """A key that is signed, without an end, by this command of gpg, and again later for a day; gpg signs twice only what it has forgotten."""
+    a, b = make(2)
+    own(key0=ULTIMATE)
+    unsigned = gpg("--armor", "--export", b)
+    later()
+    gpg("-u", a, "--command-fd", "0", "--edit-key", b, given=f"{edit}\ny\nsave\n", batch=False)
+    signed = gpg("--armor", "--export", b)
+    gpg("--delete-secret-and-public-key", b)
+    gpg("--import", given=unsigned)
+    sign(a, b, "--default-cert-expire", "1d")
+    gpg("--import", given=signed)
+    return [(asked_gnupg(1, date), asked_program(1, date)) for date in (gnupg.clock + DAY - 1, gnupg.clock + DAY)]
+
+
+def certification_that_cannot_be_revoked():
+    """A certification that can't be revoked, and a later one that expires."""
+    return signed_twice("nrsign")
+
+
+def older_certification():
+    """A certification, and a later one that expires."""
+    return signed_twice("sign")
+
+
+def next_check():
+    """A key that expires, and that nobody certifies: whether a check is due."""
+    make(expires="1d")
+    own()
+    gpg("--check-trustdb")
+    listing = printed()
+    told = run("\n".join([f"date {gnupg.clock}", "import", *listing.splitlines(), ".", "list", ""])).stdout.decode()
+    due = [[fields[4] for fields in records(text) if fields[0] == "tru"] for text in (listing, told)]
+    return [tuple("no" if date == ["0"] else "yes" for date in due)]
+
+
+def expiring_certification():
+    """A certification at the second of its expiry."""
+    a, b = make(2)
+    sign(a, b, "--default-cert-expire", "1d")
+    expiry = gnupg.clock + DAY
+    own(key0=ULTIMATE)
+    return [(asked_gnupg(1, date), asked_program(1, date)) for date in (expiry - 1, expiry)]
+
+
+def revocation_of_the_same_second():
+    """A certification and its revocation of one second; gpg stores the revocation first."""
+    a, b = make(2)
+    sign(a, b)
+    gpg("--command-fd", "0", "--edit-key", b, given="revsig\nn\ny\ny\n0\n\ny\nsave\n", batch=False)
+    if not any(fields[0] == "rev" for fields in records(printed())):
+        raise NoGnuPG("no certification was revoked")
+    own(key0=ULTIMATE)
+    return [(asked_gnupg(1), asked_program(1))]
+
+
+def never_lifted():
+    """A trust signature on a key of the ownertrust never."""
+    a, b, c = make(3)
+    trust_sign(a, b, 2, 1)
+    sign(b, c)
+    own(key0=ULTIMATE, key1=NEVER)
+    return [(asked_gnupg(2), asked_program(2))]
+
+
+def expired_owner():
+    """An ultimately trusted key that is expired."""
+    a, b = make(expires="1d") + make()
+    sign(a, b)
+    own(key0=ULTIMATE)
+    later(3 * DAY)
+    return [(asked_gnupg(1), asked_program(1))]
+
+
+def revoked_owner():
+    """An ultimately trusted key that is revoked; gpg takes the ownertrust of such a key away, and is given it again."""
+    a, b = make(2)
+    sign(a, b)
+    with open(os.path.join(os.environ["GNUPGHOME"], "openpgp-revocs.d", a + ".rev"), encoding="utf-8") as file:
+        later()
+        gpg("--import", given=file.read().replace(":-----BEGIN", "-----BEGIN"))
+    own(key0=ULTIMATE)
+    return [(asked_gnupg(1), asked_program(1))]
+
+
+# what is compared, and what GnuPG and the program answer, each at one date or at some
+DIFFERENT = {
+    expiring_key: [("f", "f"), ("f", "e"), ("e", "e")],
+    earlier_level: [("q", "f")],
+    last_delegation: [("m", "f")],
+    scope_that_stays: [("-", "f")],
+    scope_beyond_ascii: [("-", "f")],
+    key_from_the_future: [("-", "f")],
+    next_check: [("no", "yes")],
+    certification_that_cannot_be_revoked: [("f", "f"), ("f", "-")],
+}
+SAME = {
+    expiring_certification: [("f", "f"), ("-", "-")],
+    older_certification: [("f", "f"), ("-", "-")],
+    revocation_of_the_same_second: [("f", "f")],
+    never_lifted: [("f", "f")],
+    expired_owner: [("-", "-")],
+    revoked_owner: [("-", "-")],
+}
+
+if __name__ == "__main__":
+    try:
+        for compare, wanted in {**DIFFERENT, **SAME}.items():
+            with home():
+                found = compare()
+            if found != wanted:
+                sys.exit(f"differences: {compare.__doc__} GnuPG and the program answer {found} in place of {wanted}")
+    except NoGnuPG as fault:
+        print(f"differences: skipped: {fault}")
+    else:
+        print(f"differences: {len(DIFFERENT)} as they are told, and {len(SAME)} cases that are shared")

@@ -1,0 +1,100 @@
+#!/usr/bin/env python3
+"""Looks at the documents: links lead somewhere, a block of shell that an output follows prints it, and the man page names what the manual does.
+
+The man page is also read by mandoc or by man, where there is one.
+"""
+import os
+import pathlib
+import re
+import shutil
+import subprocess
+import sys
+
+from program import PROGRAM, folder
+
+TOP = pathlib.Path(__file__).resolve().parent.parent
+DOCUMENTS = sorted([*TOP.glob("*.md"), *TOP.glob("docs/*.md"), *TOP.glob("bench/*.md"), *TOP.glob("examples/**/README.md")])
+FENCED = re.compile(r"^```.*?^```$", re.M | re.S)
+LINK = re.compile(r"\]\(([^)\s]+)\)")
+SESSION = re.compile(r"^```sh\n((?:(?!```).*\n)*)```\n\n```\n((?:(?!```).*\n)*)```$", re.M)
+
+
+def anchors(document):
+    """The headings of a document, as they are linked to."""
+    headings = re.findall(r"^#+ (.*)$", FENCED.sub("", document.read_text(encoding="utf-8")), re.M)
+    return {re.sub(r"[^\w\- ]", "", heading.lower()).replace(" ", "-") for heading in headings}
+
+
+def dead_links():
+    count, dead = 0, []
+    for document in DOCUMENTS:
+        for link in LINK.findall(FENCED.sub("", document.read_text(encoding="utf-8"))):
+            if re.match(r"https?:", link):
+                continue
+            count += 1
+            path, _, anchor = link.partition("#")
+            target = (document.parent / path).resolve() if path else document
+            if not target.exists() or (anchor and anchor not in anchors(target)):
+                dead.append(f"{document.relative_to(TOP)}: {link}")
+    return f"{count} links", dead
+
+
+def sessions():
+    """Each block of shell that an output follows, in an empty folder."""
+    count, faults = 0, []
+    with folder() as tools:
+        os.symlink(PROGRAM, os.path.join(tools, "wot"))
+        environment = {**os.environ, "PATH": tools + os.pathsep + os.environ["PATH"]}
+        for document in DOCUMENTS:
+            for text, wanted in SESSION.findall(document.read_text(encoding="utf-8")):
+                count += 1
+                with folder() as here:
+                    done = subprocess.run(["sh"], input=text, capture_output=True, text=True, cwd=here, env=environment, timeout=60, check=False)
+                if done.stdout != wanted:
+                    faults.append(f"{document.relative_to(TOP)}: {text.splitlines()[0]} .. prints\n{done.stdout}in place of\n{wanted}")
+    return f"{count} sessions", faults
+
+
+def first_session():
+    """The session of the README is the stored run of the program."""
+    readme = (TOP / "README.md").read_text(encoding="utf-8")
+    stored = [(TOP / "crates" / "wot" / name).read_text(encoding="utf-8") for name in ("stdin", "stdout")]
+    return "the first session", [] if f"{stored[0]}END\n```\n\n```\n{stored[1]}```\n" in readme else ["README.md: not the session of crates/wot"]
+
+
+def rows(heading):
+    """The first columns of the tables of the manual under a heading."""
+    part = (TOP / "docs" / "MANUAL.md").read_text(encoding="utf-8").split(f"# {heading}\n")[1].split("\n#")[0]
+    return [[cell.strip() for cell in line.strip("|").split("|")] for line in part.splitlines() if line.startswith("| ")][1:]
+
+
+def man_page():
+    """The commands, refusals, limits and exit codes of the manual stand in the man page too."""
+    page = (TOP / "docs" / "wot.1").read_text(encoding="utf-8").replace("\\-", "-").replace("\\fR", "")
+    page = re.sub(r"\\f[BI]|^\.(TP|PP|BR?|I)\b *", "", page, flags=re.M)
+    commands = [command for row in rows("Commands") for command in re.findall(r"`([^`]+)`", row[0])]
+    refusals = [row[0].strip("`") for row in rows("Refusals")]
+    limits = [part for row in rows("Limits") for part in (row[0].strip("`"), re.match(r"[\d,]+", row[1])[0])]
+    codes = [part for row in rows("Exit status") for part in (f"\n{row[0]}\n", *re.findall(r"`([^`]+)`", row[2]))]
+    named = [*commands, *refusals, *limits, *codes]
+    return f"a man page with {len(named)} names", [f"wot.1: no {name.strip()}" for name in named if name not in page]
+
+
+def man_is_read():
+    """The man page has no warnings."""
+    page = str(TOP / "docs" / "wot.1")
+    if shutil.which("mandoc"):
+        done = subprocess.run(["mandoc", "-T", "lint", "-W", "warning", page], capture_output=True, text=True, timeout=60, check=False)
+        return "read by mandoc", done.stdout.splitlines()
+    if shutil.which("man") and shutil.which("groff"):
+        done = subprocess.run(["man", "--warnings", "-Tutf8", "-Z", "-l", page], capture_output=True, text=True, timeout=60, check=False)
+        return "read by man", done.stderr.splitlines()
+    return "not read: no mandoc and no man", []
+
+
+if __name__ == "__main__":
+    found = [check() for check in (dead_links, sessions, first_session, man_page, man_is_read)]
+    wrong = [line for _, lines in found for line in lines]
+    if wrong:
+        sys.exit("\n".join(["documents:", *wrong]))
+    print("documents: " + ", ".join(said for said, _ in found))
