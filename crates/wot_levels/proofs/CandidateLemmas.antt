@@ -180,10 +180,10 @@ tally_more c found fs =
 
 pub at_most_counted : (c : Count) (n : ℕ) (found : Option (Row × Placed)) → IsAtMost c n → IsAtMost (counted c found) (n + 1)
 at_most_counted c n found h = record {
-  ultimate = one (λ t. t == 6) c.ultimate h.ultimate;
-  full = one (λ t. t == 5) c.full h.full;
-  marginal = one (λ t. t == 4) c.marginal h.marginal;
-  other = one (λ t. nat_lt t 4) c.other h.other;
+  ultimate = one is_ultimate c.ultimate h.ultimate;
+  full = one is_fully_trusted c.full h.full;
+  marginal = one is_marginal c.marginal h.marginal;
+  other = one is_below_marginal c.other h.other;
 }
   where
     small : (test : Trust → Bool) → (r : Option (Row × Placed)) → one_if test r ≤ 1
