@@ -4,6 +4,7 @@ ghost use Rattle.std.specs.Prelude.{◌≡◌, ◌<◌, ℕ, IfOk};
 ghost use Rattle.wot_types.specs.Keyring.{key_certs};
 ghost use Rattle.wot_types.specs.Sample.{sample_cert, sample_certs, sample_key};
 
+use crate::dates::MADE;
 use crate::draws::draw;
 use crate::names::key_id;
 use std::alloc::Global;
@@ -25,7 +26,7 @@ fn cert(seed: u64, i: u32, c: u8) -> Cert
         issuer: key_id(seed, issuer as u32),
         class: 0x10,
         local: false,
-        made: 1_600_000_000 + made as u32,
+        made: MADE + made as u32,
         expires: 0,
         depth,
         amount,

@@ -2,6 +2,7 @@
 #![tactic(auto)]
 
 mod certs; // the certifications on a key
+mod dates; // when keys are made and end
 mod draws; // numbers drawn from a seed
 mod names; // key IDs, fingerprints and texts
 mod one_key; // a key

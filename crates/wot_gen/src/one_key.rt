@@ -1,17 +1,15 @@
 //! Generated keys.
 
-ghost use Rattle.std.specs.Prelude.{◌≡◌, ◌==◌, ◌%◌, ◌<◌, ◌∷◌, [], ℕ, IfOk, if◌then◌else◌};
+ghost use Rattle.std.specs.Prelude.{◌≡◌, ◌<◌, ◌∷◌, [], ℕ, IfOk};
 ghost use Rattle.wot_types.specs.Sample.{sample_key, sample_user};
 ghost use Rattle.wot_types.specs.Totals.{key_text};
 ghost use Rattle.wot_types.specs.WellFormed.{IsWellFormed};
 
 use crate::certs::certs;
+use crate::dates::{MADE, expires};
 use crate::names::{fpr, text, text_len};
 use std::alloc::Global;
 use wot_types::{Key, Mem, Text, User, UserKind, Users};
-
-/// When generated keys and their user IDs were made, in seconds since 1970.
-const MADE: u32 = 1_600_000_000;
 
 /// The user IDs of key `i`: one.
 fn users(alloc: Global, seed: u64, i: u32) -> Result<Users, Mem>
@@ -28,13 +26,6 @@ fn users(alloc: Global, seed: u64, i: u32) -> Result<Users, Mem>
         certs: certs(alloc, seed, i)?,
     })?;
     Ok(users)
-}
-
-/// When key `i` ends: each fiftieth does, and no other.
-fn expires(i: u32) -> u32
-    ensures { result ≡ if i % 50 == 49 then 1700000000 else 0 }
-{
-    if i % 50 == 49 { 1_700_000_000 } else { 0 }
 }
 
 /// Key `i` of the `n` keys of a seed.

@@ -2,6 +2,7 @@
 
 ghost use Rattle.std.specs.Prelude.{◌≡◌, IfOk};
 ghost use Rattle.wot_types.specs.Accepted.{AreImportable};
+ghost use Rattle.wot_types.specs.Payload.{AreSettable};
 ghost use Rattle.wot_types.specs.Sample.{sample_entries, sample_keys};
 
 use crate::one_key::key;
@@ -23,7 +24,8 @@ pub fn keys(alloc: Global, seed: u64, n: u32) -> Result<Keys, Mem>
 
 /// The ownertrust entries of those keys, in their order.
 pub fn entries(alloc: Global, seed: u64, n: u32) -> Result<Entries, Mem>
-    ensures { IfOk result (λ entries. entries ≡ sample_entries seed n) }
+    ensures made { IfOk result (λ entries. entries ≡ sample_entries seed n) }
+    ensures settable { IfOk result AreSettable }
 {
     let mut entries = Entries::new(alloc);
     for i in 0..n {

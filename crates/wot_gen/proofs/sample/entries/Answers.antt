@@ -1,6 +1,7 @@
-use Rattle.std.proofs.Common.{[], ◌∷◌, ◌++◌, sym, ap, ◌∙◌}
+use Rattle.std.proofs.Common.{rules, arith, [], ◌∷◌, ◌++◌, sym, ap, ◌∙◌}
 use Rattle.wot_types.specs.Sample.{sample_entry}
 use Rattle.wot_gen.proofs.Ranges.{filter_map_none, filter_map_some}
+use Rattle.wot_gen.proofs.SettableEntries.{settable}
 use Rattle.wot_gen.proofs.sample.entries.Goals.{in-Some+in_ok-push, in_default}
 use Rattle.wot_gen.proofs.sample.entries.Goals as goal
 
@@ -15,3 +16,6 @@ loop-i-preserved c =
       | in_default w ↦
           w.entries-is ∙ c.loop-i.invariant ∙ sym (filter_map_none (sample_entry c.args.seed) c.loop-i.i (sym c.entry.ensures ∙ w.in_default.is))
     ]
+
+pub returns-clause-settable : goal.returns-clause-settable
+returns-clause-settable c = settable _ c.args.seed c.args.n (search rules) (omega arith)
