@@ -1,2 +1,2 @@
 pub mod ProgramWords
-pub mod Asked
+pub mod CommandLine

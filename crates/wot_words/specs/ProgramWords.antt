@@ -3,9 +3,13 @@ use Rattle.std.specs.Prelude.{ℕ, ◌&&◌, nat_eq, nat_le, Bool, List, [], ◌
 use Rattle.std.specs.Cmp.Lexicographic.{pointwise}
 use Rattle.wot_types.specs.Bytes.{is_word}
 use Rattle.wot_types.specs.Numbers.{number}
-use Rattle.wot_words.specs.declared.reading.Stage.{Stage}
-use Rattle.wot_words.specs.declared.reading.Stage.TheVariants.{Options, Workers, Command}
 use Rattle.wot_words.specs.declared.words.ProgramWords.{ProgramWords}
+
+-- what the next word may be: an option or a command's word, the number of workers, or a command's word alone
+pub data Stage : Type 0 where
+  Options : Stage
+  Workers : Stage
+  Command : Stage
 
 abbrev pub begins_with : List ℕ → List ℕ → Bool
 begins_with text word = pointwise nat_eq (take (length text) word) text

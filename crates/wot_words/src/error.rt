@@ -1,8 +1,12 @@
 //! Why the words ask for nothing.
 
-ghost use Rattle.std.specs.Prelude.{◌≡◌};
-ghost use Rattle.wot_words.specs.declared.error.WordsError.TheVariants.{Memory};
+ghost use Rattle.std.specs.Prelude.{◌≡◌, ◌≢◌};
+ghost use Rattle.clap.specs.Words.{kind_of};
+ghost use Rattle.clap.specs.declared.error.kind.ErrorKind.TheVariants.{OutOfMemory};
+ghost use Rattle.wot_words.specs.declared.error.WordsError.TheVariants.{Memory, Usage};
 
+use clap::error::ErrorKind;
+use std::alloc::AllocError;
 use thiserror::Error;
 use wot_types::Mem;
 
@@ -21,5 +25,24 @@ impl From<Mem> for WordsError {
 
     fn from(_e: Mem) -> WordsError {
         WordsError::Memory
+    }
+}
+
+impl From<AllocError> for WordsError {
+    ghost from_gives = { λ _ e. e ≡ Memory };
+
+    fn from(_e: AllocError) -> WordsError {
+        WordsError::Memory
+    }
+}
+
+impl From<clap::Error> for WordsError {
+    ghost from_gives = { λ error e. e ≡ Usage → kind_of error ≢ OutOfMemory };
+
+    fn from(error: clap::Error) -> WordsError {
+        match error.kind() {
+            ErrorKind::OutOfMemory => WordsError::Memory,
+            _ => WordsError::Usage,
+        }
     }
 }

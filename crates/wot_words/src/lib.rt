@@ -2,7 +2,7 @@
 #![tactic(auto)]
 
 mod error; // why the words ask for nothing
-mod reading; // the words from left to right
+mod command_line; // the command line that `clap` reads
 mod words; // what all the words ask for
 
 pub use error::WordsError;
