@@ -1,5 +1,5 @@
 -- The candidates for a user ID, run by run.
-use Rattle.std.proofs.Common.{◌≡◌, ◌+◌, ◌<◌, ◌≤◌, ◌==◌, ◌&&◌, ◌||◌, not, ℕ, T, Bool, true, false, cond, List, [], ◌∷◌, ◌++◌, filter, count_by, length, nat_lt, Option, Some, None, option_map, option_and_then, is_some, slice_get, refl, sym, ap, subst, ◌∙◌, arith}
+use Rattle.std.proofs.Common.{◌≡◌, ◌+◌, ◌<◌, ◌≤◌, ◌==◌, ◌&&◌, ◌||◌, not, ℕ, T, Bool, true, false, cond, List, [], ◌∷◌, ◌++◌, filter, count_by, length, Option, Some, None, option_map, option_and_then, is_some, slice_get, refl, sym, ap, subst, ◌∙◌, arith}
 use Rattle.std.specs.declared.cmp.Ordering.TheVariants.{Less, Equal, Greater}
 use Rattle.std.specs.List.{cons_option, filter_map}
 use Rattle.std.specs.FinMap as finmap
@@ -180,10 +180,10 @@ tally_more c found fs =
 
 pub at_most_counted : (c : Count) (n : ℕ) (found : Option (Row × Placed)) → IsAtMost c n → IsAtMost (counted c found) (n + 1)
 at_most_counted c n found h = record {
-  ultimate = one (λ t. t == 6) c.ultimate h.ultimate;
-  full = one (λ t. t == 5) c.full h.full;
-  marginal = one (λ t. t == 4) c.marginal h.marginal;
-  other = one (λ t. nat_lt t 4) c.other h.other;
+  ultimate = one is_ultimate c.ultimate h.ultimate;
+  full = one is_fully_trusted c.full h.full;
+  marginal = one is_marginal c.marginal h.marginal;
+  other = one is_below_marginal c.other h.other;
 }
   where
     small : (test : Trust → Bool) → (r : Option (Row × Placed)) → one_if test r ≤ 1
