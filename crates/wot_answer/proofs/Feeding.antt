@@ -28,6 +28,7 @@ by_name (Some named.Date) words head opens is = cc
 by_name (Some named.Options) words head opens is = cc
 by_name (Some named.Import) words head opens is = inl (is_same (first_bad 1 [] words) Import head is)
 by_name (Some named.Ownertrust) words head opens is = inr (is_same (first_bad 1 [] words) Ownertrust head is)
+by_name (Some named.Sample) words head opens is = cc
 by_name (Some named.List) words head opens is = cc
 by_name (Some named.Sigs) words head opens is = cc
 by_name (Some named.Export) words head opens is = cc

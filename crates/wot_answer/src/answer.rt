@@ -19,6 +19,7 @@ ghost use Rattle.wot_answer.specs.declared.answer.Cut.TheVariants.{Between};
 
 use crate::block::{Block, Body};
 use crate::edit::make_edit;
+use crate::edit_reply::EditReply;
 use crate::query::{answer_query, has_key};
 use crate::reply::{Answer, refuse, say_nothing};
 use crate::words::{has_block, is_quit, line_words, without_return};
@@ -182,7 +183,13 @@ fn import_listing(
     match listing.finish() {
         Ok(Blocks { keys, kept, passed }) => {
             let reply = imported(alloc, keys.len() as u64, kept, passed)?;
-            make_edit(alloc, engine, end, Edit::Import(keys), reply)
+            make_edit(
+                alloc,
+                engine,
+                end,
+                Edit::Import(keys),
+                EditReply::Text(reply),
+            )
         }
         Err(ListingError::Fault(fault)) => refuse(alloc, engine, Refusal::Listing(fault)),
         Err(ListingError::Memory) => Err(Mem::Memory),
@@ -204,7 +211,13 @@ fn set_entries(
     match text.finish(alloc) {
         Ok(entries) => {
             let reply = set(alloc, entries.len() as u64)?;
-            make_edit(alloc, engine, end, Edit::Ownertrust(entries), reply)
+            make_edit(
+                alloc,
+                engine,
+                end,
+                Edit::Ownertrust(entries),
+                EditReply::Text(reply),
+            )
         }
         Err(TextError::Fault(line, what)) => refuse(alloc, engine, Refusal::Ownertrust(line, what)),
         Err(TextError::Memory) => Err(Mem::Memory),
@@ -221,7 +234,7 @@ pub fn answer_words(alloc: Global, engine: Engine, end: u64, words: &Words) -> R
     }
     match read_head(words) {
         Ok(Head::Edit(edit)) => {
-            let reply = ok(alloc)?;
+            let reply = EditReply::to(alloc, &edit)?;
             make_edit(alloc, engine, end, edit, reply)
         }
         Ok(Head::Query(query)) => answer_query(alloc, engine, &query),
@@ -241,7 +254,13 @@ fn delete_key(alloc: Global, engine: Engine, end: u64, fpr: &Fpr) -> Result<Answ
         return refuse(alloc, engine, Refusal::NoSuchKey);
     }
     let reply = ok(alloc)?;
-    make_edit(alloc, engine, end, Edit::Delete(fpr.key_id()), reply)
+    make_edit(
+        alloc,
+        engine,
+        end,
+        Edit::Delete(fpr.key_id()),
+        EditReply::Text(reply),
+    )
 }
 
 /// The block of a run of one command, which goes to the end of the input.

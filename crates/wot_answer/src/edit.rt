@@ -1,13 +1,15 @@
 //! An edit: it is refused, or its record is built and it is made.
 
 ghost use Rattle.std.specs.Prelude.{◌≡◌, None, IfOk};
-ghost use Rattle.wot_types.specs.Outcome.{edit_outcome, refusal_of};
+ghost use Rattle.wot_types.specs.Outcome.{edit_outcome, edited, refusal_of};
 ghost use Rattle.wot_types.specs.Payload.{IsProper};
 ghost use Rattle.wot_types.specs.Store.{Store};
 ghost use Rattle.wot_answer.specs.Answer.{Ends};
+ghost use Rattle.wot_answer.specs.EditReply.{reply_text};
 ghost use Rattle.wot_answer.specs.declared.answer.Cut.TheVariants.{Between};
 
 use crate::answer::{Answered, Cut};
+use crate::edit_reply::EditReply;
 use crate::reply::{Answer, Effect, refuse};
 use std::alloc::Global;
 use wot_commands::{change, refusal};
@@ -17,16 +19,16 @@ use wot_spelling::encode;
 use wot_types::{Edit, Mem, Refusal};
 
 /// Makes an edit that isn't refused, and replies so. What may refuse it is tried first, then its record is built for the
-/// journal's end, and only then the engine changes.
+/// journal's end, and only then the engine changes. The reply is what is told of the changed engine.
 pub fn make_edit(
     alloc: Global,
     engine: Engine,
     end: u64,
     edit: Edit,
-    reply: Vec<u8>,
+    reply: EditReply,
 ) -> Result<Answered, Mem>
     requires proper { IsProper edit }
-    ensures ends { IfOk result (λ answered. (s : Store) → engine ≡ s.state → end ≡ s.end → Ends answered s (edit_outcome reply.items s edit)) }
+    ensures ends { IfOk result (λ answered. (s : Store) → engine ≡ s.state → end ≡ s.end → Ends answered s (edit_outcome (reply_text reply (edited s.state edit)) s edit)) }
     ensures cut { IfOk result (λ answered. answered.cut ≡ Between) }
 {
     match refusal(&engine, &edit) {
@@ -41,21 +43,22 @@ fn make_allowed(
     engine: Engine,
     end: u64,
     edit: Edit,
-    reply: Vec<u8>,
+    reply: EditReply,
 ) -> Result<Answered, Mem>
     requires proper { IsProper edit }
     requires allowed { refusal_of engine edit ≡ None }
-    ensures ends { IfOk result (λ answered. (s : Store) → engine ≡ s.state → end ≡ s.end → Ends answered s (edit_outcome reply.items s edit)) }
+    ensures ends { IfOk result (λ answered. (s : Store) → engine ≡ s.state → end ≡ s.end → Ends answered s (edit_outcome (reply_text reply (edited s.state edit)) s edit)) }
     ensures cut { IfOk result (λ answered. answered.cut ≡ Between) }
 {
     let payload = encode(alloc, &edit)?;
     match build(alloc, &payload, end) {
         Ok(built) => {
             let engine = change(engine, edit)?;
+            let text = reply.into_text(alloc, &engine)?;
             Ok(Answered {
                 engine,
                 answer: Answer {
-                    text: reply,
+                    text,
                     refused: false,
                     effect: Effect::Append(built),
                 },

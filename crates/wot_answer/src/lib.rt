@@ -5,6 +5,7 @@
 mod answer; // the answers to lines, to blocks at the input's end and to words
 mod block; // a command's block, read as it comes
 mod edit; // an edit that is refused or made
+mod edit_reply; // what an accepted edit is answered with
 mod query; // what a query is answered with
 mod reply; // a reply with the engine that it leaves
 mod words; // the words of a line

@@ -10,7 +10,7 @@ use Rattle.std.proofs.lemmas.Grind.{flat_map-append}
 use Rattle.std.proofs.lemmas.List.Elements.{All-cons, All-head, All-nil, All-tail}
 use Rattle.std.proofs.lemmas.List.Splits.{slice_split_at}
 use Rattle.wot_types.specs.declared.edit.Edit.{Edit}
-use Rattle.wot_types.specs.declared.edit.Edit.TheVariants.{Import, Ownertrust, Delete}
+use Rattle.wot_types.specs.declared.edit.Edit.TheVariants.{Import, Ownertrust, Set, Flag, Delete, Date, Options, Sample}
 use Rattle.wot_types.specs.declared.edit.Head.{Head}
 use Rattle.wot_types.specs.declared.edit.Head.TheVariants.{Edit as EditHead, Query as QueryHead, DeleteKey, Import as ImportHead, Ownertrust as OwnertrustHead}
 use Rattle.wot_types.specs.declared.edit.Query.{Query}
@@ -37,9 +37,10 @@ use Rattle.wot_types.specs.Keyring.{has_fpr}
 use Rattle.wot_types.specs.Letters.{key_letter}
 use Rattle.wot_types.specs.Levels.{rows_of}
 use Rattle.wot_types.specs.Lines.{front_of, is_newline, last_of, open_line, whole_lines}
+use Rattle.wot_types.proofs.ListEnds.{front_of_more, last_of_more}
 use Rattle.wot_types.specs.Listing.{fault_at_end, kept_of, listed_keys, passed_of}
 use Rattle.wot_types.specs.NextCheck.{next_check}
-use Rattle.wot_types.specs.Outcome.{Outcome, answer_to, block_outcome, edit_outcome, entries_outcome, has_long_line, head_outcome, is_past, listing_outcome, ok_line, outcome, query_refusal, refusal_of, refuse, unless_refused, unless_unanswered, words_outcome}
+use Rattle.wot_types.specs.Outcome.{Outcome, answer_to, block_outcome, edit_outcome, edit_reply, edited, entries_outcome, has_long_line, head_outcome, is_past, listing_outcome, ok_line, outcome, query_refusal, refusal_of, refuse, sample_reply, unless_refused, unless_unanswered, words_outcome}
 use Rattle.wot_types.specs.Ownertrust.{ownertrust_of, ownertrust_line}
 use Rattle.wot_types.specs.OwnertrustText.{listed_entries, ownertrust_fault}
 use Rattle.wot_types.specs.Printing.{cert_line, key_id_text, key_lines, list_text, listed, user_lines}
@@ -47,12 +48,13 @@ use Rattle.wot_types.specs.Refusals.{fault_name, limit_name, ownertrust_fault_na
 use Rattle.wot_types.specs.Selection.{spots_from}
 use Rattle.wot_types.specs.Store.{Store}
 use Rattle.wot_types.specs.Store.Change.{makes}
+use Rattle.wot_types.specs.Tally.{tally_line}
 use Rattle.wot_types.specs.WellFormed.{IsUser, IsWellFormed}
 use Rattle.wot_types.specs.WhyText.{by_line, letter_of, row_line, why_text}
 use Rattle.wot_types.proofs.FinMaps.{IfSome-get}
 use Rattle.wot_examples.specs.Replies.{AreWellFormed, IsReply, ends_reply, is_silent, tells}
 use Rattle.wot_examples.proofs.PlainTexts.{ArePlain, IsPlain, joined, plain_decimal, plain_joined, plain_key_id}
-use Rattle.wot_examples.proofs.ReplyLines.{GoesOn, all_plain, both, by_goes_on, cert_goes_on, cut_goes_on, each, each_of, entry_goes_on, fpr_goes_on, nothing, pub_goes_on, row_goes_on, tru_goes_on, user_goes_on, why_goes_on}
+use Rattle.wot_examples.proofs.ReplyLines.{GoesOn, all_plain, both, by_goes_on, cert_goes_on, cut_goes_on, each, each_of, entry_goes_on, fpr_goes_on, nothing, pub_goes_on, row_goes_on, tally_goes_on, tru_goes_on, user_goes_on, why_goes_on}
 
 -- ---- whole lines, cut again
 
@@ -68,15 +70,6 @@ split_lines (line ∷ lines) h =
     ap (slice_split is_newline) (append_assoc line (10 ∷ []) (flat_map reply_line lines))
     ∙ slice_split_at is_newline line 10 (flat_map reply_line lines) (free_of_newline line h.0) refl
     ∙ ap (λ l. line ∷ l) (split_lines lines h.1)
-
-front_of_more : {X : Type 0} (xs : List X) (x : X) → front_of (xs ++ x ∷ []) ≡ xs
-front_of_more [] x = refl
-front_of_more (y ∷ []) x = refl
-front_of_more (y ∷ z ∷ xs) x = ap (λ l. y ∷ l) (front_of_more (z ∷ xs) x)
-
-last_of_more : {X : Type 0} (xs : List X) (x d : X) → last_of (xs ++ x ∷ []) d ≡ x
-last_of_more [] x d = refl
-last_of_more (y ∷ xs) x d = last_of_more xs x y
 
 pub whole_lines_are : (lines : List (List ℕ)) → ArePlain lines → whole_lines (flat_map reply_line lines) ≡ lines
 whole_lines_are lines h = ap front_of (split_lines lines h) ∙ front_of_more lines []
@@ -178,20 +171,39 @@ ok_ends = record { plain = refl; ends = refl; told = refl }
 ok : (text : List ℕ) (parts : List (List ℕ)) → IsPlain text → ArePlain parts → ends_reply (joined text parts) ≡ true → tells false (joined text parts) ≡ true → Ends false (joined text parts)
 ok text parts p q e v = record { plain = plain_joined text parts p q; ends = e; told = v }
 
-fitting_replies : (line : List ℕ) (edit : Edit) (past : Bool) → Ends false line
-    → Replies (if past then refuse JournalFull else record { text = reply_line line; refused = false; change = makes edit })
-fitting_replies line edit true q = refused JournalFull
-fitting_replies line edit false q = one_line false line q
+fitting_replies : (text : List ℕ) (edit : Edit) (past : Bool) → Answered false text
+    → Replies (if past then refuse JournalFull else record { text = text; refused = false; change = makes edit })
+fitting_replies text edit true q = refused JournalFull
+fitting_replies text edit false q = q
 
-unless_replies : (why : Option Refusal) (line : List ℕ) (s : Store) (edit : Edit) → Ends false line → Replies (unless_refused why (reply_line line) s edit)
-unless_replies None line s edit q = fitting_replies line edit (is_past s.end edit) q
-unless_replies (Some why) line s edit q = refused why
+unless_replies : (why : Option Refusal) (text : List ℕ) (s : Store) (edit : Edit) → Answered false text → Replies (unless_refused why text s edit)
+unless_replies None text s edit q = fitting_replies text edit (is_past s.end edit) q
+unless_replies (Some why) text s edit q = refused why
 
-edit_replies : (line : List ℕ) (s : Store) (edit : Edit) → Ends false line → Replies (edit_outcome (reply_line line) s edit)
-edit_replies line s edit q = unless_replies (refusal_of s.state edit) line s edit q
+edit_replies : (text : List ℕ) (s : Store) (edit : Edit) → Answered false text → Replies (edit_outcome text s edit)
+edit_replies text s edit q = unless_replies (refusal_of s.state edit) text s edit q
+
+ok_alone : Answered false ok_line
+ok_alone = one_line false (codes "ok") ok_ends
+
+-- after a sample: a tally, and how many keys it has
+sample_replies : (after : State) (count : ℕ) → Answered false (sample_reply after count)
+sample_replies after count =
+    reply false (tally_line after (rows_of after)) (joined (codes "ok keys ") (decimal count ∷ [])) (tally_goes_on after (rows_of after))
+    (ok (codes "ok keys ") (decimal count ∷ []) refl (plain_decimal count, tt) refl refl)
+
+reply_to : (s : State) (edit : Edit) → Answered false (edit_reply s edit)
+reply_to s (Import keys) = ok_alone
+reply_to s (Ownertrust entries) = ok_alone
+reply_to s (Set fpr trust) = ok_alone
+reply_to s (Flag fpr disabled) = ok_alone
+reply_to s (Delete id) = ok_alone
+reply_to s (Date date) = ok_alone
+reply_to s (Options options) = ok_alone
+reply_to s (Sample seed count) = sample_replies (edited s (Sample seed count)) count
 
 delete_replies : (s : Store) (fpr : List ℕ) (has : Bool) → Replies (if has then edit_outcome ok_line s (Delete (key_id_of fpr)) else refuse NoSuchKey)
-delete_replies s fpr true = edit_replies (codes "ok") s (Delete (key_id_of fpr)) ok_ends
+delete_replies s fpr true = edit_replies ok_line s (Delete (key_id_of fpr)) ok_alone
 delete_replies s fpr false = refused NoSuchKey
 
 -- ---- blocks
@@ -200,14 +212,15 @@ listing_replies : (fault : Option ListingFault) (s : Store) (lines : List (List 
 listing_replies (Some fault) s lines = refused (Listing fault)
 listing_replies None s lines =
     let parts : List (List ℕ) = decimal (length (listed_keys lines)) ∷ codes " kept " ∷ decimal (kept_of lines) ∷ codes " passed " ∷ decimal (passed_of lines) ∷ [] in
-    edit_replies (joined (codes "ok keys ") parts) s (Import (listed_keys lines))
-    (ok (codes "ok keys ") parts refl (plain_decimal (length (listed_keys lines)), (refl, (plain_decimal (kept_of lines), (refl, (plain_decimal (passed_of lines), tt))))) refl refl)
+    edit_replies (reply_line (joined (codes "ok keys ") parts)) s (Import (listed_keys lines))
+    (one_line false (joined (codes "ok keys ") parts) (ok (codes "ok keys ") parts refl (plain_decimal (length (listed_keys lines)), (refl, (plain_decimal (kept_of lines), (refl, (plain_decimal (passed_of lines), tt))))) refl refl))
 
 entries_replies : (fault : Option (ℕ × OwnertrustFault)) (s : Store) (lines : List (List ℕ)) → Replies (entries_outcome fault s lines)
 entries_replies (Some fault) s lines = refused (OwnertrustRefusal fault.0 fault.1)
 entries_replies None s lines =
     let parts : List (List ℕ) = decimal (length (listed_entries lines)) ∷ [] in
-    edit_replies (joined (codes "ok entries ") parts) s (Ownertrust (listed_entries lines)) (ok (codes "ok entries ") parts refl (plain_decimal (length (listed_entries lines)), tt) refl refl)
+    edit_replies (reply_line (joined (codes "ok entries ") parts)) s (Ownertrust (listed_entries lines))
+    (one_line false (joined (codes "ok entries ") parts) (ok (codes "ok entries ") parts refl (plain_decimal (length (listed_entries lines)), tt) refl refl))
 
 ended_replies : (o : Outcome) (ended : Bool) → Replies o → Replies (if ended then o else refuse UnendedBlock)
 ended_replies o true r = r
@@ -270,7 +283,7 @@ query_replies None text p = reply false text (codes "ok") p ok_ends
 module _ (s : Store) (command : Command) (w : AreWellFormed s.state.keys) where
   head_replies : (head : Result Head Refusal) → Replies (head_outcome s command head)
   head_replies (Err why) = refused why
-  head_replies (Ok (EditHead edit)) = edit_replies (codes "ok") s edit ok_ends
+  head_replies (Ok (EditHead edit)) = edit_replies (edit_reply s.state edit) s edit (reply_to s.state edit)
   head_replies (Ok (QueryHead query)) = query_replies (query_refusal s.state query) (answer_to s.state query) (answer_goes_on s.state query w)
   head_replies (Ok (DeleteKey fpr)) = delete_replies s fpr (has_fpr s.state.keys fpr)
   head_replies (Ok ImportHead) =

@@ -1,5 +1,6 @@
 -- The lines that are printed before a reply's last one: none of them ends the reply.
 use Rattle.std.proofs.Common.{◌≡◌, ℕ, ◌+◌, ◌/◌, ◌%◌, ◌==◌, false, List, [], ◌∷◌, ◌++◌, append_assoc, append-nil, subst, refl, sym, ap, ◌∙◌, slice_index, nat_eq, All, codes, decimal}
+use Rattle.std.specs.FinMap as finmap
 use Rattle.std.specs.List.{flat_map, list_any}
 use Rattle.std.proofs.lemmas.Bool.{and_left, cond_both, or_from}
 use Rattle.std.proofs.lemmas.Grind.{flat_map-append}
@@ -10,17 +11,22 @@ use Rattle.wot_types.specs.declared.cert.Cert.{Cert}
 use Rattle.wot_types.specs.declared.count.Count.{Count}
 use Rattle.wot_types.specs.declared.key.Key.{Key}
 use Rattle.wot_types.specs.declared.letter.Letter.{Letter}
+use Rattle.wot_types.specs.declared.letter.Letter.TheVariants.{Dash, Q, M, F, U, R, E}
 use Rattle.wot_types.specs.declared.options.Options.{Options}
 use Rattle.wot_types.specs.declared.ownertrust.Ownertrust.{Ownertrust}
 use Rattle.wot_types.specs.declared.row.Row.{Row}
 use Rattle.wot_types.specs.declared.user.User.{User}
 use Rattle.wot_types.specs.declared.user.UserKind.{UserKind}
 use Rattle.wot_types.specs.declared.user.UserKind.TheVariants.{Uid, Uat}
+use Rattle.wot_types.specs.State.{State}
+use Rattle.wot_types.specs.Candidates.{RowMap}
+use Rattle.wot_types.specs.Numbers.{capped}
 use Rattle.wot_types.specs.Ownertrust.{ownertrust_line, ownertrust_number}
 use Rattle.wot_types.specs.Printing.{capabilities_text, cert_line, class_text, depth_text, ended_field, expiry_field, fpr_line, key_id_text, kind_text, letter_text, model_text, number_field, pub_line, scope_text, tru_line, user_line}
 use Rattle.wot_types.specs.Quotes.{printed}
 use Rattle.wot_types.specs.Records.{is_capability, is_hash_byte}
 use Rattle.wot_types.specs.Refusals.{reply_line}
+use Rattle.wot_types.specs.Tally.{count_field, letter_count, tally_line}
 use Rattle.wot_types.specs.Trust.{trust_text}
 use Rattle.wot_types.specs.WhyText.{by_line, count_fields, cut_line, row_line, why_line}
 use Rattle.wot_types.specs.WellFormed.{IsUser, IsWellFormed}
@@ -173,6 +179,21 @@ by_goes_on row = line_of (codes "by:") (ended_field (key_id_text row.key) ∷ en
 
 pub cut_goes_on : (letter : Letter) → GoesOn (cut_line letter)
 cut_goes_on letter = line_of (codes "cut:") (ended_field (letter_text letter) ∷ []) refl (plain_field (letter_text letter) (plain_letter letter), tt) refl
+
+-- ---- a tally
+
+plain_count : (n : ℕ) → IsPlain (count_field n)
+plain_count n = plain_field (decimal n) (plain_decimal n)
+
+pub tally_goes_on : (s : State) (rows : RowMap) → GoesOn (tally_line s rows)
+tally_goes_on s rows =
+    let count : Letter → ℕ = letter_count s rows in
+    let fields : List (List ℕ) =
+    count_field (capped (finmap.len rows)) ∷ count_field (count U) ∷ count_field (count F) ∷ count_field (count M) ∷ count_field (count Q) ∷ count_field (count Dash) ∷ count_field (count R) ∷ count_field (count E) ∷ [] in
+    line_of (codes "tally:") fields refl (
+      plain_count (capped (finmap.len rows)),
+      (plain_count (count U), (plain_count (count F), (plain_count (count M), (plain_count (count Q), (plain_count (count Dash), (plain_count (count R), (plain_count (count E), tt))))))),
+    ) refl
 
 -- ---- the lines of an ownertrust export
 

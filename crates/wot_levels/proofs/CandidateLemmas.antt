@@ -1,5 +1,5 @@
 -- The candidates for a user ID, run by run.
-use Rattle.std.proofs.Common.{◌≡◌, ◌+◌, ◌<◌, ◌≤◌, ◌==◌, ◌&&◌, ◌||◌, not, ℕ, T, Bool, true, false, cond, List, [], ◌∷◌, ◌++◌, filter, count_by, length, nat_lt, Option, Some, None, option_map, option_and_then, is_some, slice_get, refl, sym, ap, subst, ◌∙◌, arith}
+use Rattle.std.proofs.Common.{◌≡◌, ◌+◌, ◌<◌, ◌≤◌, ◌==◌, ◌&&◌, ◌||◌, not, ℕ, T, Bool, true, false, cond, List, [], ◌∷◌, ◌++◌, filter, count_by, length, Option, Some, None, option_map, option_and_then, is_some, slice_get, refl, sym, ap, subst, ◌∙◌, arith}
 use Rattle.std.specs.declared.cmp.Ordering.TheVariants.{Less, Equal, Greater}
 use Rattle.std.specs.List.{cons_option, filter_map}
 use Rattle.std.specs.FinMap as finmap

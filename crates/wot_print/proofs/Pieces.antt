@@ -45,12 +45,12 @@ pub three_parts : (old a b c : List ℕ) → ((old ++ a) ++ b) ++ c ≡ old ++ (
 three_parts old a b c = ap (λ l. l ++ c) (append_assoc old a b) ∙ append_assoc old (a ++ b) c
 
 -- one thing of those that are left is printed
-pub one_of_left : {X : Type 0} (f : X → List ℕ) (old now whole : List ℕ) (x : X) (rest all : List X) → now ≡ old ++ f x → all ≡ x ∷ rest → old ++ flat_map f all ≡ whole
+pub one_of_left : {X Y : Type 0} (f : X → List Y) (old now whole : List Y) (x : X) (rest all : List X) → now ≡ old ++ f x → all ≡ x ∷ rest → old ++ flat_map f all ≡ whole
     → now ++ flat_map f rest ≡ whole
 one_of_left f old now whole x rest all line is so_far =
     ap (λ l. l ++ flat_map f rest) line ∙ append_assoc old (f x) (flat_map f rest) ∙ ap (λ l. old ++ flat_map f l) (sym is) ∙ so_far
 
-pub none_of_left : {X : Type 0} (f : X → List ℕ) (now whole : List ℕ) (all : List X) → all ≡ [] → now ++ flat_map f all ≡ whole → now ≡ whole
+pub none_of_left : {X Y : Type 0} (f : X → List Y) (now whole : List Y) (all : List X) → all ≡ [] → now ++ flat_map f all ≡ whole → now ≡ whole
 none_of_left f now whole all is so_far = sym (append-nil now) ∙ ap (λ l. now ++ flat_map f l) (sym is) ∙ so_far
 
 -- what reads back where the state's values are in their ranges

@@ -1,7 +1,7 @@
 //! The last line of an accepted command's reply.
 
 ghost use Rattle.std.specs.Prelude.{◌≡◌, IfOk};
-ghost use Rattle.wot_types.specs.Outcome.{entries_line, import_line, ok_line};
+ghost use Rattle.wot_types.specs.Outcome.{entries_line, import_line, keys_line, ok_line};
 
 use std::alloc::Global;
 use wot_fields::printed::push_number;
@@ -24,6 +24,16 @@ pub fn imported(alloc: Global, keys: u64, kept: u64, passed: u64) -> Result<Vec<
     push_number(alloc, &mut text, kept)?;
     text.extend_from_slice(b" passed ")?;
     push_number(alloc, &mut text, passed)?;
+    text.push(b'\n')?;
+    Ok(text)
+}
+
+/// `ok keys K`, after a sample.
+pub fn sampled(alloc: Global, keys: u32) -> Result<Vec<u8>, Mem>
+    ensures { IfOk result (λ text. text.items ≡ keys_line keys) }
+{
+    let mut text = Vec::from_slice(alloc, b"ok keys ")?;
+    push_number(alloc, &mut text, u64::from(keys))?;
     text.push(b'\n')?;
     Ok(text)
 }

@@ -10,11 +10,12 @@ ghost use Rattle.wot_types.specs.WhyText.{by_line, count_fields, cut_line, lette
 ghost use Rattle.wot_explain.specs.Explained.{Explains};
 ghost use Rattle.wot_print.specs.Shown.{shown_counted};
 
-use crate::fields::{push_field, push_key_id_field, push_number_field, push_scope};
+use crate::fields::{
+    push_count_field, push_field, push_key_id_field, push_number_field, push_scope,
+};
 use crate::names::{letter_text, trust_text};
 use std::alloc::Global;
 use wot_explain::{Counted, Why};
-use wot_fields::printed::push_number;
 use wot_types::{Count, KeyId, Letter, Mem, Row};
 
 /// The explanation of a user ID, numbered from 0, and its letter recounted over the cut state.
@@ -60,9 +61,7 @@ fn push_why(
 fn push_place(alloc: Global, text: &mut Vec<u8>, user: u32) -> Result<(), Mem>
     ensures { OnOk result (text.new.items ≡ text.old.items ++ number_field (user + 1)) }
 {
-    push_number(alloc, text, u64::from(user) + 1)?;
-    text.push(b':')?;
-    Ok(())
+    push_count_field(alloc, text, u64::from(user) + 1)
 }
 
 /// The candidates by their trust.

@@ -2,6 +2,7 @@
 #![tactic(auto)]
 
 mod answers; // the last line of an accepted command's reply
+mod counts; // how many user IDs have which letter
 mod explanation; // why a user ID is as valid as it is
 mod fields; // fields at the end of a line
 mod fits; // the ranges of what is printed
@@ -11,7 +12,8 @@ mod ownertrust; // the ownertrust export
 mod records; // the lines of a listing
 mod refusals; // the line of a refused command
 
-pub use answers::{imported, ok, set};
+pub use answers::{imported, ok, sampled, set};
+pub use counts::tally;
 pub use explanation::why;
 pub use listing::list;
 pub use ownertrust::export;

@@ -21,7 +21,7 @@ returns-in_ok-reply-in-Ok-Edit-clause-ends c =
     let head = sym c.read_head.ensures.head ∙ c.in-Ok-Edit.is ∙ ap Ok c.in-Ok-Edit.field-0-is in
     IfOk-weaker c.make_edit.result _ _
     (λ answered ends s same at. subst (Ends answered s) (sym (by_head s c.args.words.now _ some head))
-    (subst (λ text. Ends answered s (edit_outcome text s c.in-Ok-Edit.edit)) c.in_ok-reply-in-Ok-Edit.ensures (ends s same at)))
+    (subst (λ text. Ends answered s (edit_outcome text s c.in-Ok-Edit.edit)) (c.in_ok-reply-in-Ok-Edit.ensures s.state) (ends s same at)))
     c.make_edit.ensures.ends
 
 pub returns-in-Ok-Query-clause-ends : goal.returns-in-Ok-Query-clause-ends
