@@ -4,7 +4,7 @@ ghost use Rattle.std.specs.Prelude.{◌≡◌};
 ghost use Rattle.std.specs.Option.{option_or};
 ghost use Rattle.wot_types.specs.declared.key.Key.{Key};
 ghost use Rattle.wot_types.specs.Keyring.{is_taken, taken_id, with_keys};
-ghost use Rattle.wot_types.specs.Limits.{limit_passed, most_sample, record_passed, trusts_passed};
+ghost use Rattle.wot_types.specs.Limits.{limit_passed, record_passed, trusts_passed};
 ghost use Rattle.wot_types.specs.Outcome.{missing_key, refusal_of, state_limit, taken_key};
 ghost use Rattle.wot_types.specs.Ownertrust.{with_entries};
 ghost use Rattle.wot_types.specs.Payload.{IsProper, payload};
@@ -101,7 +101,6 @@ fn state_limit(table: &Table, trusts: &Trusts, edit: &Edit) -> Option<Limit>
 }
 
 fn sample_limit(table: &Table, trusts: &Trusts, seed: u64, count: u32) -> Option<Limit>
-    requires few { count ≤ most_sample }
     ensures { result ≡ option_or (limit_passed (totals_of (with_keys table.now (sample_keys seed count)))) (trusts_passed (with_entries trusts.now (sample_entries seed count))) }
 {
     match totals_limit(totals_with_sample(table, seed, count)) {
