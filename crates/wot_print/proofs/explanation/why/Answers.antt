@@ -1,4 +1,4 @@
-use Rattle.std.proofs.Common.{rules, ◌≡◌, ◌++◌, ap, ◌∙◌}
+use Rattle.std.proofs.Common.{rules, ◌≡◌, ◌++◌, ◌∙◌}
 use Rattle.std.specs.List.{flat_map}
 use Rattle.wot_types.specs.WhyText.{by_line, cut_line, row_line, why_line}
 use Rattle.wot_print.specs.Shown.{shown_counted}

@@ -1,0 +1,50 @@
+use Rattle.std.proofs.Common.{◌+◌, ◌∷◌, [], ◌++◌, append-nil, drop, is_some, map, option_and_then, slice_get, refl, sym, ap, ◌∙◌, arith}
+use Rattle.std.proofs.lemmas.List.{drop_all}
+use Rattle.wot_types.specs.declared.key.Key.{Key}
+use Rattle.wot_types.specs.Letters.{user_letter}
+use Rattle.wot_types.specs.Selection.{spots_from}
+use Rattle.wot_levels.proofs.HeadLemmas.{there_is}
+use Rattle.wot_levels.proofs.SpotLemmas.{at_place, length-spots}
+use Rattle.wot_live.proofs.CountLemmas.{append_more}
+use Rattle.wot_print.specs.Counts.{counts_of}
+use Rattle.wot_print.proofs.counts.count_users.Goals as goal
+
+pub loop-user-init : goal.loop-user-init
+loop-user-init g c = λ key letters is counted. (letters, counted, refl)
+
+pub letter_over-requires : goal.letter_over-requires
+letter_over-requires g c =
+    let i = c.loop-user.user in
+    let key = there_is _ c.requires.there in
+    let spots = spots_from 0 key.0.users in
+    let many = length-spots 0 key.0.users in
+    let users = (c.requires.head key.0 key.1).users in
+    let at = at_place spots i (omega (arith, c.loop-user-test.true, many, users)) in
+    record { there = ap is_some (ap (option_and_then (λ (k : Key). slice_get (spots_from 0 k.users) i)) key.1 ∙ at.1) }
+
+pub loop-user-preserved : goal.loop-user-preserved
+loop-user-preserved g c = λ key letters is counted.
+    let i = c.loop-user.user in
+    let f = user_letter c.args.engine.now c.args.rows.now c.args.id key in
+    let spots = spots_from 0 key.users in
+    let many = length-spots 0 key.users in
+    let head = c.requires.head key is in
+    let at = at_place spots i (omega (arith, c.loop-user-test.true, many, head.users)) in
+    let there = ap (option_and_then (λ (k : Key). slice_get (spots_from 0 k.users) i)) is ∙ at.1 in
+    let so_far = c.loop-user.invariant key letters is counted in
+    let letter = c.letter_over.ensures key at.0 head there in (
+      so_far.0 ++ f at.0 ∷ [],
+      c.add.ensures so_far.0 so_far.1 ∙ ap (λ x. counts_of (so_far.0 ++ x ∷ [])) letter,
+      append_more so_far.0 (f at.0) (map f (drop (i + 1) spots)) ∙ ap (λ xs. so_far.0 ++ map f xs) (sym at.2) ∙ so_far.2,
+    )
+
+pub returns : goal.returns
+returns g c = λ key letters is counted.
+    let i = c.loop-user.user in
+    let f = user_letter c.args.engine.now c.args.rows.now c.args.id key in
+    let spots = spots_from 0 key.users in
+    let many = length-spots 0 key.users in
+    let head = c.requires.head key is in
+    let past = drop_all i spots (omega (arith, c.loop-user-test.false, many, head.users)) in
+    let so_far = c.loop-user.invariant key letters is counted in
+    so_far.1 ∙ ap counts_of (sym (append-nil so_far.0) ∙ ap (λ xs. so_far.0 ++ map f xs) (sym past) ∙ so_far.2)
