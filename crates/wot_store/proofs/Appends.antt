@@ -1,25 +1,25 @@
 -- What the images of a commit show.
-use Rattle.std.proofs.Common.{◌≡◌, ◌≢◌, ◌⊎◌, inl, inr, ⊎_elim, ℕ, ◌+◌, ◌-◌, ◌<◌, ◌≤◌, List, [], ◌∷◌, ◌++◌, length, get_or, take, drop, refl, sym, ◌∙◌, ap, subst, arith, append_assoc, None, Some}
-use Rattle.std.proofs.lemmas.List.{take-append-drop, drop-drop, length-drop, drop-append-le, drop-take, take_at, drop_at, take-take, length-take-le, length-append, get_or-take, get_or-drop, get_or_at}
+use Rattle.std.proofs.Common.{◌≡◌, ◌⊎◌, inl, inr, ℕ, ◌+◌, ◌<◌, ◌≤◌, List, [], ◌∷◌, ◌++◌, length, get_or, take, drop, refl, sym, ◌∙◌, ap, subst, arith, None, Some}
+use Rattle.std.proofs.lemmas.List.{take-append-drop, drop-drop, length-drop, drop-take, take_at, drop_at, take-take, length-take-le, get_or-take, get_or-drop}
 use Rattle.std.proofs.lemmas.Bool.Decides.{nat_tests}
 use Rattle.wot_types.specs.declared.edit.Edit.{Edit}
 use Rattle.wot_types.specs.State.{State}
 use Rattle.wot_types.specs.Outcome.{refusal_of, edited, edited_store}
-use Rattle.wot_types.specs.Payload.{IsPayload, payload}
+use Rattle.wot_types.specs.Payload.{payload}
 use Rattle.wot_types.specs.State.{opening_state}
-use Rattle.wot_site.specs.Disk.{Disk, Disks, Image, IsImage, IsImageOf, Leaves, disk_of, with_disk, settled, after_sync}
+use Rattle.wot_site.specs.Disk.{Disk, Disks, Image, settled}
 use Rattle.wot_site.specs.Seen.{Seen}
 use Rattle.wot_site.specs.Work.{Works}
 use Rattle.wot_site.specs.declared.site.Side.{Side}
-use Rattle.wot_site.specs.declared.site.Side.TheVariants.{Zero, One}
+use Rattle.wot_site.specs.declared.site.Side.TheVariants.{Zero}
 use Rattle.wot_site.proofs.Works.{works_weaker}
 use Rattle.wot_journal.specs.Record.{Framed, IsClosed, record_of, with_record, open_gate, most}
-use Rattle.wot_journal.specs.Commit.{IsEnd, IsUnchanged, IsCommitting, Commits}
+use Rattle.wot_journal.specs.Commit.{IsUnchanged, IsCommitting, Commits}
 use Rattle.wot_journal.specs.Next.{HasRecord}
-use Rattle.wot_store.specs.Base.{IsBlank, IsOpened, base_fault, header_fault, header_of, epoch_of}
+use Rattle.wot_store.specs.Base.{IsOpened, base_fault, header_fault, header_of, epoch_of}
 use Rattle.wot_store.specs.Journal.{Ends, Reaches, HasPayload, records, after_edit}
 use Rattle.wot_types.specs.Store.{Store}
-use Rattle.wot_store.specs.Shows.{Shows, ShowsBase, IsStored, all_settled}
+use Rattle.wot_store.specs.Shows.{Shows, ShowsBase, IsStored}
 use Rattle.wot_store.specs.Appending.{Appending, Appends, IsRecordOf}
 use Rattle.wot_store.proofs.Replaying.{reaches_more, length_record, has_payload}
 

@@ -1,9 +1,9 @@
 -- What a crash leaves while a side is written.
-use Rattle.std.proofs.Common.{◌≡◌, ◌≢◌, ◌⊎◌, inl, inr, ⊎_elim, ℕ, ◌+◌, ◌<◌, ◌≤◌, Bool, true, false, List, [], ◌∷◌, ◌++◌, length, get_or, take, drop, refl, sym, ◌∙◌, ap, subst, arith, append_assoc}
+use Rattle.std.proofs.Common.{◌≡◌, ◌⊎◌, inl, inr, ⊎_elim, ℕ, ◌<◌, ◌≤◌, Bool, true, false, List, [], ◌∷◌, ◌++◌, length, get_or, take, drop, refl, sym, ◌∙◌, ap, subst, arith, append_assoc}
 use Rattle.std.specs.Prelude.{slice_index, All}
 use Rattle.std.proofs.lemmas.Bool.{cases_eq, cases_lt}
-use Rattle.std.proofs.lemmas.List.{drop_more, drop-drop, get_or-take, length-append, length-take, length-take-le, take_at, take-take, drop_at}
-use Rattle.std.proofs.lemmas.List.Elements.{All-nil, All-cons, All-push}
+use Rattle.std.proofs.lemmas.List.{drop-drop, get_or-take, length-append, length-take, length-take-le, take_at, take-take}
+use Rattle.std.proofs.lemmas.List.Elements.{All-nil, All-push}
 use Rattle.wot_site.specs.declared.site.Range.{Range}
 use Rattle.wot_site.specs.Disk.{Disk, Disks, IsImage, disk_of, with_disk, after_write, after_sync, settled, written}
 use Rattle.wot_site.specs.Seen.{Seen}
@@ -11,7 +11,7 @@ use Rattle.wot_site.specs.Site.{Writes, WritesOrNot, Syncs, Stays}
 use Rattle.wot_site.specs.Work.{Works}
 use Rattle.wot_site.specs.declared.site.Side.{Side}
 use Rattle.wot_site.proofs.Calls.{IsAlone, alone_disk, alone_over, alone_then, wrote_alone, synced_alone, writes_work, writes_not_work, syncs_work, stays_work}
-use Rattle.wot_site.proofs.Images.{reads_image, settled_image, torn_image, image_front, take_written, drop_written, back_written, length_written, length_written_end}
+use Rattle.wot_site.proofs.Images.{reads_image, settled_image, torn_image, image_front, take_written, back_written, length_written, length_written_end}
 use Rattle.wot_site.proofs.Works.{works_then, works_weaker}
 use Rattle.wot_journal.specs.Record.{IsClosed, open_gate}
 use Rattle.wot_journal.specs.Commit.{Puts, PutsNot, IsEnd}

@@ -1,25 +1,22 @@
 -- What a crash leaves while a store is opened.
-use Rattle.std.proofs.Common.{◌≡◌, ◌≢◌, ◌⊎◌, inl, inr, ⊎_elim, ℕ, ◌+◌, ◌<◌, ◌≤◌, Bool, true, false, List, [], ◌∷◌, ◌++◌, length, get_or, take, drop, refl, sym, ◌∙◌, ap, subst, arith, Option, None, Some}
+use Rattle.std.proofs.Common.{◌≡◌, ◌⊎◌, inl, inr, ⊎_elim, ℕ, ◌<◌, ◌≤◌, Bool, true, false, List, [], length, get_or, take, drop, refl, sym, ◌∙◌, ap, subst, arith, Option, None, Some}
 use Rattle.std.proofs.lemmas.List.{get_or-take}
 use Rattle.std.proofs.lemmas.Bool.Decides.{nat_tests}
 use Rattle.wot_types.specs.State.{opening_state}
 use Rattle.wot_site.specs.Disk.{Disk, Disks, Image, IsImage, IsImageOf, Leaves, disk_of, with_disk, settled, after_sync, reads_of}
 use Rattle.wot_site.specs.Seen.{Honestly, IfHonest, Seen}
-use Rattle.wot_site.specs.Site.{Syncs, Stays, on_disk}
-use Rattle.wot_site.specs.Work.{Works}
+use Rattle.wot_site.specs.Site.{Syncs, Stays}
 use Rattle.wot_site.specs.declared.site.Side.{Side}
 use Rattle.wot_site.specs.declared.site.Side.TheVariants.{Zero, One}
 use Rattle.wot_site.proofs.Calls.{syncs_work, stays_work}
 use Rattle.wot_site.proofs.Images.{reads_image, settled_image}
 use Rattle.wot_site.proofs.Works.{works_then, works_weaker, works_start, works_to}
-use Rattle.wot_journal.specs.Record.{IsClosed, open_gate}
-use Rattle.wot_journal.specs.Commit.{IsEnd}
-use Rattle.wot_store.specs.Base.{IsBlank, IsOpened, base_fault, header_fault, header_of, header_tail, epoch_of}
+use Rattle.wot_store.specs.Base.{IsBlank, header_fault, epoch_of}
 use Rattle.wot_store.specs.Journal.{Ends, Fails, FailsAt, Replays}
 use Rattle.wot_types.specs.Store.{Store}
-use Rattle.wot_store.specs.Shows.{Shows, ShowsBase, ShowsAs, IsBad, IsStored, all_settled, fresh}
-use Rattle.wot_store.specs.Writing.{OnSide, Becomes, IsKnown, Writing, base_bytes}
-use Rattle.wot_store.specs.Opening.{Settles, Settling, Keeping, Opening, Opens, FindsBad, IsSettled, IsReady, Inspects, Looks, Says}
+use Rattle.wot_store.specs.Shows.{Shows, ShowsBase, IsBad, all_settled, fresh}
+use Rattle.wot_store.specs.Writing.{Becomes, Writing, base_bytes}
+use Rattle.wot_store.specs.Opening.{Settles, Settling, Keeping, Opening, Opens, FindsBad, IsReady, Inspects, Looks, Says}
 use Rattle.wot_store.specs.declared.header.Look.{Look}
 use Rattle.wot_store.specs.declared.header.Look.TheVariants.{Blank, Bad, Base}
 use Rattle.wot_store.specs.declared.error.BadStore.{BadStore}

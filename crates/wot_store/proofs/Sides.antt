@@ -1,7 +1,6 @@
 -- Where one side alone is other than it was.
-use Rattle.std.proofs.Common.{◌≡◌, List, ℕ, refl, sym, ◌∙◌, ap, subst}
+use Rattle.std.proofs.Common.{◌≡◌, List, ℕ, sym, ◌∙◌, ap, subst}
 use Rattle.wot_site.specs.Disk.{Disk, Disks, IsImage, disk_of, with_disk, settled}
-use Rattle.wot_site.specs.Seen.{Seen}
 use Rattle.wot_site.specs.declared.site.Side.{Side}
 use Rattle.wot_site.proofs.Sides.{disk_with, with_same, with_with}
 use Rattle.wot_site.proofs.Images.{settled_image}

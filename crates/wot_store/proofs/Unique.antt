@@ -1,10 +1,10 @@
 -- A store shows one thing or has one first fault.
-use Rattle.std.proofs.Common.{◌≡◌, ◌≢◌, ◌⊎◌, inl, inr, ⊎_elim, ℕ, ◌+◌, ◌-◌, ◌^◌, ◌<◌, ◌≤◌, min, List, [], ◌∷◌, ◌++◌, length, get_or, take, drop, refl, sym, ◌∙◌, ap, subst, arith, append_assoc, Option, None, Some}
-use Rattle.std.specs.Prelude.{option_and_then, All, IsSome, MatchOption, is_none, if◌then◌else◌}
+use Rattle.std.proofs.Common.{◌≡◌, ◌≢◌, ◌⊎◌, inl, inr, ⊎_elim, ℕ, ◌+◌, ◌-◌, ◌^◌, ◌<◌, List, [], ◌∷◌, ◌++◌, length, get_or, take, drop, refl, sym, ◌∙◌, ap, subst, arith, append_assoc, Option, None, Some}
+use Rattle.std.specs.Prelude.{All, IsSome, MatchOption, is_none, if◌then◌else◌}
 use Rattle.std.specs.Int.{to_be_bytes, from_be_bytes, w32}
 use Rattle.std.proofs.lemmas.Nat.{from_be_bytes-to_be_bytes_4}
 use Rattle.std.proofs.lemmas.Option.{option_and_then_some, same_Some}
-use Rattle.std.proofs.lemmas.List.{take_at, drop_at, length-append, length-drop, get_or-drop, drop-drop, append-nil}
+use Rattle.std.proofs.lemmas.List.{take_at, drop_at, length-append, length-drop, get_or-drop, drop-drop}
 use Rattle.std.proofs.lemmas.List.Elements.{All-head, All-tail}
 use Rattle.wot_types.specs.declared.edit.Edit.{Edit}
 use Rattle.wot_types.specs.declared.refusal.Refusal.{Refusal}
@@ -21,7 +21,7 @@ use Rattle.wot_journal.specs.Next.{HasRecord, IsCut, length_at}
 use Rattle.wot_store.specs.Base.{IsBlank, IsOpened, base_fault}
 use Rattle.wot_store.specs.Journal.{HasPayload, records, after_edit, after_edits, Reaches, Ends, IsBadRecord, HasFault, Fails}
 use Rattle.wot_types.specs.Store.{Store}
-use Rattle.wot_store.specs.Shows.{Shows, ShowsBase, IsBad, fresh}
+use Rattle.wot_store.specs.Shows.{Shows, IsBad}
 use Rattle.wot_store.specs.declared.error.BadStore.{BadStore}
 use Rattle.wot_store.specs.declared.error.BadStore.TheVariants.{Magic, Short, Spelling, BadPayload, BadEdit}
 use Rattle.wot_store.proofs.Replaying.{length_record}

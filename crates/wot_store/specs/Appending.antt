@@ -1,5 +1,5 @@
 -- What appending an edit does.
-use Rattle.std.specs.Prelude.{ℕ, ◌≡◌, ◌⊎◌, List, None}
+use Rattle.std.specs.Prelude.{◌≡◌, ◌⊎◌, None}
 use Rattle.wot_types.specs.declared.edit.Edit.{Edit}
 use Rattle.wot_types.specs.Outcome.{refusal_of}
 use Rattle.wot_types.specs.Payload.{IsPayload}

@@ -1,5 +1,5 @@
 -- What the records of a journal stand for.
-use Rattle.std.specs.Prelude.{ℕ, ◌≡◌, ◌+◌, ◌<◌, List, [], ◌∷◌, ◌++◌, length, drop, slice_index, flat_map, All, if◌then◌else◌, is_none, Option, Some, None, IsSome, option_and_then}
+use Rattle.std.specs.Prelude.{ℕ, ◌≡◌, ◌+◌, ◌<◌, List, [], ◌∷◌, ◌++◌, length, drop, flat_map, All, if◌then◌else◌, is_none, Option, Some, None, IsSome, option_and_then}
 use Rattle.wot_types.specs.declared.edit.Edit.{Edit}
 use Rattle.wot_types.specs.State.{State}
 use Rattle.wot_types.specs.Outcome.{refusal_of, edited}
@@ -10,7 +10,7 @@ use Rattle.wot_site.specs.declared.site.Side.{Side}
 use Rattle.wot_journal.specs.Record.{record_of, most, IsClosed}
 use Rattle.wot_journal.specs.Next.{HasRecord, IsCut}
 use Rattle.wot_store.specs.declared.error.BadStore.{BadStore}
-use Rattle.wot_store.specs.declared.error.BadStore.TheVariants.{Magic, Short, Spelling, BadPayload, BadEdit}
+use Rattle.wot_store.specs.declared.error.BadStore.TheVariants.{Short, BadPayload, BadEdit}
 
 -- an edit that has a payload
 abbrev pub HasPayload : Edit → Type 0

@@ -1,7 +1,6 @@
 -- What opening a store does.
 use Rattle.std.specs.Prelude.{ℕ, Bool, ◌≡◌, ◌≢◌, ◌⊎◌, ◌<◌, List, length, slice_index, Some, None}
-use Rattle.wot_types.specs.State.{State}
-use Rattle.wot_site.specs.Disk.{Disks, Image, IsImageOf, Leaves, after_sync, settled, disk_of, reads_of}
+use Rattle.wot_site.specs.Disk.{Disks, IsImageOf, Leaves, settled, disk_of, reads_of}
 use Rattle.wot_site.specs.Seen.{Seen}
 use Rattle.wot_site.specs.Work.{Works}
 use Rattle.wot_site.specs.declared.site.Side.{Side}

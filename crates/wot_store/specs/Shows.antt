@@ -1,6 +1,5 @@
 -- What a store shows, and what is wrong with one that shows nothing.
-use Rattle.std.specs.Prelude.{ℕ, ◌≡◌, ◌⊎◌, ◌+◌, List, length, Option, Some, None, MatchOption}
-use Rattle.wot_types.specs.State.{State}
+use Rattle.std.specs.Prelude.{ℕ, ◌≡◌, ◌⊎◌, List, None, MatchOption}
 use Rattle.wot_types.specs.State.{opening_state}
 use Rattle.wot_types.specs.Store.{Store}
 use Rattle.wot_site.specs.Disk.{Disks, Image, after_sync}

@@ -1,4 +1,4 @@
-use Rattle.std.proofs.Common.{◌≡◌, length, ◌∙◌, rules, arith}
+use Rattle.std.proofs.Common.{◌≡◌, length, arith}
 use Rattle.wot_site.specs.Disk.{disk_of}
 use Rattle.wot_site.specs.Seen.{Seen}
 use Rattle.wot_site.specs.declared.site.Side.TheVariants.{Zero}
