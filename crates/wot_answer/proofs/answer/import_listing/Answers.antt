@@ -8,8 +8,7 @@ use Rattle.wot_answer.proofs.answer.import_listing.Goals as goal
 
 pub make_edit-requires : goal.make_edit-requires
 make_edit-requires c =
-    let listed = c.in-Ok.ensures.listed c.requires.known.0 c.requires.known.1 in
-    record { proper = record { each = listed.well_formed; rising = listed.rising } }
+    record { proper = c.in-Ok.ensures.listed c.requires.known.0 c.requires.known.1 }
 
 pub returns-in_ok-reply-in-Ok-clause-ends : goal.returns-in_ok-reply-in-Ok-clause-ends
 returns-in_ok-reply-in-Ok-clause-ends c =
