@@ -6,6 +6,29 @@ import tempfile
 
 PROGRAM = os.path.abspath(sys.argv[1])
 
+# what GnuPG prints for three keys with a subkey, a designated revoker, self-signatures and one that it could not check
+REAL = """tru::1:1700000000:0:3:1:5
+pub:u:255:22:00000000000000AA:1600000000:::u:::scESC:::::ed25519:::0:
+fpr:::::::::00000000000000000000000000000000000000AA:
+grp:::::::::0123456789ABCDEF0123456789ABCDEF01234567:
+uid:u::::1600000000::0F0F0F0F0F0F0F0F0F0F0F0F0F0F0F0F0F0F0F0F::A <a@example.org>::::::::::0:
+sig:!::22:00000000000000AA:1600000000::::A <a@example.org>:13x:::::8:
+sub:u:255:18:00000000000000A1:1600000000::::::e:::::cv25519::
+fpr:::::::::00000000000000000000000000000000000000A1:
+sig:!::22:00000000000000AA:1600000000::::A <a@example.org>:18x:::::8:
+pub:f:255:22:00000000000000BB:1610000000:1900000000::-:::scESC:::::ed25519:::0:
+fpr:::::::::00000000000000000000000000000000000000BB:
+rvk:::22::::::00000000000000000000000000000000000000AA:80:
+uid:f::::1610000000::1F1F1F1F1F1F1F1F1F1F1F1F1F1F1F1F1F1F1F1F::B <b@example.org>::::::::::0:
+sig:!::22:00000000000000BB:1610000000::::B <b@example.org>:13x:::::8:
+sig:!::22:00000000000000AA:1620000000::::A <a@example.org>:10x:::::8:
+pub:-:255:22:00000000000000CC:1615000000:::-:::scESC:::::ed25519:::0:
+fpr:::::::::00000000000000000000000000000000000000CC:
+uid:-::::1615000000::2F2F2F2F2F2F2F2F2F2F2F2F2F2F2F2F2F2F2F2F::C <c@example.org>::::::::::0:
+sig:!::22:00000000000000CC:1615000000::::C <c@example.org>:13x:::::8:
+sig:?::22:00000000000000DD:1620000000:::::10x:::::8:
+"""
+
 
 def folder():
     """An empty folder, whose store no other run has."""

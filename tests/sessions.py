@@ -5,7 +5,7 @@ Each session is run a second time command by command, a run a command on one sto
 """
 import sys
 
-from program import by, fingerprint, folder, imported, key, key_id, letters, run, short, trust
+from program import REAL, by, fingerprint, folder, imported, key, key_id, letters, run, short, trust
 
 TRU = "tru::1:0:0:3:1:5\n"
 
@@ -58,30 +58,6 @@ EXPIRING = trust("A", "u") + imported(key("A"), key("B", "A", expires="5000"))
 def b_at(date, check, letter):
     expiring = lines("B", letter, "-").replace(":1000:::", ":1000:5000::", 1)
     return f"tru::1:{date}:{check}:3:1:5\n" + lines("A", "u", "u") + expiring + "ok\n"
-
-
-# what GnuPG prints for three keys with a subkey, a designated revoker, self-signatures and one that it could not check
-REAL = """tru::1:1700000000:0:3:1:5
-pub:u:255:22:00000000000000AA:1600000000:::u:::scESC:::::ed25519:::0:
-fpr:::::::::00000000000000000000000000000000000000AA:
-grp:::::::::0123456789ABCDEF0123456789ABCDEF01234567:
-uid:u::::1600000000::0F0F0F0F0F0F0F0F0F0F0F0F0F0F0F0F0F0F0F0F::A <a@example.org>::::::::::0:
-sig:!::22:00000000000000AA:1600000000::::A <a@example.org>:13x:::::8:
-sub:u:255:18:00000000000000A1:1600000000::::::e:::::cv25519::
-fpr:::::::::00000000000000000000000000000000000000A1:
-sig:!::22:00000000000000AA:1600000000::::A <a@example.org>:18x:::::8:
-pub:f:255:22:00000000000000BB:1610000000:1900000000::-:::scESC:::::ed25519:::0:
-fpr:::::::::00000000000000000000000000000000000000BB:
-rvk:::22::::::00000000000000000000000000000000000000AA:80:
-uid:f::::1610000000::1F1F1F1F1F1F1F1F1F1F1F1F1F1F1F1F1F1F1F1F::B <b@example.org>::::::::::0:
-sig:!::22:00000000000000BB:1610000000::::B <b@example.org>:13x:::::8:
-sig:!::22:00000000000000AA:1620000000::::A <a@example.org>:10x:::::8:
-pub:-:255:22:00000000000000CC:1615000000:::-:::scESC:::::ed25519:::0:
-fpr:::::::::00000000000000000000000000000000000000CC:
-uid:-::::1615000000::2F2F2F2F2F2F2F2F2F2F2F2F2F2F2F2F2F2F2F2F::C <c@example.org>::::::::::0:
-sig:!::22:00000000000000CC:1615000000::::C <c@example.org>:13x:::::8:
-sig:?::22:00000000000000DD:1620000000:::::10x:::::8:
-"""
 
 
 def real_listed(b, next_check):
