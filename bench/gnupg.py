@@ -15,7 +15,7 @@ try:
 except ImportError:
     Ed25519PrivateKey = None
 
-KEYS, CERTS, MADE = 2_000, 4, 1600000000
+KEYS, CERTS, MADE = 1_000, 4, 1600000000
 ED25519 = bytes.fromhex("092b06010401da470f01")
 
 
@@ -67,7 +67,7 @@ def keyring(path, keys):
 
 
 def gpg(*words, told=None, given=None):
-    return ran(["gpg", "--batch", "--yes", "--quiet", *words], given, told=told)[0]
+    return ran(["gpg", "--batch", "--yes", "--quiet", *words], given, told=told)
 
 
 def letters(path):
@@ -77,7 +77,7 @@ def letters(path):
 
 
 def prepared(bench):
-    """A keyring of gpg with its ownertrust, the listing that gpg prints of it, and a store of the program with both."""
+    """A keyring of gpg with its ownertrust, and the listing that gpg prints of it; the seconds of printing it."""
     keys = [Key(place) for place in range(KEYS)]
     keyring(bench.path("keys"), keys)
     with open(bench.path("trusts"), "w", encoding="ascii") as file:
@@ -85,8 +85,7 @@ def prepared(bench):
             file.write(f"{key.fingerprint.hex().upper()}:{6 if place == 0 else (5, 4, 4)[place % 3]}:\n")
     gpg("--import", bench.path("keys"))
     gpg("--import-ownertrust", bench.path("trusts"))
-    listed = gpg("--with-colons", "--fixed-list-mode", "--check-sigs", told=bench.path("checked"))
-    return listed
+    return gpg("--with-colons", "--fixed-list-mode", "--check-sigs", told=bench.path("checked"))
 
 
 def compared(bench):
@@ -95,12 +94,12 @@ def compared(bench):
     steps = [(["ownertrust"], bench.path("trusts"))]
     checking, importing = in_turn(
         lambda: gpg("--check-trustdb"),
-        lambda: ran([bench.program, "import"], bench.path("checked"), bench.store("gnupg", *steps))[0],
+        lambda: ran([bench.program, "import"], bench.path("checked"), bench.store("gnupg", *steps)),
     )
     where = bench.store("gnupg", *steps, (["import"], bench.path("checked")))
     listing = in_turn(
         lambda: gpg("--with-colons", "--fixed-list-mode", "--list-keys", told=bench.path("theirs")),
-        lambda: ran([bench.program, "list"], where=where, told=bench.path("ours"))[0],
+        lambda: ran([bench.program, "list"], where=where, told=bench.path("ours")),
     )
     with session([bench.program], where) as program:
         date = min(program.accept(f"date {date}\n") for date in (1700000000, 1750000000, 1700000000))

@@ -69,7 +69,7 @@ def figures(bench, count):
         level, number = deepest(program, count)
         given = {**commands(count), "`why` of a key as deep as there is": itertools.repeat(f"why {fingerprint(number)} 1\n")}
         jobs = [lambda lines=lines: program.accept(next(lines)) for lines in given.values()]
-        floor, *seconds = in_turn(lambda: ran([cut], listing)[0], *jobs)
+        floor, *seconds = in_turn(lambda: ran([cut], listing), *jobs)
         opening = program.opening
         return {"a cut of its `sigs` alone": floor, "opening": opening, **dict(zip(given, seconds))}, level, program.peak(), os.path.getsize(listing)
 
@@ -99,8 +99,7 @@ def part_sample(bench):
     with tempfile.TemporaryDirectory(dir="/dev/shm" if os.path.isdir("/dev/shm") else bench.folder) as where:
         words = [str(SEED), str(SIZES[-1])]
         stores = (tempfile.mkdtemp(dir=where) for _ in itertools.count())
-        (floor, _), (took, peak) = in_turn(
-            lambda: ran([bench.floor("made"), *words]), lambda: ran([bench.program, "sample", *words], where=next(stores))
-        )
-    figures_of = (shown(floor), shown(took), times(took, floor), megabytes(peak))
-    table(f"`sample` of {SIZES[-1]:,} keys, its store in memory", ("made in C alone", "sample", "times that", "memory at the peak"), [figures_of])
+        floor, took = in_turn(lambda: ran([bench.floor("made"), *words]), lambda: ran([bench.program, "sample", *words], where=next(stores)))
+        peak = bench.peak(["sample", *words], where=next(stores))
+    cells = (shown(floor), shown(took), times(took, floor), megabytes(peak))
+    table(f"`sample` of {SIZES[-1]:,} keys, its store in memory", ("made in C alone", "sample", "times that", "memory at the peak"), [cells])

@@ -2,22 +2,29 @@
 #include <stdio.h>
 #include <stdlib.h>
 
-enum { HEADER = 24 };
+enum { HEADER = 24, PAGE = 4096 };
+
+static size_t number(const unsigned char *at, int bytes) {
+    size_t n = 0;
+    while (bytes--)
+        n = n << 8 | *at++;
+    return n;
+}
 
 int main(int words, char **word) {
     FILE *file = words == 2 ? fopen(word[1], "rb") : NULL;
     if (!file || fseek(file, 0, SEEK_END))
         return 5;
-    size_t size = (size_t)ftell(file), at = HEADER, records = 0, sum = 0;
+    size_t size = (size_t)ftell(file), records = 0, sum = 0;
     unsigned char *store = malloc(size);
     rewind(file);
-    if (!store || fread(store, 1, size, file) != size)
+    if (!store || size < HEADER || fread(store, 1, size, file) != size)
         return 5;
+    size_t at = HEADER + PAGE * number(store + 16, 8);
     while (at + 5 <= size && store[at] == 0xa5) {
-        const unsigned char *length = store + at + 1;
-        size_t end = at + 5 + ((size_t)length[0] << 24 | (size_t)length[1] << 16 | (size_t)length[2] << 8 | length[3]);
-        for (size_t i = at + 5; i < end && i < size; i++)
-            sum += store[i];
+        size_t end = at + 5 + number(store + at + 1, 4);
+        for (at += 5; at < end && at < size; at++)
+            sum += store[at];
         at = end;
         records++;
     }

@@ -8,7 +8,7 @@ KEYS = 100_000
 
 
 def import_of(bench, listing):
-    """Seconds and memory of an import into an empty store."""
+    """Seconds of an import into an empty store."""
     return ran([bench.program, "import"], listing, bench.store("importing"))
 
 
@@ -17,8 +17,8 @@ def part(bench):
     cut, rows = bench.floor("cut"), []
     for name, key in (("as gpg prints it", keyrings.gpg_key), ("the records that are kept alone", keyrings.plain_key)):
         listing = keyrings.written(bench.path("listing"), key, KEYS)
-        floor, took = in_turn(lambda path=listing: ran([cut], path), lambda path=listing: import_of(bench, path))
-        size = os.path.getsize(listing)
-        rows.append((name, megabytes(size), shown(floor[0]), shown(took[0]), times(took[0], floor[0]), megabytes(took[1]), f"{took[1] / size:.2f}"))
+        floor, took = in_turn(lambda path=listing: ran([cut], path), lambda path=listing: import_of(bench, path), rounds=5)
+        size, peak = os.path.getsize(listing), bench.peak(["import"], listing, bench.store("importing"))
+        rows.append((name, megabytes(size), shown(floor), shown(took), times(took, floor), megabytes(peak), times(peak, size)))
     columns = ("listing", "size", "cut alone", "import", "times the cut", "memory at the peak", "times the listing")
     table(f"Import of {KEYS:,} keys with four certifications each", columns, rows)

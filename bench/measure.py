@@ -41,6 +41,12 @@ class Bench:
             ran([self.program, *words], given, where)
         return where
 
+    def peak(self, words, given=None, where=None):
+        """The most bytes of memory that a run of the program holds."""
+        with open(given or os.devnull, "rb") as source:
+            done = subprocess.run([self.floor("peak"), self.program, *words], stdin=source, capture_output=True, cwd=where, check=True)
+        return int(done.stderr) * 1024
+
     def knows(self, command):
         """Whether the program has a command of this name."""
         with tempfile.TemporaryDirectory(dir=self.folder) as where:
@@ -49,16 +55,14 @@ class Bench:
 
 
 def ran(words, given=None, where=None, told=None):
-    """Runs once with a file as the input, and a file for what is told: seconds and the bytes of memory at the peak."""
+    """Seconds of a run with a file as the input, and a file for what is told."""
     with open(given or os.devnull, "rb") as source, open(told or os.devnull, "wb") as sink:
         start = time.monotonic()
-        child = subprocess.Popen(words, stdin=source, stdout=sink, cwd=where)
-        _, status, usage = os.wait4(child.pid, 0)
+        done = subprocess.run(words, stdin=source, stdout=sink, stderr=subprocess.PIPE, cwd=where, check=False)
         seconds = time.monotonic() - start
-    child.returncode = os.waitstatus_to_exitcode(status)
-    if child.returncode:
-        raise Failed(f"{words[:4]} ended with {child.returncode}")
-    return seconds, usage.ru_maxrss * 1024
+    if done.returncode:
+        raise Failed(f"{words[:4]} ended with {done.returncode}: {done.stderr[-200:]}")
+    return seconds
 
 
 def output(words, where=None):
@@ -146,4 +150,6 @@ def megabytes(count):
 
 
 def times(seconds, floor):
-    return f"{seconds / floor:.1f}"
+    """A ratio, with two digits where it is small."""
+    ratio = seconds / floor
+    return f"{ratio:.1f}" if ratio >= 1 else f"{ratio:.2g}"

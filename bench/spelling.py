@@ -85,7 +85,8 @@ def payload_of(bench):
     """The payload of the one record that an import makes, in a file."""
     where = bench.store("spelled", (["import"], keyrings.written(bench.path("listing"), keyrings.plain_key, KEYS)))
     with open(os.path.join(where, "wot.0"), "rb") as store, open(bench.path("payload"), "wb") as file:
-        store.seek(25)
+        _, pages = struct.unpack(">QQ", store.read(24)[8:])
+        store.seek(24 + 4096 * pages + 1)
         (length,) = struct.unpack(">I", store.read(4))
         file.write(store.read(length))
     return bench.path("payload")
