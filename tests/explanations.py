@@ -1,5 +1,5 @@
 #!/usr/bin/env python3
-"""Recounts letters outside the program's own explanation, over a keyring made at random.
+"""Recounts letters outside the program's own explanation, over a keyring made at random and over the one that `sample` makes.
 
 For some user IDs the cut keyring is made from what `why` and `sigs` print, imported into an empty store with the same ownertrust, date
 and options, and the letter there is compared with the letter in the whole.
@@ -51,12 +51,15 @@ def entry(number):
 
 
 def blocks(listing):
-    """The lines of each key of a printed listing, by key ID."""
-    found, lines = {}, []
+    """The fingerprint and the lines of each key of a printed listing, by key ID."""
+    found, head, lines = {}, "", []
     for line in listing.splitlines(keepends=True):
-        if line.startswith("pub:"):
-            lines = found.setdefault(line.split(":")[4], [])
-        if line.split(":")[0] in ("pub", "fpr", "uid", "uat", "sig", "rev"):
+        kind, *fields = line.split(":")
+        if kind == "pub":
+            head, lines = fields[3], []
+        if kind == "fpr":
+            found[head] = (fields[8], lines)
+        if kind in ("pub", "fpr", "uid", "uat", "sig", "rev"):
             lines.append(line)
     return found
 
@@ -68,27 +71,36 @@ def letters(lines):
 def cut(sigs, kept, explained):
     """The keys of the explanation and the explained one, and on them only what keys of the explanation certify."""
     return "".join(
-        line for key, lines in sigs.items() if key in kept or key == explained
+        line for key, (_, lines) in sigs.items() if key in kept or key == explained
         for line in lines if line[:3] not in ("sig", "rev") or line.split(":")[4] in kept
     )
 
 
-ownertrust = "ownertrust\n" + "".join(entry(n) for n in range(1, KEYS + 1)) + ".\n"
-whole = SETTINGS + ownertrust + "import\n" + "".join(key(n) for n in range(1, KEYS + 1)) + ".\n"
-seen, sizes = {}, []
-with folder() as store:
-    assert run(whole, where=store).returncode == 0
-    sigs = blocks(run("sigs\n", where=store).stdout.decode())
-    users = [(key, place) for key, lines in sigs.items() for place in range(1, len(letters(lines)) + 1)]
-    for key, place in chance.sample(users, ASKED):
-        told = run(f"why {key:0>40} {place}\n", where=store).stdout.decode()
-        lines = [line.split(":") for line in told.splitlines()]
-        kept = {line[1] for line in lines if line[0] == "row"}
-        wanted = letters(sigs[key])[place - 1]
-        there = run(SETTINGS + ownertrust + "import\n" + cut(sigs, kept, key) + ".\nlist\n").stdout.decode()
-        found = letters(blocks(there)[key])[place - 1]
-        if not lines[0][1] == lines[-2][1] == wanted == found or lines[-2][0] != "cut":
-            sys.exit(f"explanations: user ID {place} of {key} is {wanted}, and {found} on the cut keyring; why told\n{told}")
-        seen[wanted] = seen.get(wanted, 0) + 1
-        sizes.append(len(kept))
-print(f"explanations: {ASKED} user IDs have their letter on the cut keyring too: {dict(sorted(seen.items()))}, up to {max(sizes)} keys")
+def explained(name, settings, begun):
+    """Asks for some user IDs of a keyring that these commands make, and recounts each on the keyring that is cut down to its explanation."""
+    seen, sizes = {}, []
+    with folder() as store:
+        assert run(settings + begun, where=store).returncode == 0
+        sigs = blocks(run("sigs\n", where=store).stdout.decode())
+        ownertrust = "ownertrust\n" + run("export\n", where=store).stdout.decode()[: -len("ok\n")] + ".\n"
+        users = [(key, fingerprint, place) for key, (fingerprint, lines) in sigs.items() for place in range(1, len(letters(lines)) + 1)]
+        for key, fingerprint, place in chance.sample(users, ASKED):
+            told = run(f"why {fingerprint} {place}\n", where=store).stdout.decode()
+            lines = [line.split(":") for line in told.splitlines()]
+            kept = {line[1] for line in lines if line[0] == "row"}
+            wanted = letters(sigs[key][1])[place - 1]
+            there = run(settings + ownertrust + "import\n" + cut(sigs, kept, key) + ".\nlist\n").stdout.decode()
+            found = letters(blocks(there)[key][1])[place - 1]
+            if not lines[0][1] == lines[-2][1] == wanted == found or lines[-2][0] != "cut":
+                sys.exit(f"explanations: {name}: user ID {place} of {key} is {wanted}, and {found} on the cut keyring; why told\n{told}")
+            seen[wanted] = seen.get(wanted, 0) + 1
+            sizes.append(len(kept))
+    print(f"explanations: {name}: {ASKED} user IDs have their letter on the cut keyring too: {dict(sorted(seen.items()))}, up to {max(sizes)} keys")
+
+
+ownertrust_block = "ownertrust\n" + "".join(entry(n) for n in range(1, KEYS + 1)) + ".\n"
+explained("keys at random", SETTINGS, ownertrust_block + "import\n" + "".join(key(n) for n in range(1, KEYS + 1)) + ".\n")
+if run("sample 7 1\n").stdout == b"err unknown-command\n":
+    print("explanations: made keys: skipped: no command sample")
+else:
+    explained("made keys", "date 1750000000\n", f"sample 7 {KEYS}\n")
