@@ -9,9 +9,7 @@ PROGRAM = os.path.abspath(sys.argv[1])
 # what GnuPG prints for three keys with a subkey, a designated revoker, self-signatures and one that it could not check
 LISTING = os.path.join(os.path.dirname(os.path.abspath(__file__)), "..", "examples", "gnupg-listing", "input")
 with open(LISTING, encoding="utf-8") as session:
-    REAL = session.read().partition("import
-")[2].partition(".
-")[0]
+    REAL = session.read().partition("import\n")[2].partition("\n.\n")[0] + "\n"
 
 
 def folder():
