@@ -104,7 +104,9 @@ fn refuses_what_breaks_a_rule(rt: HostRuntime) -> Result<(), Fail> {
     for bytes in [
         b"".as_slice(),
         b"\x00",
-        b"\x08\0\0\0\0\0\0\0\x01\0\0\0\x01",
+        // a sample of no keys, and one of 100,001
+        b"\x08\0\0\0\0\0\0\0\x01\0\0\0\0",
+        b"\x08\0\0\0\0\0\0\0\x01\0\x01\x86\xa1",
         // 2^32 - 1 keys, of which none follows
         b"\x01\xff\xff\xff\xff",
         b"\x01\0\0\0\0\0",
