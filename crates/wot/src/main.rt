@@ -1,7 +1,7 @@
 //! `wot`: a web of trust engine after GnuPG's, over standard input and output and two files of the current folder.
 #![tactic(auto)]
 
-ghost use Rattle.std.specs.Prelude.{◌≡◌, ℕ, List, Some, None, map, string_bytes};
+ghost use Rattle.std.specs.Prelude.{◌≡◌, ◌⊎◌, ℕ, List, Some, None, map, string_bytes};
 ghost use Rattle.std.specs.Process.{exit_status};
 ghost use Rattle.wot_site.specs.Seen.{Honestly};
 ghost use Rattle.wot_session.specs.Run.{HasCauses, Ran, longest_input};
@@ -61,6 +61,8 @@ fn session<'a, S: Site>(alloc: Global, words: &'a [String], site: &mut S) -> End
     // There is a status with this line and this code, and the run is one that ends with it.
     ensures run { (s : status.Status) × (result.line.now ≡ line_of s) × (exit_status result.code ≡ code_of s)
         × HasCauses (S.faults site.old) (S.faults site.new) s
+        × (s ≡ Status.Usage → command_words (map string_bytes words.now) ≡ None)
+        × (command_words (map string_bytes words.now) ≡ None → (s ≡ Status.Usage) ⊎ (s ≡ Status.Memory))
         × ((command : List (List ℕ)) → command_words (map string_bytes words.now) ≡ Some command
         → Honestly (S.seen site.old) (S.seen site.new) (Ran command longest_input s)) }
     ensures untouched { command_words (map string_bytes words.now) ≡ None → site.new ≡ site.old }
