@@ -16,13 +16,13 @@ use Rattle.wot_types.specs.declared.fault.OwnertrustFault.{OwnertrustFault}
 use Rattle.wot_types.specs.declared.ownertrust.Entry.{Entry}
 use Rattle.wot_types.specs.declared.ownertrust.Ownertrust.{Ownertrust}
 use Rattle.wot_types.specs.Fingerprint.{fpr_cmp}
-use Rattle.wot_types.specs.Ownertrust.{OwnertrustMap, is_unset, kept_of}
+use Rattle.wot_types.specs.Ownertrust.{entry_of, is_unset, kept_of, OwnertrustMap}
 use Rattle.wot_types.specs.OwnertrustText.{entry_of_line, fault_of, listed_entries, ownertrust_fault, ownertrust_fault_after, text_entries, with_line_entry}
 use Rattle.wot_types.specs.Payload.{AreSettable, IsRisingBy}
 use Rattle.wot_types.specs.Numbers.{capped}
 use Rattle.wot_types.proofs.FinMaps.{All-insert}
 use Rattle.wot_types.proofs.Fingerprints.{fpr_cmp_total, fpr_cmp-IsAntisymmetric}
-use Rattle.wot_ownertrust.specs.Reading.{SoFar, after, by_line, entry_of, reading, so_far}
+use Rattle.wot_ownertrust.specs.Reading.{SoFar, after, by_line, reading, so_far}
 use Rattle.wot_ownertrust.proofs.Lines.{line_sets}
 
 -- ---- one more line

@@ -3,7 +3,6 @@ use Rattle.std.specs.Prelude.{ℕ, ◌+◌, List, length, Option, Some, None, Re
 use Rattle.std.specs.FinMap as finmap
 use Rattle.wot_types.specs.declared.fault.OwnertrustFault.{OwnertrustFault}
 use Rattle.wot_types.specs.declared.ownertrust.Entry.{Entry}
-use Rattle.wot_types.specs.declared.ownertrust.Ownertrust.{Ownertrust}
 use Rattle.wot_types.specs.Ownertrust.{OwnertrustMap, kept_of}
 use Rattle.wot_types.specs.OwnertrustText.{entry_of_line, ownertrust_fault, text_entries}
 use Rattle.wot_types.specs.Numbers.{capped}
@@ -28,7 +27,3 @@ by_line (Ok (Some entry)) entries number = Ok (finmap.insert entries entry.fpr (
 abbrev pub after : SoFar → List ℕ → SoFar
 after (Err fault) line = Err fault
 after (Ok kept) line = by_line (entry_of_line line) kept.0 (capped (kept.1 + 1))
-
--- an entry of the map, as a line gives it
-abbrev pub entry_of : List ℕ × Ownertrust → Entry
-entry_of e = record { fpr = e.0; trust = e.1.trust; disabled = e.1.disabled }

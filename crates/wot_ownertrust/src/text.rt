@@ -6,7 +6,8 @@ ghost use Rattle.wot_types.specs.declared.fault.OwnertrustFault.{OwnertrustFault
 ghost use Rattle.wot_types.specs.OwnertrustText.{listed_entries, ownertrust_fault};
 ghost use Rattle.wot_types.specs.Payload.{AreSettable};
 ghost use Rattle.wot_ownertrust.specs.declared.text.TextError.TheVariants.{Fault, Memory};
-ghost use Rattle.wot_ownertrust.specs.Reading.{after, entry_of, reading};
+ghost use Rattle.wot_ownertrust.specs.Reading.{after, reading};
+ghost use Rattle.wot_types.specs.Ownertrust.{entry_of};
 
 use crate::line::read_line;
 use std::alloc::Global;

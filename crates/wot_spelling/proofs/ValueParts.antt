@@ -13,7 +13,7 @@ use Rattle.wot_types.specs.declared.key.Key.{Key}
 use Rattle.wot_types.specs.declared.options.Options.{Options}
 use Rattle.wot_types.specs.declared.ownertrust.Entry.{Entry}
 use Rattle.wot_types.specs.declared.ownertrust.Ownertrust.{Ownertrust}
-use Rattle.wot_types.specs.Ownertrust.{kept_of, ownertrust_number}
+use Rattle.wot_types.specs.Ownertrust.{entry_of, kept_of, ownertrust_number}
 use Rattle.wot_types.specs.OwnertrustText.{of_trust, ownertrust_of_number}
 use Rattle.std.proofs.lemmas.Bool.{ltb-false}
 use Rattle.std.proofs.Common.{◌-◌}
@@ -22,7 +22,7 @@ use Rattle.wot_types.specs.declared.trust.Trust.TheVariants.{Unknown, Undefined,
 use Rattle.wot_types.specs.Fingerprint.{IsFprLength}
 use Rattle.wot_types.specs.Trust.{trust_number, trust_of_number}
 use Rattle.wot_types.specs.Spelling.{entry_bytes, EntryFits, number_1, number_4, flag_bytes, text_bytes, scope_bytes, fpr_bytes, trust_bytes, kind_bytes, list_bytes, cert_bytes, user_bytes, key_bytes, options_bytes, CertFits, UserFits, KeyFits, ListFits, OptionsFit}
-use Rattle.wot_spelling.specs.Reading.{◌>>=◌, Read, kept, bytes_at, number_1_at, number_4_at, flag_at, text_at, option_at, scope_at, is_fpr, fpr_at, or_none, coded_at, ownertrust_at, entry_of, entry_at, trust_at, user_kind_at, many_at, list_at, CertParts, cert_of, cert_at, UserParts, user_of, user_at, KeyParts, key_of, key_at, OptionsParts, options_of, options_at}
+use Rattle.wot_spelling.specs.Reading.{◌>>=◌, Read, kept, bytes_at, number_1_at, number_4_at, flag_at, text_at, option_at, scope_at, is_fpr, fpr_at, or_none, coded_at, ownertrust_at, entry_at, trust_at, user_kind_at, many_at, list_at, CertParts, cert_of, cert_at, UserParts, user_of, user_at, KeyParts, key_of, key_at, OptionsParts, options_of, options_at}
 use Rattle.wot_spelling.proofs.Lengths.{fpr_yes, fpr_is}
 use Rattle.wot_spelling.proofs.Parts.{IsBytes, Taken, IsPart, bind_some, some_is, both_part, made_part, part_of, bytes_take, bytes_again, number_1_part, number_4_part, number_8_part, flag_part, text_part}
 

@@ -11,6 +11,7 @@ use Rattle.wot_types.specs.declared.options.Options.{Options}
 use Rattle.wot_types.specs.declared.trust.Trust.{Trust}
 use Rattle.wot_types.specs.declared.ownertrust.Entry.{Entry}
 use Rattle.wot_types.specs.declared.ownertrust.Ownertrust.{Ownertrust}
+use Rattle.wot_types.specs.Ownertrust.{entry_of}
 use Rattle.wot_types.specs.OwnertrustText.{ownertrust_of_number}
 use Rattle.wot_types.specs.Trust.{trust_of_number}
 use Rattle.wot_spelling.specs.declared.stop.Stop.{Stop}
@@ -146,9 +147,6 @@ coded_at of bytes = number_1_at bytes >>= λ n. or_none (of n.0) n.1
 
 unfoldable pub ownertrust_at : Read Ownertrust
 ownertrust_at = coded_at ownertrust_of_number
-
-abbrev pub entry_of : List ℕ × Ownertrust → Entry
-entry_of p = record { fpr = p.0; trust = p.1.trust; disabled = p.1.disabled }
 
 unfoldable pub entry_at : Read Entry
 entry_at = made entry_of (fpr_at & ownertrust_at)

@@ -16,7 +16,7 @@ pub record OnSide (side : Side) (P : List ℕ → Type 0) (old new : Disks) : Ty
 abbrev pub Becomes : Side → (List ℕ → List ℕ) → Seen → Seen → Type 0
 Becomes side f old new = new.disks ≡ with_disk side (settled (f (disk_of side old.disks).reads)) old.disks
 
--- nothing is pending on a side, and it is known whether its gate must be closed before it is written
+-- nothing is pending on a side, and it is known whether its gate is closed already: else it is short, or its gate is open
 pub record IsKnown (is_closed : Bool) (d : Disk) : Type 0 where
   pub settled : d ≡ settled d.reads
   pub closed : is_closed ≡ true → IsClosed d.reads 0

@@ -6,8 +6,8 @@ use Rattle.std.proofs.lemmas.List.Sorted.{IsPermutation-map, sum_by-IsPermutatio
 use Rattle.std.proofs.lemmas.List.Sums.{sum_by-cons}
 use Rattle.wot_types.specs.declared.placed.Placed.{Placed}
 use Rattle.wot_types.specs.Selection.{Spot}
-use Rattle.wot_types.specs.NextCheck.{sooner, soonest, user_expiries}
-use Rattle.wot_types.specs.Soonest.{if_after, soonest_after}
+use Rattle.wot_types.specs.NextCheck.{sooner, soonest, user_expiries, soonest_after}
+use Rattle.wot_types.specs.Soonest.{if_after}
 
 pub sooner_none : (a : ℕ) → sooner a 0 ≡ a
 sooner_none a = grind (arith, nat_tests)

@@ -7,10 +7,10 @@ ghost use Rattle.std.specs.Option.{option_copied};
 ghost use Rattle.wot_types.specs.Arrangement.{IsRising};
 ghost use Rattle.wot_types.specs.Keyring.{key_certs};
 ghost use Rattle.wot_types.specs.Limits.{most_certs, most_users};
-ghost use Rattle.wot_types.specs.NextCheck.{key_expiries, user_expiries};
+ghost use Rattle.wot_types.specs.NextCheck.{key_expiries, user_expiries, soonest_after};
 ghost use Rattle.wot_types.specs.Selection.{placed_from, spots_from};
 ghost use Rattle.wot_table.specs.Heads.{IsKeyHead, IsUserHead};
-ghost use Rattle.wot_types.specs.Soonest.{soonest_after};
+
 ghost use Rattle.wot_table.specs.Weights.{weight_of};
 
 use crate::head::{KeyHead, UserHead};

@@ -1,8 +1,8 @@
 //! The soonest of some expiries after a date; 0 is none.
 
 ghost use Rattle.std.specs.Prelude.{◌≡◌, map};
-ghost use Rattle.wot_types.specs.NextCheck.{sooner};
-ghost use Rattle.wot_types.specs.Soonest.{if_after, none_at_0, soonest_after};
+ghost use Rattle.wot_types.specs.NextCheck.{sooner, soonest_after};
+ghost use Rattle.wot_types.specs.Soonest.{if_after, none_at_0};
 
 use wot_types::Placed;
 

@@ -49,8 +49,12 @@ limit_passed totals =
     if nat_lt most_keyring_certs totals.certs then Some Certs else
     if nat_lt most_text totals.text then Some Text else None
 
+-- so many ownertrust entries are too many
+abbrev pub count_passed : ℕ → Option Limit
+count_passed count = if nat_lt most_trusts count then Some Trusts else None
+
 abbrev pub trusts_passed : OwnertrustMap → Option Limit
-trusts_passed trusts = if nat_lt most_trusts (finmap.len trusts) then Some Trusts else None
+trusts_passed trusts = count_passed (finmap.len trusts)
 
 -- the payload of a record is too long
 abbrev pub record_passed : List ℕ → Option Limit

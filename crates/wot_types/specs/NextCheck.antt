@@ -21,6 +21,9 @@ abbrev pub soonest : List ℕ → ℕ
 soonest [] = 0
 soonest (e ∷ es) = sooner e (soonest es)
 
--- 0 where there is none
+-- the soonest after a date; 0 where there is none
+abbrev pub soonest_after : ℕ → List ℕ → ℕ
+soonest_after date expiries = soonest (filter (λ e. nat_lt date e) expiries)
+
 abbrev pub next_check : State → ℕ
-next_check s = soonest (filter (λ e. nat_lt s.date e) (flat_map key_expiries (finmap.values s.keys)))
+next_check s = soonest_after s.date (flat_map key_expiries (finmap.values s.keys))

@@ -55,10 +55,10 @@ import_line keys kept passed = reply_line (codes "ok keys " ++ decimal keys ++ c
 abbrev pub entries_line : ℕ → List ℕ
 entries_line entries = reply_line (codes "ok entries " ++ decimal entries)
 
--- after a sample: how many user IDs have which letter, and how many keys it has
 abbrev pub keys_line : ℕ → List ℕ
 keys_line keys = reply_line (codes "ok keys " ++ decimal keys)
 
+-- after a sample: how many user IDs have which letter, and how many keys it has
 abbrev pub sample_reply : State → ℕ → List ℕ
 sample_reply s count = tally_line s (rows_of s) ++ keys_line count
 

@@ -31,7 +31,7 @@ pub record IsInRange (o : Options) : Type 0 where
   pub least_level : 1 ≤ o.level
   pub most_level : o.level ≤ 3
 
--- each number is within its bytes, and so is each length
+-- each number of more than one byte is within its bytes, and so is each length; a number of one byte is one by its type
 abbrev pub EditFits : Edit → Type 0
 EditFits (Import keys) = ListFits KeyFits keys
 EditFits (Ownertrust entries) = ListFits EntryFits entries

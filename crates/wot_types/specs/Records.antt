@@ -129,8 +129,11 @@ is_capability b = is_letter_byte b && not (b == upper_d)
 abbrev pub capabilities_at : List ℕ → List ℕ
 capabilities_at line = filter is_capability (field 12 line)
 
+abbrev pub is_alphanumeric : ℕ → Bool
+is_alphanumeric b = is_letter_byte b || is_digit b
+
 abbrev pub is_hash_byte : ℕ → Bool
-is_hash_byte b = is_letter_byte b || is_digit b
+is_hash_byte b = is_alphanumeric b
 
 abbrev pub hash_at : List ℕ → List ℕ
 hash_at line = filter is_hash_byte (field 8 line)

@@ -2,8 +2,7 @@
 use Rattle.std.specs.Prelude.{ℕ, Bool, true, false, ◌==◌, not, ◌+◌, ◌-◌, ◌&&◌, ◌||◌, nat_le, nat_eq, List, [], ◌∷◌, ◌++◌, length, take, drop, map, if◌then◌else◌, Option, Some, None, option_map, codes}
 use Rattle.std.specs.Cmp.Lexicographic.{pointwise}
 use Rattle.std.specs.List.{list_any}
-use Rattle.wot_types.specs.Numbers.{is_digit}
-use Rattle.wot_types.specs.Records.{is_letter_byte}
+use Rattle.wot_types.specs.Records.{is_alphanumeric}
 use Rattle.wot_types.specs.Bytes.{at_sign, backslash, dot, greater_than, hyphen, less_than, underscore, upper_a, upper_z}
 
 abbrev pub opening : List ℕ
@@ -12,16 +11,14 @@ opening = codes "<[^>]+[@.]"
 abbrev pub closing : List ℕ
 closing = codes ">$"
 
-abbrev pub is_alphanumeric : ℕ → Bool
-is_alphanumeric b = is_letter_byte b || is_digit b
-
 abbrev pub is_plain : ℕ → Bool
 is_plain b = is_alphanumeric b || (b == hyphen) || (b == underscore)
 
 abbrev pub before : ℕ → Option (List ℕ) → Option (List ℕ)
 before b domain = option_map (λ rest. b ∷ rest) domain
 
--- the bytes for which the pieces stand: a letter, a digit, `-` or `_` for itself, a backslash and any other byte for that byte
+-- the bytes for which the pieces stand: a letter, a digit, `-` or `_` for itself, a backslash and a byte that is neither a letter
+-- nor a digit for that byte
 abbrev pub pieces : List ℕ → Option (List ℕ)
 pieces [] = Some []
 pieces (c ∷ []) = if is_plain c then Some (c ∷ []) else None

@@ -1,6 +1,6 @@
 use Rattle.std.proofs.Common.{◌≡◌, ◌++◌, map}
 use Rattle.std.specs.FinMap as finmap
-use Rattle.wot_ownertrust.specs.Reading.{entry_of}
+use Rattle.wot_types.specs.Ownertrust.{entry_of}
 use Rattle.wot_ownertrust.proofs.text.listed.Given as goal
 
 abbrev pub invariant-loop-fpr : goal.invariant-loop-fpr

@@ -1,8 +1,8 @@
 use Rattle.std.proofs.Common.{◌+◌, ◌∷◌, drop, sym, ap, ◌∙◌}
 use Rattle.std.specs.List.{flat_map}
 use Rattle.std.proofs.lemmas.List.{drop_more}
-use Rattle.wot_types.specs.NextCheck.{sooner, user_expiries}
-use Rattle.wot_types.specs.Soonest.{soonest_after}
+use Rattle.wot_types.specs.NextCheck.{sooner, user_expiries, soonest_after}
+
 use Rattle.wot_table.proofs.Expiries.{more_expiries}
 use Rattle.wot_table.proofs.held.soonest_of_users.Goals as goal
 

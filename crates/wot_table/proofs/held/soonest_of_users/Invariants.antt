@@ -1,7 +1,7 @@
 use Rattle.std.proofs.Common.{◌≡◌, drop}
 use Rattle.std.specs.List.{flat_map}
-use Rattle.wot_types.specs.NextCheck.{sooner, user_expiries}
-use Rattle.wot_types.specs.Soonest.{soonest_after}
+use Rattle.wot_types.specs.NextCheck.{sooner, user_expiries, soonest_after}
+
 use Rattle.wot_table.proofs.held.soonest_of_users.Given as goal
 
 abbrev pub invariant-loop-user : goal.invariant-loop-user

@@ -1,6 +1,6 @@
 use Rattle.std.proofs.Common.{◌≡◌, map, drop}
-use Rattle.wot_types.specs.NextCheck.{sooner}
-use Rattle.wot_types.specs.Soonest.{soonest_after}
+use Rattle.wot_types.specs.NextCheck.{sooner, soonest_after}
+
 use Rattle.wot_table.proofs.soonest.soonest_of_certs.Given as goal
 
 abbrev pub invariant-loop-placed : goal.invariant-loop-placed

@@ -1,8 +1,8 @@
 use Rattle.std.proofs.Common.{sym, ap, ap₂, ◌∙◌}
 use Rattle.std.specs.List.{flat_map}
 use Rattle.wot_types.specs.declared.key.Key.{Key}
-use Rattle.wot_types.specs.NextCheck.{key_expiries, sooner, user_expiries}
-use Rattle.wot_types.specs.Soonest.{soonest_after}
+use Rattle.wot_types.specs.NextCheck.{key_expiries, sooner, user_expiries, soonest_after}
+
 use Rattle.wot_table.proofs.Expiries.{expiries_of_users, soonest_after-cons}
 use Rattle.wot_table.proofs.held.Held.soonest.Goals as goal
 

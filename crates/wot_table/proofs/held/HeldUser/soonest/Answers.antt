@@ -1,8 +1,8 @@
 use Rattle.std.proofs.Common.{map, sym, ap, ap₂, ◌∙◌}
 use Rattle.wot_types.specs.Arrangement.{in_order}
-use Rattle.wot_types.specs.NextCheck.{sooner, user_expiries}
+use Rattle.wot_types.specs.NextCheck.{sooner, user_expiries, soonest_after}
 use Rattle.wot_types.specs.Selection.{Spot}
-use Rattle.wot_types.specs.Soonest.{soonest_after}
+
 use Rattle.wot_table.proofs.Expiries.{expiries_held, soonest_after-cons}
 use Rattle.wot_table.proofs.held.HeldUser.soonest.Goals as goal
 

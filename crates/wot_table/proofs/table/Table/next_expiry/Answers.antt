@@ -2,9 +2,9 @@ use Rattle.std.proofs.Common.{map, sym, ap, ◌∙◌}
 use Rattle.std.specs.FinMap as finmap
 use Rattle.std.specs.Cmp.{nat_cmp_total}
 use Rattle.std.specs.List.{flat_map}
-use Rattle.wot_types.specs.NextCheck.{key_expiries, sooner}
+use Rattle.wot_types.specs.NextCheck.{key_expiries, sooner, soonest_after}
 use Rattle.wot_types.proofs.Maps.{entries_are}
-use Rattle.wot_types.specs.Soonest.{soonest_after}
+
 use Rattle.wot_table.proofs.Expiries.{more_expiries}
 use Rattle.wot_table.proofs.table.Table.next_expiry.Goals as goal
 

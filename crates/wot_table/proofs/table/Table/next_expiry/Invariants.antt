@@ -1,8 +1,8 @@
 use Rattle.std.proofs.Common.{◌≡◌, map}
 use Rattle.std.specs.FinMap as finmap
 use Rattle.std.specs.List.{flat_map}
-use Rattle.wot_types.specs.NextCheck.{key_expiries, sooner}
-use Rattle.wot_types.specs.Soonest.{soonest_after}
+use Rattle.wot_types.specs.NextCheck.{key_expiries, sooner, soonest_after}
+
 use Rattle.wot_table.proofs.table.Table.next_expiry.Given as goal
 
 abbrev pub invariant-loop-held : goal.invariant-loop-held
