@@ -62,7 +62,7 @@ base_shows r = record {
 pub blank_shows : (c : Image) → IsBlank c.zero → Shows c fresh
 blank_shows c blank = inl (blank, refl)
 
-not_short : (side : Side) (header : List ℕ) (size : ℕ) → header_fault side header size ≡ None → 24 ≤ size → 24 < size
+pub not_short : (side : Side) (header : List ℕ) (size : ℕ) → header_fault side header size ≡ None → 24 ≤ size → 24 < size
 not_short side header size none low = grind (arith, nat_tests)
 
 pub says_there : (side : Side) (R : List ℕ) (size : ℕ) (header : List ℕ) (look : Look) → size ≡ length R → 24 ≤ size → header ≡ take 24 (drop 0 R) → Looks side header size look → Says side R look

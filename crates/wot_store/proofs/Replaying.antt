@@ -59,6 +59,21 @@ reaches_more bytes start base edits at s edit next t came here spelled made = re
 pub has_payload : (bytes : List ℕ) (edit : Edit) → IsPayload bytes edit → HasPayload edit
 has_payload bytes edit spells = record { fits = spells.fits; proper = spells.proper; is = refl }
 
+-- the record at a place makes its edit, and the next place is reached
+pub reaches_made : (bytes : List ℕ) (start : ℕ) (base : State) (edits : List Edit) (at : ℕ) (s : State) (spelling : List ℕ) (next : ℕ) (t : State)
+    → Reaches bytes start base edits at s → HasRecord bytes at spelling next → (made : Makes s spelling t) → Reaches bytes start base (edits ++ made.edit ∷ []) next t
+reaches_made bytes start base edits at s spelling next t came here made =
+    reaches_more bytes start base edits at s made.edit next t came (subst (λ (l : List ℕ). HasRecord bytes at l next) made.spells.is here) (has_payload spelling made.edit made.spells) made.accepted
+
+-- a record that stands whole and is bad is the fault of its place
+pub record_fault : (side : Side) (bytes : List ℕ) (at number : ℕ) (s : State) (spelling : List ℕ) (end : ℕ) (bad : BadStore)
+    → HasRecord bytes at spelling end → IsBadRecord s spelling number bad → HasFault side bytes at number s bad
+record_fault side bytes at number s spelling end (Magic other) here wrong = absurd wrong
+record_fault side bytes at number s spelling end (Short other q) here wrong = absurd wrong
+record_fault side bytes at number s spelling end Spelling here wrong = absurd wrong
+record_fault side bytes at number s spelling end (BadPayload n) here wrong = (spelling, end, here, wrong)
+record_fault side bytes at number s spelling end (BadEdit n) here wrong = (spelling, end, here, wrong)
+
 module _ (side : Side) (start : ℕ) (base : State) (number at : ℕ) (s : State) (x y z : Seen) (came : Came side start base number at s x y) where
   same_bytes : (disk_of side y.disks).reads ≡ (disk_of side x.disks).reads
   same_bytes = ap (λ (u : Seen). (disk_of side u.disks).reads) came.stays
@@ -68,9 +83,7 @@ module _ (side : Side) (start : ℕ) (base : State) (number at : ℕ) (s : State
     stays = found.stays ∙ came.stays;
     edits = came.edits ++ made.edit ∷ [];
     count = (let long = length_push came.edits made.edit in omega (arith, long, came.count));
-    reaches = reaches_more (disk_of side x.disks).reads start base came.edits at s made.edit next t came.reaches
-        (subst (λ (l : List ℕ). HasRecord (disk_of side x.disks).reads at l next) made.spells.is (subst (λ (l : List ℕ). HasRecord l at spelling next) same_bytes found.stands))
-        (has_payload spelling made.edit made.spells) made.accepted;
+    reaches = reaches_made (disk_of side x.disks).reads start base came.edits at s spelling next t came.reaches (subst (λ (l : List ℕ). HasRecord l at spelling next) same_bytes found.stands) made;
   }
 
   pub fails_record : (spelling : List ℕ) (next : ℕ) (bad : BadStore) → Finds side at (Payload spelling next) y z → IsBadRecord s spelling (number + 1) bad → FailsAt side start base bad x z
@@ -81,16 +94,9 @@ module _ (side : Side) (start : ℕ) (base : State) (number at : ℕ) (s : State
       at = at;
       state = s;
       reaches = came.reaches;
-      fault = record_fault bad (subst (λ (l : List ℕ). HasRecord l at spelling next) same_bytes found.stands) (subst (λ (n : ℕ). IsBadRecord s spelling (n + 1) bad) came.count wrong);
+      fault = record_fault side (disk_of side x.disks).reads at (length came.edits + 1) s spelling next bad (subst (λ (l : List ℕ). HasRecord l at spelling next) same_bytes found.stands) (subst (λ (n : ℕ). IsBadRecord s spelling (n + 1) bad) came.count wrong);
     };
   }
-    where
-      record_fault : (b : BadStore) → HasRecord (disk_of side x.disks).reads at spelling next → IsBadRecord s spelling (length came.edits + 1) b → HasFault side (disk_of side x.disks).reads at (length came.edits + 1) s b
-      record_fault (Magic other) here wrong = absurd wrong
-      record_fault (Short other q) here wrong = absurd wrong
-      record_fault Spelling here wrong = absurd wrong
-      record_fault (BadPayload n) here wrong = (spelling, next, here, wrong)
-      record_fault (BadEdit n) here wrong = (spelling, next, here, wrong)
 
   pub fails_short : IsCutAt side at y z → FailsAt side start base (Short side at) x z
   fails_short cut = record {

@@ -8,7 +8,7 @@ mod replay; // making the edits of a journal's records
 mod opening; // opening a store
 mod appending; // appending the record of an edit
 mod place; // where the journal of the shown store ends
-mod laws; // what a store shows is one thing
+mod laws; // what a store shows is one thing, whatever its bytes are
 
 pub use appending::append;
 pub use error::{BadStore, StoreError};
