@@ -27,7 +27,7 @@ use Rattle.wot_ownertrust.proofs.Lines.{line_sets}
 
 -- ---- one more line
 
-or_none : {A : Type 0} (o : Option A) → option_or o None ≡ o
+pub or_none : {A : Type 0} (o : Option A) → option_or o None ≡ o
 or_none None = refl
 or_none (Some x) = refl
 
@@ -127,11 +127,11 @@ less Less h = refl
 less Equal h = absurd h
 less Greater h = absurd h
 
-first : (a b : Bool) → T (a && b) → T a
+pub first : (a b : Bool) → T (a && b) → T a
 first true b h = tt
 first false b h = absurd h
 
-second : (a b : Bool) → T (a && b) → T b
+pub second : (a b : Bool) → T (a && b) → T b
 second true b h = h
 second false b h = absurd h
 
