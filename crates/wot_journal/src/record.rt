@@ -3,7 +3,7 @@
 ghost use Rattle.std.specs.Prelude.{◌≡◌, ◌+◌, ◌-◌, ◌^◌, ◌<◌, ◌≤◌, length, IfOk, IsErrOf};
 ghost use Rattle.wot_journal.specs.Record.{Framed, most, behind_gate};
 
-use std::alloc::{AllocError, AllocFailed, Global};
+use std::alloc::AllocError;
 use std::marker::Model;
 use thiserror::Error;
 
@@ -28,16 +28,6 @@ impl From<AllocError> for BuildError {
     ghost from_gives = { λ _ e. e ≡ Memory };
 
     fn from(_e: AllocError) -> BuildError {
-        BuildError::Memory
-    }
-}
-
-impl<T: Drop> From<AllocFailed<T>> for BuildError {
-    ghost use Rattle.wot_journal.specs.declared.record.BuildError.TheVariants.{Memory};
-
-    ghost from_gives = { λ _ e. e ≡ Memory };
-
-    fn from(_e: AllocFailed<T>) -> BuildError {
         BuildError::Memory
     }
 }
@@ -80,19 +70,29 @@ impl Built {
     }
 }
 
-/// Builds the record of a payload for the journal's end.
-pub fn build(alloc: Global, payload: &[u8], end: u64) -> Result<Built, BuildError>
-    ensures built { IfOk result (λ b. b ≡ record { end = end; payload = payload.now }) }
-    ensures room { IfOk result (λ b. end + length payload.now + 6 ≤ most) }
-    ensures full { IsErrOf result BuildError.JournalFull → most < end + length payload.now + 6 }
+/// Builds the record of a payload for the journal's end, in the payload's own vector, so that no second one holds it.
+pub fn build(payload: Vec<u8>, end: u64) -> Result<Built, BuildError>
+    ensures built { IfOk result (λ b. b ≡ record { end = end; payload = payload.items }) }
+    ensures room { IfOk result (λ b. end + length payload.items + 6 ≤ most) }
+    ensures full { IsErrOf result BuildError.JournalFull → most < end + length payload.items + 6 }
 {
     let len = payload.len() as u64;
     if end > MOST || len > MOST || end + len + 6 > MOST {
         return Err(BuildError::JournalFull);
     }
-    let mut body = Vec::new(alloc);
-    body.extend_from_slice(&(len as u32).to_be_bytes())?;
-    body.extend_from_slice(payload)?;
-    body.push(0)?;
+    let body = put_behind_gate(payload)?;
     Ok(Built { end, body })
+}
+
+// Makes of a payload's bytes what stands behind the gate of its record.
+fn put_behind_gate(mut bytes: Vec<u8>) -> Result<Vec<u8>, AllocError>
+    requires { length bytes.items < 2 ^ 32 }
+    ensures { IfOk result (λ body. body.items ≡ behind_gate bytes.items) }
+{
+    let len = (bytes.len() as u32).to_be_bytes();
+    bytes.reserve_exact(len.len() + 1)?;
+    bytes.extend_from_slice(&len)?;
+    bytes.rotate_right(len.len());
+    bytes.push(0)?;
+    Ok(bytes)
 }
