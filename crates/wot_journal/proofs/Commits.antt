@@ -1,18 +1,17 @@
 -- What the calls of a commit may leave.
-use Rattle.std.proofs.Common.{◌≡◌, ◌≢◌, ◌⊎◌, inl, inr, ⊎_elim, ℕ, ◌+◌, ◌<◌, ◌≤◌, List, [], ◌∷◌, ◌++◌, length, get_or, take, drop, refl, sym, ◌∙◌, ap, subst, arith, append_assoc}
-use Rattle.std.specs.Prelude.{slice_index}
+use Rattle.std.proofs.Common.{◌≡◌, ◌⊎◌, inl, inr, ℕ, ◌+◌, ◌<◌, ◌≤◌, List, [], ◌∷◌, ◌++◌, length, get_or, take, drop, sym, ◌∙◌, ap, subst, arith, append_assoc}
 use Rattle.std.specs.Int.{to_be_bytes, w32}
 use Rattle.std.proofs.lemmas.Bool.{cases_eq, cases_lt}
-use Rattle.std.proofs.lemmas.List.{length-append, take-take, get_or-take, take-append-drop, drop_more, drop_at, take_at, length-take-le, drop-drop}
+use Rattle.std.proofs.lemmas.List.{length-append, take-take, get_or-take, take-append-drop, drop_more}
 use Rattle.wot_site.specs.Disk.{Disk, Disks, IsImage, disk_of, with_disk, after_write, after_sync, settled, written}
 use Rattle.wot_site.specs.Seen.{Seen}
-use Rattle.wot_site.specs.Site.{on_disk, with_disks}
+use Rattle.wot_site.specs.Site.{on_disk}
 use Rattle.wot_site.specs.Work.{Works}
 use Rattle.wot_site.specs.declared.site.Side.{Side}
-use Rattle.wot_site.proofs.Images.{settled_image, torn_image, take_written, drop_written, back_written, length_written, length_written_end}
+use Rattle.wot_site.proofs.Images.{settled_image, torn_image, take_written, drop_written, length_written, length_written_end}
 use Rattle.wot_site.proofs.Sides.{disk_with, with_with, with_same}
 use Rattle.wot_site.proofs.Works.{works_start, works_push, works_to, works_then}
-use Rattle.wot_journal.specs.Record.{Framed, IsClosed, record_of, behind_gate, with_record, open_gate}
+use Rattle.wot_journal.specs.Record.{Framed, IsClosed, behind_gate, with_record, open_gate}
 use Rattle.wot_journal.specs.Commit.{Puts, PutsNot, IsEnd, Commits, IsUnchanged, IsCommitting}
 
 pub length_behind : (payload : List ℕ) → length (behind_gate payload) ≡ length payload + 5

@@ -1,5 +1,5 @@
 -- Bytes of a side that are read piece by piece.
-use Rattle.std.proofs.Common.{◌≡◌, ℕ, ◌+◌, ◌<◌, ◌≤◌, List, [], ◌++◌, length, take, drop, refl, sym, ◌∙◌, ap, subst, arith}
+use Rattle.std.proofs.Common.{◌≡◌, ℕ, ◌+◌, ◌<◌, ◌≤◌, List, [], ◌++◌, length, take, drop, refl, sym, ◌∙◌, ap, arith}
 use Rattle.std.proofs.lemmas.List.{length-append, length-take-le, take-take, drop-drop}
 use Rattle.std.proofs.Math.Seq.{take-add}
 use Rattle.wot_site.specs.Disk.{disk_of}

@@ -1,5 +1,5 @@
 -- What stands at a place of a journal.
-use Rattle.std.specs.Prelude.{ℕ, ◌≡◌, ◌+◌, ◌<◌, ◌≤◌, min, List, ◌++◌, length, take, drop, slice_index}
+use Rattle.std.specs.Prelude.{ℕ, ◌≡◌, ◌+◌, ◌<◌, min, List, ◌++◌, length, take, drop, slice_index}
 use Rattle.std.specs.Int.{from_be_bytes, w32}
 use Rattle.wot_journal.specs.Record.{record_of, open_gate, most}
 

@@ -1,11 +1,9 @@
-use Rattle.std.proofs.Common.{ℕ, ◌≡◌, ◌∙◌, ◌+◌, [], ◌++◌, sym, subst, arith, refl, rules, length, ap, take, ◌≤◌}
-use Rattle.std.specs.Prelude.{List}
+use Rattle.std.proofs.Common.{◌≡◌, ◌∙◌, ◌+◌, [], ◌++◌, arith, refl, rules, length, take, ◌≤◌}
 use Rattle.std.proofs.lemmas.List.{length-append, length-take-le}
-use Rattle.wot_site.specs.Seen.{Honestly}
 use Rattle.wot_site.specs.Site.{Reads}
 use Rattle.wot_site.proofs.Honest.{honest_start, honest_then}
 use Rattle.wot_journal.specs.Range.{IsRange}
-use Rattle.wot_journal.proofs.Ranges.{range_start, range_more, range_short}
+use Rattle.wot_journal.proofs.Ranges.{range_start, range_more}
 use Rattle.wot_journal.proofs.range.read_range.Goals as goal
 
 pub loop-side-init : goal.loop-side-init

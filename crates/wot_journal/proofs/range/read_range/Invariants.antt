@@ -1,4 +1,4 @@
-use Rattle.std.proofs.Common.{◌≡◌, ◌+◌, ◌-◌, ◌≤◌, length, take, drop}
+use Rattle.std.proofs.Common.{◌≡◌, ◌-◌, ◌≤◌, length}
 use Rattle.wot_site.specs.Seen.{Honestly}
 use Rattle.wot_journal.specs.Range.{IsRange}
 use Rattle.wot_journal.proofs.range.read_range.Given as goal
