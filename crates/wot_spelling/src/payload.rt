@@ -9,6 +9,7 @@ ghost use Rattle.wot_spelling.specs.Edits.{GivesAll, edit_at, edit_of, entries_a
 
 use crate::checks::{are_importable, are_settable, is_in_range, is_sample_count};
 use crate::reader::Reader;
+use crate::sizes::payload_length;
 use crate::stop::Stop;
 use crate::writer::Writer;
 use std::alloc::Global;
@@ -162,7 +163,8 @@ pub fn encode(alloc: Global, edit: &Edit) -> Result<Vec<u8>, Mem>
     requires room { length (payload edit.now) ≤ most_record }
     ensures spelled { IfOk result (λ bytes. IsPayload bytes.items edit.now) }
 {
-    let mut writer = Writer::new(alloc);
+    let room = payload_length(edit) as usize;
+    let mut writer = Writer::with_room(alloc, room)?;
     write_edit(&mut writer, edit)?;
     Ok(writer.into_vec())
 }

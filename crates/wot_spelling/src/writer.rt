@@ -1,6 +1,6 @@
 //! Writing the parts of a spelling, one after the other.
 
-ghost use Rattle.std.specs.Prelude.{◌≡◌, ◌<◌, ◌^◌, ◌++◌, [], OnOk, IfSome, length};
+ghost use Rattle.std.specs.Prelude.{◌≡◌, ◌<◌, ◌^◌, ◌++◌, [], IfOk, OnOk, IfSome, length};
 ghost use Rattle.wot_types.specs.Fingerprint.{IsFprLength};
 ghost use Rattle.wot_types.specs.Ownertrust.{ownertrust_number};
 ghost use Rattle.wot_types.specs.Spelling.{IsShort, ListFits, OptionsFit, number_1, number_4, number_8, flag_bytes, text_bytes, scope_bytes, fpr_bytes, trust_bytes, kind_bytes, options_bytes, list_bytes};
@@ -25,12 +25,12 @@ impl Model for Writer {
 }
 
 impl Writer {
-    pub fn new(alloc: Global) -> Writer
-        ensures { result ≡ [] }
+    /// With room for that many bytes, so that writing these moves none.
+    pub fn with_room(alloc: Global, room: usize) -> Result<Writer, Mem>
+        ensures { IfOk result (λ writer. writer ≡ []) }
     {
-        Writer {
-            out: Vec::new(alloc),
-        }
+        let out = Vec::with_capacity(alloc, room)?;
+        Ok(Writer { out })
     }
 
     pub fn into_vec(self) -> Vec<u8>
