@@ -4,7 +4,7 @@ use Rattle.std.specs.Prelude.{IfOk}
 use Rattle.std.proofs.lemmas.List.{append-nil}
 use Rattle.wot_types.specs.State.{State}
 use Rattle.wot_types.specs.Commands as lines
-use Rattle.wot_types.specs.Commands.{Command, ReadLine, closed, cut_by, ends, is_quit, made_by, of_line, opened, opens_block, with_line, words_in}
+use Rattle.wot_types.specs.Commands.{Command, ReadLine, closed_command, cut_by, ends, is_quit, made_by, of_line, opened_command, opens_block, with_line, words_in}
 use Rattle.wot_types.specs.Commands.Cut.{between, within, over}
 use Rattle.wot_types.specs.LineByLine.{Position}
 use Rattle.wot_types.specs.Outcome.{Outcome, outcome, skip}
@@ -49,26 +49,26 @@ module _ (answered : Answered) (p : Position) (line : ReadLine) where
       → IsCut answered.cut (if is_quit (words_in line) then over else between) → Answers answered p line
   answers_line here single ends now =
       answers_whole (of_line line) (ap (λ c. made_by c line) here ∙ ap (λ b. if b then [] else of_line line ∷ []) single) ends
-      (subst (IsCut answered.cut) (sym (ap (λ c. cut_by c line) here ∙ ap (λ b. if b then within (opened line) else if is_quit (words_in line) then over else between) single)) now)
+      (subst (IsCut answered.cut) (sym (ap (λ c. cut_by c line) here ∙ ap (λ b. if b then within (opened_command line) else if is_quit (words_in line) then over else between) single)) now)
 
   -- one whose block begins
-  pub answers_opened : (old : State) → old ≡ p.progress.store.state → p.cut ≡ between → opens_block line ≡ true → IsReply answered old skip → IsCut answered.cut (within (opened line)) → Answers answered p line
+  pub answers_opened : (old : State) → old ≡ p.progress.store.state → p.cut ≡ between → opens_block line ≡ true → IsReply answered old skip → IsCut answered.cut (within (opened_command line)) → Answers answered p line
   answers_opened old same here opens reply now =
       answers_none old same (ap (λ c. made_by c line) here ∙ ap (λ b. if b then [] else of_line line ∷ []) opens) reply
-      (subst (IsCut answered.cut) (sym (ap (λ c. cut_by c line) here ∙ ap (λ b. if b then within (opened line) else if is_quit (words_in line) then over else between) opens)) now)
+      (subst (IsCut answered.cut) (sym (ap (λ c. cut_by c line) here ∙ ap (λ b. if b then within (opened_command line) else if is_quit (words_in line) then over else between) opens)) now)
 
   -- within a block: its end
-  pub answers_end : (command : Command) → p.cut ≡ within command → ends command line ≡ true → Ends answered p.progress.store (outcome p.progress.store (closed command))
+  pub answers_end : (command : Command) → p.cut ≡ within command → ends command line ≡ true → Ends answered p.progress.store (outcome p.progress.store (closed_command command))
       → answered.cut ≡ Between → Answers answered p line
   answers_end command here ended replied now =
-      answers_whole (closed command) (ap (λ c. made_by c line) here ∙ ap (λ b. if b then closed command ∷ [] else []) ended) replied
+      answers_whole (closed_command command) (ap (λ c. made_by c line) here ∙ ap (λ b. if b then closed_command command ∷ [] else []) ended) replied
       (subst (IsCut answered.cut) (sym (ap (λ c. cut_by c line) here ∙ ap (λ b. if b then between else within (with_line command line)) ended)) (subst (λ c. IsCut c between) (sym now) tt))
 
   -- a line of it
   pub answers_more : (old : State) → old ≡ p.progress.store.state → (command : Command) → p.cut ≡ within command → ends command line ≡ false → IsReply answered old skip
       → IsCut answered.cut (within (with_line command line)) → Answers answered p line
   answers_more old same command here goes reply now =
-      answers_none old same (ap (λ c. made_by c line) here ∙ ap (λ b. if b then closed command ∷ [] else []) goes) reply
+      answers_none old same (ap (λ c. made_by c line) here ∙ ap (λ b. if b then closed_command command ∷ [] else []) goes) reply
       (subst (IsCut answered.cut) (sym (ap (λ c. cut_by c line) here ∙ ap (λ b. if b then between else within (with_line command line)) goes)) now)
 
   -- behind `quit`

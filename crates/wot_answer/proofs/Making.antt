@@ -8,7 +8,7 @@ use Rattle.wot_types.specs.declared.limit.Limit.TheVariants.{Record}
 use Rattle.wot_types.specs.declared.refusal.Refusal.{Refusal}
 use Rattle.wot_types.specs.declared.refusal.Refusal.TheVariants.{Full, JournalFull, KeyIdTaken}
 use Rattle.wot_types.specs.State.{State}
-use Rattle.wot_types.specs.Outcome.{edit_outcome, edited, edited_store, is_past, missing_key, refusal_of, refuse, state_limit, taken_key, unless_refused}
+use Rattle.wot_types.specs.Outcome.{edit_outcome, state_after, edited_store, is_past, missing_key, refusal_of, refuse, state_limit, taken_key, unless_refused}
 use Rattle.wot_types.specs.Limits.{most_record, record_passed}
 use Rattle.wot_types.specs.Payload.{IsPayload, payload}
 use Rattle.wot_types.specs.Store.{Store}
@@ -35,12 +35,12 @@ module _ (text : List ℕ) (s : Store) (edit : Edit) (old : State) (end : ℕ) (
 
   -- it was made
   pub edit_made : (answered : Answered) (built : Framed) → refusal_of old edit ≡ None → is_past end edit ≡ false → built.end ≡ end → IsPayload built.payload edit
-      → answered.engine ≡ edited old edit → answered.answer.text.items ≡ text → answered.answer.refused ≡ false → answered.answer.effect ≡ Append built → Ends answered s (edit_outcome text s edit)
+      → answered.engine ≡ state_after old edit → answered.answer.text.items ≡ text → answered.answer.refused ≡ false → answered.answer.effect ≡ Append built → Ends answered s (edit_outcome text s edit)
   edit_made answered built allowed fits place payload after texts accepted effect =
       subst (Ends answered s) (sym (refusal_here None allowed ∙ room_here false fits)) (record {
         text = sym texts;
         refused = sym accepted;
-        state = ap (λ state. edited state edit) (sym same) ∙ sym after;
+        state = ap (λ state. state_after state edit) (sym same) ∙ sym after;
         does = subst (λ effect. Does effect s (edited_store s edit)) (sym effect) (record {
           edit = edit;
           accepts = record { fits = ap (λ end. is_past end edit) (sym at) ∙ fits; allowed = ap (λ state. refusal_of state edit) (sym same) ∙ allowed };

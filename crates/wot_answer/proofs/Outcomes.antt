@@ -8,7 +8,7 @@ use Rattle.wot_types.specs.declared.fault.OwnertrustFault.{OwnertrustFault}
 use Rattle.wot_types.specs.declared.edit.Head.TheVariants.{Import, Ownertrust}
 use Rattle.wot_types.specs.declared.refusal.Refusal.{Refusal}
 use Rattle.wot_types.specs.declared.refusal.Refusal.TheVariants.{LineTooLong, UnendedBlock}
-use Rattle.wot_types.specs.Commands.{Command, begun, block_texts, of_line}
+use Rattle.wot_types.specs.Commands.{Command, begun_command, block_texts, of_line}
 use Rattle.wot_types.specs.Grammar.{command_of, has_block}
 use Rattle.wot_types.specs.Listing.{fault_at_end}
 use Rattle.wot_types.specs.Outcome.{entries_outcome, head_outcome, listing_outcome, outcome, refuse, skip, words_outcome}
@@ -23,12 +23,12 @@ some_words : (s : Store) (command : Command) (words : List (List ℕ)) → (leng
 some_words s command [] some = absurd (some refl)
 some_words s command (name ∷ words) some = refl
 
-pub begun_is : (s : Store) (words : List (List ℕ)) → (length words ≡ 0 → ⊥) → outcome s (begun words) ≡ head_outcome s (begun words) (command_of words)
+pub begun_is : (s : Store) (words : List (List ℕ)) → (length words ≡ 0 → ⊥) → outcome s (begun_command words) ≡ head_outcome s (begun_command words) (command_of words)
 unfolding outcome
-begun_is s words some = some_words s (begun words) words some
+begun_is s words some = some_words s (begun_command words) words some
 
-pub by_head : (s : Store) (words : List (List ℕ)) (head : Result Head Refusal) → (length words ≡ 0 → ⊥) → command_of words ≡ head → outcome s (begun words) ≡ head_outcome s (begun words) head
-by_head s words head some is = begun_is s words some ∙ ap (head_outcome s (begun words)) is
+pub by_head : (s : Store) (words : List (List ℕ)) (head : Result Head Refusal) → (length words ≡ 0 → ⊥) → command_of words ≡ head → outcome s (begun_command words) ≡ head_outcome s (begun_command words) head
+by_head s words head some is = begun_is s words some ∙ ap (head_outcome s (begun_command words)) is
 
 -- a line that is too long
 pub long_is : (s : Store) → outcome s (of_line None) ≡ refuse LineTooLong
@@ -80,7 +80,7 @@ unended_listing s command ended = ap (λ b. if b then listing_outcome (fault_at_
 pub unended_entries : (s : Store) (command : Command) → command.ended ≡ false → head_outcome s command (Ok Ownertrust) ≡ refuse UnendedBlock
 unended_entries s command ended = ap (λ b. if b then entries_outcome (ownertrust_fault (block_texts command.block)) s (block_texts command.block) else refuse UnendedBlock) ended
 
-pub begun_none : (s : Store) (words : List (List ℕ)) → length words ≡ 0 → outcome s (begun words) ≡ skip
+pub begun_none : (s : Store) (words : List (List ℕ)) → length words ≡ 0 → outcome s (begun_command words) ≡ skip
 unfolding outcome
 begun_none s [] none = refl
 begun_none s (name ∷ words) none = cc

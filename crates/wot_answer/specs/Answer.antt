@@ -6,7 +6,7 @@ use Rattle.wot_types.specs.Commands as lines
 use Rattle.wot_types.specs.Commands.{Command, ReadLine}
 use Rattle.wot_types.specs.Commands.Cut.{between, within, over}
 use Rattle.wot_types.specs.LineByLine.{Position, after_line, reply_to_line}
-use Rattle.wot_types.specs.Outcome.{Accepts, Outcome, changed, edited_store}
+use Rattle.wot_types.specs.Outcome.{Accepts, Outcome, store_after, edited_store}
 use Rattle.wot_types.specs.Payload.{IsPayload}
 use Rattle.wot_types.specs.Store.{Store}
 use Rattle.wot_journal.specs.Record.{Framed}
@@ -41,8 +41,8 @@ Does (Append built) s t = Leads built s t
 pub record Ends (answered : Answered) (s : Store) (o : Outcome) : Type 0 where
   pub text : o.text ≡ answered.answer.text.items
   pub refused : o.refused ≡ answered.answer.refused
-  pub state : (changed o.change s).state ≡ answered.engine
-  pub does : Does answered.answer.effect s (changed o.change s)
+  pub state : (store_after o.change s).state ≡ answered.engine
+  pub does : Does answered.answer.effect s (store_after o.change s)
 
 -- the same, whatever the store with this state
 abbrev pub IsReply : Answered → State → Outcome → Type 0

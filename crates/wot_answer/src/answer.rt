@@ -3,7 +3,7 @@
 ghost use Rattle.std.specs.Prelude.{◌≡◌, true, List, Some, if◌then◌else◌, IfOk};
 ghost use Rattle.std.specs.Option.{option_copied};
 ghost use Rattle.wot_types.specs.Commands as lines;
-ghost use Rattle.wot_types.specs.Commands.{Command, begun, closed, is_quit};
+ghost use Rattle.wot_types.specs.Commands.{Command, begun_command, closed_command, is_quit};
 ghost use Rattle.wot_types.specs.Commands.Cut.{between, over, within};
 ghost use Rattle.wot_types.specs.Grammar.{has_block};
 ghost use Rattle.wot_types.specs.LineByLine.{Position};
@@ -28,7 +28,7 @@ use wot_commands::read_head;
 use wot_listing::{Blocks, Listing, ListingError};
 use wot_live::Engine;
 use wot_ownertrust::{OwnertrustText, TextError};
-use wot_print::{imported, ok, set};
+use wot_print::{entries_line, import_line, ok_line};
 use wot_types::{Edit, Fpr, Head, Mem, Refusal, Words};
 
 /// Where the lines so far leave the cut into commands.
@@ -133,7 +133,7 @@ fn answer_in_block(
     if block.is_ended_by(line) {
         return answer_body(alloc, engine, end, block.body);
     }
-    let block = block.feed(line)?;
+    let block = block.add_line(line)?;
     Ok(say_nothing(alloc, engine, Cut::Within(block)))
 }
 
@@ -158,7 +158,7 @@ pub fn answer_end(alloc: Global, engine: Engine, end: u64, block: Block) -> Resu
 fn answer_body(alloc: Global, engine: Engine, end: u64, body: Body) -> Result<Answered, Mem>
     requires known { (command : Command) × IsReadFor body command }
     ensures ends { IfOk result (λ answered. (s : Store) (command : Command) → engine ≡ s.state → end ≡ s.end
-        → IsReadFor body command → Ends answered s (outcome s (closed command))) }
+        → IsReadFor body command → Ends answered s (outcome s (closed_command command))) }
     ensures cut { IfOk result (λ answered. answered.cut ≡ Between) }
 {
     match body {
@@ -182,7 +182,7 @@ fn import_listing(
 {
     match listing.finish() {
         Ok(Blocks { keys, kept, passed }) => {
-            let reply = imported(alloc, keys.len() as u64, kept, passed)?;
+            let reply = import_line(alloc, keys.len() as u64, kept, passed)?;
             make_edit(
                 alloc,
                 engine,
@@ -208,9 +208,9 @@ fn set_entries(
         → text ≡ reading lines → Ends answered s (entries_outcome (ownertrust_fault lines) s lines)) }
     ensures cut { IfOk result (λ answered. answered.cut ≡ Between) }
 {
-    match text.finish(alloc) {
+    match text.into_entries(alloc) {
         Ok(entries) => {
-            let reply = set(alloc, entries.len() as u64)?;
+            let reply = entries_line(alloc, entries.len() as u64)?;
             make_edit(
                 alloc,
                 engine,
@@ -226,7 +226,7 @@ fn set_entries(
 
 /// Answers a command by its words; its block, if it has one, is empty.
 pub fn answer_words(alloc: Global, engine: Engine, end: u64, words: &Words) -> Result<Answered, Mem>
-    ensures ends { IfOk result (λ answered. (s : Store) → engine ≡ s.state → end ≡ s.end → Ends answered s (outcome s (begun words.now))) }
+    ensures ends { IfOk result (λ answered. (s : Store) → engine ≡ s.state → end ≡ s.end → Ends answered s (outcome s (begun_command words.now))) }
     ensures cut { IfOk result (λ answered. answered.cut ≡ Between) }
 {
     if words.is_empty() {
@@ -253,7 +253,7 @@ fn delete_key(alloc: Global, engine: Engine, end: u64, fpr: &Fpr) -> Result<Answ
     if !has_key(&engine, fpr) {
         return refuse(alloc, engine, Refusal::NoSuchKey);
     }
-    let reply = ok(alloc)?;
+    let reply = ok_line(alloc)?;
     make_edit(
         alloc,
         engine,
@@ -266,7 +266,7 @@ fn delete_key(alloc: Global, engine: Engine, end: u64, fpr: &Fpr) -> Result<Answ
 /// The block of a run of one command, which goes to the end of the input.
 pub fn begin_block(alloc: Global, words: &Words) -> Result<Block, Mem>
     requires has_block { has_block words.now ≡ true }
-    ensures begun { IfOk result (λ block. IsBlockOf block (begun words.now)) }
+    ensures begun { IfOk result (λ block. IsBlockOf block (begun_command words.now)) }
 {
     Ok(Block {
         to_end: true,

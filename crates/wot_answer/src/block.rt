@@ -42,12 +42,12 @@ impl Block {
     }
 
     /// Reads a line of the block; None is one that is too long.
-    pub fn feed(self, line: Option<&[u8]>) -> Result<Block, Mem>
+    pub fn add_line(self, line: Option<&[u8]>) -> Result<Block, Mem>
         ensures fed { IfOk result (λ block. (command : Command) → IsBlockOf self command → IsBlockOf block (with_line command (option_copied line.entry))) }
     {
         Ok(Block {
             to_end: self.to_end,
-            body: self.body.feed(line)?,
+            body: self.body.add_line(line)?,
         })
     }
 }
@@ -66,18 +66,18 @@ impl Body {
     }
 
     /// Reads a line of the block; None is one that is too long.
-    pub fn feed(self, line: Option<&[u8]>) -> Result<Body, Mem>
+    pub fn add_line(self, line: Option<&[u8]>) -> Result<Body, Mem>
         ensures fed { IfOk result (λ body. (head : Result Head Refusal) (lines : List ReadLine)
             → HasHad self head lines → HasHad body head (lines ++ option_copied line.entry ∷ [])) }
     {
         match line {
-            Some(line) => self.feed_text(line),
+            Some(line) => self.add_text(line),
             None => Ok(Body::Refused(Refusal::LineTooLong)),
         }
     }
 
     /// Reads a line that isn't too long.
-    fn feed_text(self, line: &[u8]) -> Result<Body, Mem>
+    fn add_text(self, line: &[u8]) -> Result<Body, Mem>
         ensures fed { IfOk result (λ body. (head : Result Head Refusal) (lines : List ReadLine)
             → HasHad self head lines → HasHad body head (lines ++ Some line.now ∷ [])) }
     {

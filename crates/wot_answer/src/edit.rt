@@ -1,7 +1,7 @@
 //! An edit: it is refused, or its record is built and it is made.
 
 ghost use Rattle.std.specs.Prelude.{◌≡◌, None, IfOk};
-ghost use Rattle.wot_types.specs.Outcome.{edit_outcome, edited, refusal_of};
+ghost use Rattle.wot_types.specs.Outcome.{edit_outcome, state_after, refusal_of};
 ghost use Rattle.wot_types.specs.Payload.{IsProper};
 ghost use Rattle.wot_types.specs.Store.{Store};
 ghost use Rattle.wot_answer.specs.Answer.{Ends};
@@ -28,7 +28,7 @@ pub fn make_edit(
     reply: EditReply,
 ) -> Result<Answered, Mem>
     requires proper { IsProper edit }
-    ensures ends { IfOk result (λ answered. (s : Store) → engine ≡ s.state → end ≡ s.end → Ends answered s (edit_outcome (reply_text reply (edited s.state edit)) s edit)) }
+    ensures ends { IfOk result (λ answered. (s : Store) → engine ≡ s.state → end ≡ s.end → Ends answered s (edit_outcome (reply_text reply (state_after s.state edit)) s edit)) }
     ensures cut { IfOk result (λ answered. answered.cut ≡ Between) }
 {
     match refusal(&engine, &edit) {
@@ -47,7 +47,7 @@ fn make_allowed(
 ) -> Result<Answered, Mem>
     requires proper { IsProper edit }
     requires allowed { refusal_of engine edit ≡ None }
-    ensures ends { IfOk result (λ answered. (s : Store) → engine ≡ s.state → end ≡ s.end → Ends answered s (edit_outcome (reply_text reply (edited s.state edit)) s edit)) }
+    ensures ends { IfOk result (λ answered. (s : Store) → engine ≡ s.state → end ≡ s.end → Ends answered s (edit_outcome (reply_text reply (state_after s.state edit)) s edit)) }
     ensures cut { IfOk result (λ answered. answered.cut ≡ Between) }
 {
     let payload = encode(alloc, &edit)?;

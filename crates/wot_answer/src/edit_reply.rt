@@ -2,12 +2,12 @@
 
 ghost use Rattle.std.specs.Prelude.{◌≡◌, IfOk};
 ghost use Rattle.wot_types.specs.State.{State};
-ghost use Rattle.wot_types.specs.Outcome.{edit_reply, edited, sample_reply};
+ghost use Rattle.wot_types.specs.Outcome.{edit_reply, state_after, sample_reply};
 ghost use Rattle.wot_answer.specs.EditReply.{reply_text};
 
 use std::alloc::Global;
 use wot_live::Engine;
-use wot_print::{ok, sampled, tally};
+use wot_print::{keys_line, ok_line, tally};
 use wot_types::{Edit, Mem};
 
 /// The reply to an edit, if it is accepted.
@@ -22,11 +22,11 @@ pub enum EditReply {
 impl EditReply {
     /// The reply to an edit that a command's words make.
     pub fn to(alloc: Global, edit: &Edit) -> Result<EditReply, Mem>
-        ensures { IfOk result (λ reply. (s : State) → reply_text reply (edited s edit.now) ≡ edit_reply s edit.now) }
+        ensures { IfOk result (λ reply. (s : State) → reply_text reply (state_after s edit.now) ≡ edit_reply s edit.now) }
     {
         match edit {
             Edit::Sample(_, count) => Ok(EditReply::Tally(*count)),
-            _ => Ok(EditReply::Text(ok(alloc)?)),
+            _ => Ok(EditReply::Text(ok_line(alloc)?)),
         }
     }
 
@@ -36,17 +36,17 @@ impl EditReply {
     {
         match self {
             EditReply::Text(text) => Ok(text),
-            EditReply::Tally(count) => tallied(alloc, engine, count),
+            EditReply::Tally(count) => tally_text(alloc, engine, count),
         }
     }
 }
 
 /// The reply to a sample of so many keys.
-fn tallied(alloc: Global, engine: &Engine, count: u32) -> Result<Vec<u8>, Mem>
+fn tally_text(alloc: Global, engine: &Engine, count: u32) -> Result<Vec<u8>, Mem>
     ensures { IfOk result (λ text. text.items ≡ sample_reply engine.now count) }
 {
     let mut text = tally(alloc, engine, engine.rows())?;
-    let last_line = sampled(alloc, count)?;
+    let last_line = keys_line(alloc, count)?;
     text.extend_from_slice(last_line.as_slice())?;
     Ok(text)
 }

@@ -93,21 +93,21 @@ fn query_text(alloc: Global, engine: &Engine, query: &Query) -> Result<Vec<u8>, 
         Query::Sigs => list(alloc, engine, None, true),
         Query::SigsOne(fpr) => list(alloc, engine, Some(fpr.key_id()), true),
         Query::Export => export(alloc, engine),
-        Query::Why(fpr, place) => explained(alloc, engine, fpr.key_id(), *place - 1),
+        Query::Why(fpr, place) => explanation_text(alloc, engine, fpr.key_id(), *place - 1),
         Query::Quit => Ok(Vec::new(alloc)),
     }
 }
 
 /// Why a user ID, numbered from 0, is as valid as it is.
-fn explained(alloc: Global, engine: &Engine, id: KeyId, user: u32) -> Result<Vec<u8>, Mem>
+fn explanation_text(alloc: Global, engine: &Engine, id: KeyId, user: u32) -> Result<Vec<u8>, Mem>
     requires there { IsSome (spot_at engine.now.keys id user) }
     ensures { IfOk result (λ text. text.items ≡ why_text engine.now id user) }
 {
-    explained_by::<Brand>(alloc, engine, id, user, Blank::new(1))
+    explanation_text_by::<Brand>(alloc, engine, id, user, Blank::new(1))
 }
 
 /// The same, over a counter of its own for the certifications that it reads. The letter is recounted from the cut keyring.
-fn explained_by<L: Ledger>(
+fn explanation_text_by<L: Ledger>(
     alloc: Global,
     engine: &Engine,
     id: KeyId,

@@ -1,7 +1,7 @@
 //! The state after an edit.
 
 ghost use Rattle.std.specs.Prelude.{◌≡◌, None, IfOk};
-ghost use Rattle.wot_types.specs.Outcome.{edited, refusal_of};
+ghost use Rattle.wot_types.specs.Outcome.{state_after, refusal_of};
 ghost use Rattle.wot_types.specs.Ownertrust.{with_entry};
 ghost use Rattle.wot_types.specs.Payload.{IsProper};
 
@@ -14,16 +14,16 @@ use wot_types::{Edit, Entries, Entry, Keys, Mem, Steps};
 pub fn change(engine: Engine, edit: Edit) -> Result<Engine, Mem>
     requires proper { IsProper edit }
     requires allowed { refusal_of engine edit ≡ None }
-    ensures { IfOk result (λ new. new ≡ edited engine edit) }
+    ensures { IfOk result (λ new. new ≡ state_after engine edit) }
 {
-    edited_parts(engine.into_parts(), edit)?.counted()
+    edited_parts(engine.into_parts(), edit)?.into_engine()
 }
 
 /// Makes an edit that isn't refused; each certification that is read is a tick. At Memory the engine is gone.
 pub fn apply<L: Ledger>(engine: Engine, edit: Edit, steps: &mut Steps<L>) -> Result<Engine, Mem>
     requires proper { IsProper edit }
     requires allowed { refusal_of engine edit ≡ None }
-    ensures { IfOk result (λ new. new ≡ edited engine edit) }
+    ensures { IfOk result (λ new. new ≡ state_after engine edit) }
 {
     edited_parts(engine.into_parts(), edit)?.count(steps)
 }
@@ -32,7 +32,7 @@ pub fn apply<L: Ledger>(engine: Engine, edit: Edit, steps: &mut Steps<L>) -> Res
 pub fn edited_parts(parts: Parts, edit: Edit) -> Result<Parts, Mem>
     requires proper { IsProper edit }
     requires allowed { refusal_of parts edit ≡ None }
-    ensures { IfOk result (λ new. new ≡ edited parts edit) }
+    ensures { IfOk result (λ new. new ≡ state_after parts edit) }
 {
     let alloc = parts.table().alloc();
     match edit {

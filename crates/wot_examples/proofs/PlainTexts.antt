@@ -15,7 +15,7 @@ use Rattle.wot_types.specs.declared.trust.Trust.{Trust}
 use Rattle.wot_types.specs.declared.trust.Trust.TheVariants.{Unknown, Undefined, Never, Marginal, Full, Ultimate}
 use Rattle.wot_types.specs.Lines.{is_newline}
 use Rattle.wot_types.specs.Printing.{capabilities_text, class_text, depth_text, ended_field, expiry_field, key_id_text, letter_text, model_text, number_field, scope_text}
-use Rattle.wot_types.specs.Quotes.{is_escaped, printed, printed_byte}
+use Rattle.wot_types.specs.Quotes.{is_escaped, printed_text, printed_byte}
 use Rattle.wot_types.specs.Trust.{trust_text}
 
 -- no newline stands in it
@@ -93,9 +93,9 @@ plain_printed_byte b =
     (λ e. or_from _ _ (at_place is_newline lower_digits (b / 16) refl refl) (or_from _ _ (at_place is_newline lower_digits (b % 16) refl refl) refl))
     (λ e. or_from (is_newline b) false (ne_eqb b 10 (λ q. true≢false (ap is_escaped (sym q) ∙ e))) refl)
 
-pub plain_printed : (text : List ℕ) → IsPlain (printed text)
+pub plain_printed : (text : List ℕ) → IsPlain (printed_text text)
 plain_printed [] = refl
-plain_printed (b ∷ text) = plain_append (printed_byte b) (printed text) (plain_printed_byte b) (plain_printed text)
+plain_printed (b ∷ text) = plain_append (printed_byte b) (printed_text text) (plain_printed_byte b) (plain_printed text)
 
 pub plain_scope : (scope : Option (List ℕ)) → IsPlain (scope_text scope)
 plain_scope None = refl

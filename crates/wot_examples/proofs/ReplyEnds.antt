@@ -40,10 +40,10 @@ use Rattle.wot_types.specs.Lines.{front_of, is_newline, last_of, open_line, whol
 use Rattle.wot_types.proofs.ListEnds.{front_of_more, last_of_more}
 use Rattle.wot_types.specs.Listing.{fault_at_end, kept_of, listed_keys, passed_of}
 use Rattle.wot_types.specs.NextCheck.{next_check}
-use Rattle.wot_types.specs.Outcome.{Outcome, answer_to, block_outcome, edit_outcome, edit_reply, edited, entries_outcome, has_long_line, head_outcome, is_past, listing_outcome, ok_line, outcome, query_refusal, refusal_of, refuse, sample_reply, unless_refused, unless_unanswered, words_outcome}
+use Rattle.wot_types.specs.Outcome.{Outcome, answer_to, block_outcome, edit_outcome, edit_reply, state_after, entries_outcome, has_long_line, head_outcome, is_past, listing_outcome, ok_line, outcome, query_refusal, refusal_of, refuse, sample_reply, unless_refused, unless_unanswered, words_outcome}
 use Rattle.wot_types.specs.Ownertrust.{ownertrust_of, ownertrust_line}
 use Rattle.wot_types.specs.OwnertrustText.{listed_entries, ownertrust_fault}
-use Rattle.wot_types.specs.Printing.{cert_line, key_id_text, key_lines, list_text, listed, user_lines}
+use Rattle.wot_types.specs.Printing.{cert_line, key_id_text, key_lines, list_text, listed_keyblocks, user_lines}
 use Rattle.wot_types.specs.Refusals.{fault_name, limit_name, ownertrust_fault_name, refusal_text, reply_line}
 use Rattle.wot_types.specs.Selection.{spots_from}
 use Rattle.wot_types.specs.Store.{Store}
@@ -200,7 +200,7 @@ reply_to s (Flag fpr disabled) = ok_alone
 reply_to s (Delete id) = ok_alone
 reply_to s (Date date) = ok_alone
 reply_to s (Options options) = ok_alone
-reply_to s (Sample seed count) = sample_replies (edited s (Sample seed count)) count
+reply_to s (Sample seed count) = sample_replies (state_after s (Sample seed count)) count
 
 delete_replies : (s : Store) (fpr : List ℕ) (has : Bool) → Replies (if has then edit_outcome ok_line s (Delete (key_id_of fpr)) else refuse NoSuchKey)
 delete_replies s fpr true = edit_replies ok_line s (Delete (key_id_of fpr)) ok_alone
@@ -246,14 +246,14 @@ listed_one : (id : ℕ) (found : Option Key) → IfSome found IsWellFormed → A
 listed_one id None w = All-nil (λ (e : ℕ × Key). IsWellFormed e.1)
 listed_one id (Some key) w = All-cons (λ (e : ℕ × Key). IsWellFormed e.1) (id, key) [] w (All-nil (λ (e : ℕ × Key). IsWellFormed e.1))
 
-listed_are : (s : State) (only : Option ℕ) → AreWellFormed s.keys → All (λ (e : ℕ × Key). IsWellFormed e.1) (listed s only)
+listed_are : (s : State) (only : Option ℕ) → AreWellFormed s.keys → All (λ (e : ℕ × Key). IsWellFormed e.1) (listed_keyblocks s only)
 listed_are s None w = w
 listed_are s (Some id) w = listed_one id (map.get s.keys id) (IfSome-get nat_cmp_total nat_cmp-IsAntisymmetric (λ (e : ℕ × Key). IsWellFormed e.1) s.keys id w)
 
 list_goes_on : (s : State) (only : Option ℕ) (sigs : Bool) → AreWellFormed s.keys → GoesOn (list_text s only sigs)
 list_goes_on s only sigs w =
     both _ _ (tru_goes_on s.options s.date (next_check s))
-    (each_of (λ (e : ℕ × Key). IsWellFormed e.1) (key_lines s (rows_of s) sigs) (key_goes_on s (rows_of s) sigs) (listed s only) (listed_are s only w))
+    (each_of (λ (e : ℕ × Key). IsWellFormed e.1) (key_lines s (rows_of s) sigs) (key_goes_on s (rows_of s) sigs) (listed_keyblocks s only) (listed_are s only w))
 
 why_text_goes_on : (s : State) (id place : ℕ) → GoesOn (why_text s id place)
 why_text_goes_on s id place =

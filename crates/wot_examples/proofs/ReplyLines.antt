@@ -23,7 +23,7 @@ use Rattle.wot_types.specs.Candidates.{RowMap}
 use Rattle.wot_types.specs.Numbers.{capped}
 use Rattle.wot_types.specs.Ownertrust.{ownertrust_line, ownertrust_number}
 use Rattle.wot_types.specs.Printing.{capabilities_text, cert_line, class_text, depth_text, ended_field, expiry_field, fpr_line, key_id_text, kind_text, letter_text, model_text, number_field, pub_line, scope_text, tru_line, user_line}
-use Rattle.wot_types.specs.Quotes.{printed}
+use Rattle.wot_types.specs.Quotes.{printed_text}
 use Rattle.wot_types.specs.Records.{is_capability, is_hash_byte}
 use Rattle.wot_types.specs.Refusals.{reply_line}
 use Rattle.wot_types.specs.Tally.{count_field, letter_count, tally_line}
@@ -110,11 +110,11 @@ fpr_goes_on fpr = line_of (codes "fpr:::::::::") (ended_field (encode_upper fpr)
 -- what is printed of a user ID behind its kind
 abbrev user_fields : Letter → User → List (List ℕ)
 user_fields letter user =
-    ended_field (letter_text letter) ∷ codes ":::" ∷ number_field user.made ∷ expiry_field user.expires ∷ ended_field user.hash ∷ codes ":" ∷ ended_field (printed user.text) ∷ []
+    ended_field (letter_text letter) ∷ codes ":::" ∷ number_field user.made ∷ expiry_field user.expires ∷ ended_field user.hash ∷ codes ":" ∷ ended_field (printed_text user.text) ∷ []
 
 plain_user : (letter : Letter) (id : ℕ) (user : User) → IsUser id user → ArePlain (user_fields letter user)
 plain_user letter id user w =
-    (plain_field (letter_text letter) (plain_letter letter), (refl, (plain_number user.made, (plain_expiry user.expires, (plain_field user.hash (plain_class is_hash_byte refl user.hash w.hash), (refl, (plain_field (printed user.text) (plain_printed user.text), tt)))))))
+    (plain_field (letter_text letter) (plain_letter letter), (refl, (plain_number user.made, (plain_expiry user.expires, (plain_field user.hash (plain_class is_hash_byte refl user.hash w.hash), (refl, (plain_field (printed_text user.text) (plain_printed user.text), tt)))))))
 
 pub user_goes_on : (letter : Letter) (id : ℕ) (user : User) → IsUser id user → GoesOn (user_line letter user)
 user_goes_on letter id user w = by_kind user.kind

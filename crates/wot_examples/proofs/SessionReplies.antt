@@ -12,7 +12,7 @@ use Rattle.wot_types.specs.Lines.{whole_lines}
 use Rattle.wot_types.specs.Outcome.{outcome}
 use Rattle.wot_types.specs.Refusals.{reply_line}
 use Rattle.wot_types.specs.Store.{Store}
-use Rattle.wot_types.specs.Session.{Progress, after, is_edit, replies, states}
+use Rattle.wot_types.specs.Session.{Progress, after_command, is_edit, replies, states}
 use Rattle.wot_types.proofs.Counting.{kept}
 use Rattle.wot_examples.specs.Replies.{AreWellFormed, ends_reply, is_silent}
 use Rattle.wot_examples.proofs.PlainTexts.{ArePlain}
@@ -65,11 +65,11 @@ AreGood all = All (λ (s : State). AreWellFormed s.keys) all
 
 first_good : (p : Progress) (commands : List Command) → AreGood (states p commands) → AreWellFormed p.store.state.keys
 first_good p [] w = All-head (λ (s : State). AreWellFormed s.keys) p.store.state [] w
-first_good p (command ∷ commands) w = cases (first_good (after p command) commands) (is_edit p command) refl w
+first_good p (command ∷ commands) w = cases (first_good (after_command p command) commands) (is_edit p command) refl w
   where
-    cases : (AreGood (states (after p command) commands) → AreWellFormed (after p command).store.state.keys) → (edit : Bool) → is_edit p command ≡ edit
-        → AreGood (if edit then p.store.state ∷ states (after p command) commands else states (after p command) commands) → AreWellFormed p.store.state.keys
-    cases next true is w = All-head (λ (s : State). AreWellFormed s.keys) p.store.state (states (after p command) commands) w
+    cases : (AreGood (states (after_command p command) commands) → AreWellFormed (after_command p command).store.state.keys) → (edit : Bool) → is_edit p command ≡ edit
+        → AreGood (if edit then p.store.state ∷ states (after_command p command) commands else states (after_command p command) commands) → AreWellFormed p.store.state.keys
+    cases next true is w = All-head (λ (s : State). AreWellFormed s.keys) p.store.state (states (after_command p command) commands) w
     cases next false is w = subst (λ (s : Store). AreWellFormed s.state.keys) (kept p command is) (next w)
 
 rest_good : (edit : Bool) (first : State) (rest : List State) → AreGood (if edit then first ∷ rest else rest) → AreGood rest
@@ -85,9 +85,9 @@ held_all : (p : Progress) (commands : List Command) → AreGood (states p comman
 held_all p [] w = nothing
 held_all p (command ∷ commands) w =
     subst (λ n. Holds n (replies p (command ∷ commands))) (sym (sum_by-cons answers command commands))
-    (both (answers command) (sum_by answers commands) (outcome p.store command).text (replies (after p command) commands)
+    (both (answers command) (sum_by answers commands) (outcome p.store command).text (replies (after_command p command) commands)
     (held p command (first_good p (command ∷ commands) w) (is_silent command) refl)
-    (held_all (after p command) commands (rest_good (is_edit p command) p.store.state (states (after p command) commands) w)))
+    (held_all (after_command p command) commands (rest_good (is_edit p command) p.store.state (states (after_command p command) commands) w)))
 
 pub counted : (p : Progress) (commands : List Command) → AreGood (states p commands)
     → count_by ends_reply (whole_lines (replies p commands)) ≡ count_by (λ command. not (is_silent command)) commands

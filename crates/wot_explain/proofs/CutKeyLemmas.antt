@@ -18,7 +18,7 @@ use Rattle.wot_types.specs.Keyring.{Keyring}
 use Rattle.wot_types.specs.Selection.{Spot, placed_from, spots_from}
 use Rattle.wot_types.specs.Accepted.{IsFiled}
 use Rattle.wot_types.specs.CutState.{cut_key, cut_keys, cut_user}
-use Rattle.wot_types.specs.Explanation.{KeySet, named_by}
+use Rattle.wot_types.specs.Explanation.{KeySet, issuers_of_rows}
 use Rattle.wot_explain_laws.proofs.MapLemmas.{get-map_by}
 use Rattle.wot_explain.specs.CutKeys.{with_key_at}
 
@@ -70,8 +70,8 @@ one_more_cut keys keep passed table id h y =
     none true = refl
     none false = refl
 
-pub named_push : (rows : List Row) (row : Row) (y : ℕ) → named_by (rows ++ row ∷ []) y ≡ (named_by rows y || (row.key == y))
-named_push rows row y = list_any-append (λ (r : Row). r.key == y) rows (row ∷ []) ∙ ap (λ b. named_by rows y || b) (or_false (row.key == y))
+pub named_push : (rows : List Row) (row : Row) (y : ℕ) → issuers_of_rows (rows ++ row ∷ []) y ≡ (issuers_of_rows rows y || (row.key == y))
+named_push rows row y = list_any-append (λ (r : Row). r.key == y) rows (row ∷ []) ∙ ap (λ b. issuers_of_rows rows y || b) (or_false (row.key == y))
   where
     or_false : (b : Bool) → (b || false) ≡ b
     or_false true = refl

@@ -17,9 +17,9 @@ use Rattle.wot_types.specs.declared.placed.Placed.{Placed}
 use Rattle.wot_types.specs.declared.row.Row.{Row}
 use Rattle.wot_types.specs.declared.trust.Trust.{Trust}
 use Rattle.wot_types.specs.Candidates.{RowMap, candidacy, candidates, count_of, is_candidate, is_full}
-use Rattle.wot_types.specs.Levels.{allowed_depth, delegating, delegation, delegations_on, live_spots}
+use Rattle.wot_types.specs.Levels.{allowed_depth, delegating_cert, delegation, delegations_on, live_spots}
 use Rattle.wot_types.specs.Scope.{admits}
-use Rattle.wot_types.specs.Selection.{Spot, latest, spots_from, usable}
+use Rattle.wot_types.specs.Selection.{Spot, latest_cert, spots_from, usable}
 use Rattle.wot_types.specs.Explanation.{KeySet, are_candidates}
 use Rattle.wot_types.specs.CutState.{cut_key}
 use Rattle.wot_explain_laws.proofs.MapLemmas.{count_fewer, count_only, entries_only, get_only}
@@ -153,9 +153,9 @@ module _ (keep : KeySet) (kept_at : ℕ → Bool) (o : Options) (now : ℕ) (row
   -- ---- delegations
 
   abbrev by : Spot → ℕ × Row → Option Placed
-  by spot e = option_and_then (delegating e.1) (candidacy o now spot e.0 e.1)
+  by spot e = option_and_then (delegating_cert e.1) (candidacy o now spot e.0 e.1)
 
-  delegating_moved : (row : Row) (r : Option Placed) → option_and_then (delegating row) (option_map mv r) ≡ option_map mv (option_and_then (delegating row) r)
+  delegating_moved : (row : Row) (r : Option Placed) → option_and_then (delegating_cert row) (option_map mv r) ≡ option_map mv (option_and_then (delegating_cert row) r)
   delegating_moved row None = refl
   delegating_moved row (Some p) = elim (nat_le 1 (allowed_depth row p)) as (λ b. cond b (Some (mv p)) None ≡ option_map mv (cond b (Some p) None)) [ true ↦ refl | false ↦ refl ]
 
@@ -165,14 +165,14 @@ module _ (keep : KeySet) (kept_at : ℕ → Bool) (o : Options) (now : ℕ) (row
       let rest = without spot es in
       elim (keep e.0) as (λ b. keep e.0 ≡ b → cons_option (by (cs spot) e) (filter_map (by (cs spot)) es) ≡ filter_map (by (cs spot)) (cond b (e ∷ where_key nat_cmp keep es) (where_key nat_cmp keep es))) [
         | true ↦ λ _. ap (cons_option (by (cs spot) e)) rest
-        | false ↦ λ gone. ap (λ r. cons_option (option_and_then (delegating e.1) r) (filter_map (by (cs spot)) es)) (candidacy_gone spot e.0 e.1 gone) ∙ rest
+        | false ↦ λ gone. ap (λ r. cons_option (option_and_then (delegating_cert e.1) r) (filter_map (by (cs spot)) es)) (candidacy_gone spot e.0 e.1 gone) ∙ rest
       ] refl
 
   moved_all : (spot : Spot) → SpotTells keep kept_at spot → (es : List (ℕ × Row)) → AllByRecursion (λ (e : ℕ × Row). keep e.0 ≡ true) es
       → filter_map (by (cs spot)) es ≡ map mv (filter_map (by spot) es)
   moved_all spot tells [] h = refl
   moved_all spot tells (e ∷ es) h =
-      (λ i. cons_option ((ap (option_and_then (delegating e.1)) (candidacy_moved spot e.0 e.1 tells h.0) ∙ delegating_moved e.1 (candidacy o now spot e.0 e.1)) i) (moved_all spot tells es h.1 i))
+      (λ i. cons_option ((ap (option_and_then (delegating_cert e.1)) (candidacy_moved spot e.0 e.1 tells h.0) ∙ delegating_moved e.1 (candidacy o now spot e.0 e.1)) i) (moved_all spot tells es h.1 i))
       ∙ mapped (by spot e) (filter_map (by spot) es)
     where
       mapped : (r : Option Placed) (ps : List Placed) → cons_option (option_map mv r) (map mv ps) ≡ map mv (cons_option r ps)
@@ -181,8 +181,8 @@ module _ (keep : KeySet) (kept_at : ℕ → Bool) (o : Options) (now : ℕ) (row
 
   pub by_its_key : (spot : Spot) (e : ℕ × Row) → IfSome (by spot e) (λ p. p.cert.issuer ≡ e.0)
   by_its_key spot e =
-      elim (not o.pgp || admits e.1.scope spot.user.text) as (λ b. IfSome (option_and_then (delegating e.1) (cond b (usable now o.level e.0 spot.certs) None)) (λ p. p.cert.issuer ≡ e.0)) [
-        | true ↦ elim (usable now o.level e.0 spot.certs) as (λ r. IfSome r (λ p. p.cert.issuer ≡ e.0) → IfSome (option_and_then (delegating e.1) r) (λ p. p.cert.issuer ≡ e.0)) [
+      elim (not o.pgp || admits e.1.scope spot.user.text) as (λ b. IfSome (option_and_then (delegating_cert e.1) (cond b (usable now o.level e.0 spot.certs) None)) (λ p. p.cert.issuer ≡ e.0)) [
+        | true ↦ elim (usable now o.level e.0 spot.certs) as (λ r. IfSome r (λ p. p.cert.issuer ≡ e.0) → IfSome (option_and_then (delegating_cert e.1) r) (λ p. p.cert.issuer ≡ e.0)) [
           | None ↦ λ _. tt
           | Some p ↦ λ here. elim (nat_le 1 (allowed_depth e.1 p)) as (λ b. IfSome (cond b (Some p) None) (λ q. q.cert.issuer ≡ e.0)) [ true ↦ here | false ↦ tt ]
         ] (usable_by keep kept_at now o.level e.0 spot.certs)
@@ -191,8 +191,8 @@ module _ (keep : KeySet) (kept_at : ℕ → Bool) (o : Options) (now : ℕ) (row
 
   tells_it : (spot : Spot) → SpotTells keep kept_at spot → (e : ℕ × Row) → IfSome (by spot e) (Tells keep kept_at)
   tells_it spot tells e =
-      elim (not o.pgp || admits e.1.scope spot.user.text) as (λ b. IfSome (option_and_then (delegating e.1) (cond b (usable now o.level e.0 spot.certs) None)) (Tells keep kept_at)) [
-        | true ↦ elim (usable now o.level e.0 spot.certs) as (λ r. IfSome r (Tells keep kept_at) → IfSome (option_and_then (delegating e.1) r) (Tells keep kept_at)) [
+      elim (not o.pgp || admits e.1.scope spot.user.text) as (λ b. IfSome (option_and_then (delegating_cert e.1) (cond b (usable now o.level e.0 spot.certs) None)) (Tells keep kept_at)) [
+        | true ↦ elim (usable now o.level e.0 spot.certs) as (λ r. IfSome r (Tells keep kept_at) → IfSome (option_and_then (delegating_cert e.1) r) (Tells keep kept_at)) [
           | None ↦ λ _. tt
           | Some p ↦ λ here. elim (nat_le 1 (allowed_depth e.1 p)) as (λ b. IfSome (cond b (Some p) None) (Tells keep kept_at)) [ true ↦ here | false ↦ tt ]
         ] (usable_has keep kept_at (Tells keep kept_at) now o.level e.0 spot.certs tells)
@@ -261,11 +261,11 @@ module _ (keep : KeySet) (kept_at : ℕ → Bool) (o : Options) (now : ℕ) (row
   delegation_cut key tells kept =
       let spots = live_spots now key in
       let live = All-filter (SpotTells keep kept_at) _ (spots_from 0 key.users) tells in
-      elim o.pgp as (λ b. IfSome (cond b (latest (flat_map (delegations_on o now rows) spots)) None) (λ p. keep p.cert.issuer ≡ true)
-      → cond b (latest (flat_map (delegations_on o now rows') (live_spots now (cut_key keep key)))) None ≡ option_map mv (cond b (latest (flat_map (delegations_on o now rows) spots)) None)) [
+      elim o.pgp as (λ b. IfSome (cond b (latest_cert (flat_map (delegations_on o now rows) spots)) None) (λ p. keep p.cert.issuer ≡ true)
+      → cond b (latest_cert (flat_map (delegations_on o now rows') (live_spots now (cut_key keep key)))) None ≡ option_map mv (cond b (latest_cert (flat_map (delegations_on o now rows) spots)) None)) [
         | true ↦ λ here.
-            ap (λ xs. latest (flat_map (delegations_on o now rows') xs)) (live_spots_cut keep kept_at now key tells)
-            ∙ ap latest (all_delegations_cut spots live)
+            ap (λ xs. latest_cert (flat_map (delegations_on o now rows') xs)) (live_spots_cut keep kept_at now key tells)
+            ∙ ap latest_cert (all_delegations_cut spots live)
             ∙ latest_kept keep kept_at (flat_map (delegations_on o now rows) spots) (all_tell spots live) here
         | false ↦ λ _. refl
       ] kept

@@ -9,7 +9,7 @@ use Rattle.wot_types.specs.declared.placed.Placed.{Placed}
 use Rattle.wot_types.specs.declared.user.User.{User}
 use Rattle.wot_types.specs.Expiry.{user_is_live}
 use Rattle.wot_types.specs.Levels.{live_spots}
-use Rattle.wot_types.specs.Selection.{Spot, counts_for, deciding, in_force, is_earlier, is_in_force, later, latest, placed_from, spots_from, usable}
+use Rattle.wot_types.specs.Selection.{Spot, counts_for, deciding_cert, in_force, is_earlier, is_in_force, later_cert, latest_cert, placed_from, spots_from, usable}
 use Rattle.wot_types.specs.Explanation.{KeySet}
 use Rattle.wot_types.specs.CutState.{cut_key, cut_user}
 
@@ -37,25 +37,25 @@ not_first p r q rq pq =
       | false ↦ λ _. refl
     ] refl
 
-pub latest_has : (P : Placed → Type 0) (ps : List Placed) → AllByRecursion P ps → IfSome (latest ps) P
+pub latest_has : (P : Placed → Type 0) (ps : List Placed) → AllByRecursion P ps → IfSome (latest_cert ps) P
 latest_has P [] h = tt
 latest_has P (p ∷ ps) h =
-    elim (latest ps) as (λ o. IfSome o P → IfSome (Some (later p o)) P) [
+    elim (latest_cert ps) as (λ o. IfSome o P → IfSome (Some (later_cert p o)) P) [
       | None ↦ λ _. h.0
       | Some q ↦ λ rest. elim (is_earlier p q) as (λ b. P (cond b q p)) [ true ↦ rest | false ↦ h.0 ]
     ] (latest_has P ps h.1)
 
-none_later : (p : Placed) (ps : List Placed) → IfSome (latest ps) (λ m. is_earlier p m ≡ false) → AllByRecursion (λ r. is_earlier p r ≡ false) ps
+none_later : (p : Placed) (ps : List Placed) → IfSome (latest_cert ps) (λ m. is_earlier p m ≡ false) → AllByRecursion (λ r. is_earlier p r ≡ false) ps
 none_later p [] h = tt
 none_later p (r ∷ []) h = (h, tt)
 none_later p (r ∷ q ∷ ps) h =
-    let m = later q (latest ps) in
+    let m = later_cert q (latest_cert ps) in
     elim (is_earlier r m) as (λ b. is_earlier r m ≡ b → is_earlier p (cond b m r) ≡ false → AllByRecursion (λ x. is_earlier p x ≡ false) (r ∷ q ∷ ps)) [
       | true ↦ λ rm pm. (not_first p r m rm pm, none_later p (q ∷ ps) pm)
       | false ↦ λ rm pr. (pr, none_later p (q ∷ ps) (later_trans p r m pr rm))
     ] refl h
 
-later_stays : (p : Placed) (o : Option Placed) → IfSome o (λ m. is_earlier p m ≡ false) → later p o ≡ p
+later_stays : (p : Placed) (o : Option Placed) → IfSome o (λ m. is_earlier p m ≡ false) → later_cert p o ≡ p
 later_stays p None h = refl
 later_stays p (Some q) h = ap (λ b. cond b q p) h
 
@@ -123,11 +123,11 @@ module _ (keep : KeySet) (kept_at : ℕ → Bool) where
   earlier_moved p q hp hq = ap (λ b. nat_lt p.cert.made q.cert.made || ((p.cert.made == q.cert.made) && b)) (same_order p.place q.place hp hq)
 
   -- the latest of certifications that are all kept
-  pub latest_moved : (ps : List Placed) → AllByRecursion (λ p. kept_at p.place ≡ true) ps → latest (map moved ps) ≡ option_map moved (latest ps)
+  pub latest_moved : (ps : List Placed) → AllByRecursion (λ p. kept_at p.place ≡ true) ps → latest_cert (map moved ps) ≡ option_map moved (latest_cert ps)
   latest_moved [] h = refl
   latest_moved (p ∷ ps) h =
-      ap (λ o. Some (later (moved p) o)) (latest_moved ps h.1)
-      ∙ elim (latest ps) as (λ o. IfSome o (λ m. kept_at m.place ≡ true) → Some (later (moved p) (option_map moved o)) ≡ Some (moved (later p o))) [
+      ap (λ o. Some (later_cert (moved p) o)) (latest_moved ps h.1)
+      ∙ elim (latest_cert ps) as (λ o. IfSome o (λ m. kept_at m.place ≡ true) → Some (later_cert (moved p) (option_map moved o)) ≡ Some (moved (later_cert p o))) [
         | None ↦ λ _. refl
         | Some q ↦ λ there. ap (λ b. Some (cond b (moved q) (moved p))) (earlier_moved p q h.0 there)
             ∙ elim (is_earlier p q) as (λ b. Some (cond b (moved q) (moved p)) ≡ Some (moved (cond b q p))) [ true ↦ refl | false ↦ refl ]
@@ -144,19 +144,19 @@ module _ (keep : KeySet) (kept_at : ℕ → Bool) where
       ] refl
 
   -- the latest certification, where it is kept, is the latest of those that are kept
-  pub latest_kept : (ps : List Placed) → AllByRecursion Tells ps → IfSome (latest ps) (λ p. is_kept p ≡ true) → latest (cut_certs ps) ≡ option_map moved (latest ps)
+  pub latest_kept : (ps : List Placed) → AllByRecursion Tells ps → IfSome (latest_cert ps) (λ p. is_kept p ≡ true) → latest_cert (cut_certs ps) ≡ option_map moved (latest_cert ps)
   latest_kept [] tells h = refl
-  latest_kept (p ∷ []) tells h = ap (λ b. latest (map moved (cond b (p ∷ []) []))) h
+  latest_kept (p ∷ []) tells h = ap (λ b. latest_cert (map moved (cond b (p ∷ []) []))) h
   latest_kept (p ∷ q ∷ ps) tells h =
-      let m = later q (latest ps) in
+      let m = later_cert q (latest_cert ps) in
       let m_tells : Tells m = latest_has Tells (q ∷ ps) tells.1 in
       elim (is_earlier p m) as (λ b. is_earlier p m ≡ b → is_kept (cond b m p) ≡ true
-      → latest (map moved (cond (is_kept p) (p ∷ filter is_kept (q ∷ ps)) (filter is_kept (q ∷ ps)))) ≡ Some (moved (cond b m p))) [
+      → latest_cert (map moved (cond (is_kept p) (p ∷ filter is_kept (q ∷ ps)) (filter is_kept (q ∷ ps)))) ≡ Some (moved (cond b m p))) [
         | true ↦ λ pm kept.
-            let rest : latest (cut_certs (q ∷ ps)) ≡ Some (moved m) = latest_kept (q ∷ ps) tells.1 kept in
-            elim (is_kept p) as (λ b. is_kept p ≡ b → latest (map moved (cond b (p ∷ filter is_kept (q ∷ ps)) (filter is_kept (q ∷ ps)))) ≡ Some (moved m)) [
+            let rest : latest_cert (cut_certs (q ∷ ps)) ≡ Some (moved m) = latest_kept (q ∷ ps) tells.1 kept in
+            elim (is_kept p) as (λ b. is_kept p ≡ b → latest_cert (map moved (cond b (p ∷ filter is_kept (q ∷ ps)) (filter is_kept (q ∷ ps)))) ≡ Some (moved m)) [
               | true ↦ λ here.
-                  ap (λ o. Some (later (moved p) o)) rest
+                  ap (λ o. Some (later_cert (moved p) o)) rest
                   ∙ ap (λ b. Some (cond b (moved m) (moved p))) (earlier_moved p m (sym tells.0 ∙ here) (sym m_tells ∙ kept) ∙ pm)
               | false ↦ λ _. rest
             ] refl
@@ -164,8 +164,8 @@ module _ (keep : KeySet) (kept_at : ℕ → Bool) where
             let none = none_later p (q ∷ ps) pm in
             let at = sym tells.0 ∙ kept in
             let last = latest_has (λ r. is_earlier (moved p) r ≡ false) (cut_certs (q ∷ ps)) (after_moved p at (q ∷ ps) tells.1 none) in
-            ap (λ b. latest (map moved (cond b (p ∷ filter is_kept (q ∷ ps)) (filter is_kept (q ∷ ps))))) kept
-            ∙ ap Some (later_stays (moved p) (latest (cut_certs (q ∷ ps))) last)
+            ap (λ b. latest_cert (map moved (cond b (p ∷ filter is_kept (q ∷ ps)) (filter is_kept (q ∷ ps))))) kept
+            ∙ ap Some (later_stays (moved p) (latest_cert (cut_certs (q ∷ ps))) last)
       ] refl h
 
   -- ---- the certification that decides
@@ -210,28 +210,28 @@ module _ (keep : KeySet) (kept_at : ℕ → Bool) where
   all_at level y kept [] tells counts = tt
   all_at level y kept (p ∷ ps) tells counts = (sym tells.0 ∙ counted_kept level y p kept counts.0, all_at level y kept ps tells.1 counts.1)
 
-  pub deciding_moved : (level y : ℕ) → keep y ≡ true → (ps : List Placed) → AllByRecursion Tells ps → deciding level y (cut_certs ps) ≡ option_map moved (deciding level y ps)
+  pub deciding_moved : (level y : ℕ) → keep y ≡ true → (ps : List Placed) → AllByRecursion Tells ps → deciding_cert level y (cut_certs ps) ≡ option_map moved (deciding_cert level y ps)
   deciding_moved level y kept ps tells =
-      ap latest (counts_moved level y kept ps)
+      ap latest_cert (counts_moved level y kept ps)
       ∙ latest_moved (filter (counts_for level y) ps) (all_at level y kept (filter (counts_for level y) ps) (All-filter Tells (counts_for level y) ps tells) (filter_passes (counts_for level y) ps))
 
   -- a key of the set certifies as before
   pub usable_moved : (now level y : ℕ) → keep y ≡ true → (ps : List Placed) → AllByRecursion Tells ps → usable now level y (cut_certs ps) ≡ option_map moved (usable now level y ps)
   usable_moved now level y kept ps tells =
       ap (option_and_then (in_force now)) (deciding_moved level y kept ps tells)
-      ∙ elim (deciding level y ps) as (λ o. option_and_then (in_force now) (option_map moved o) ≡ option_map moved (option_and_then (in_force now) o)) [
+      ∙ elim (deciding_cert level y ps) as (λ o. option_and_then (in_force now) (option_map moved o) ≡ option_map moved (option_and_then (in_force now) o)) [
         | None ↦ refl
         | Some p ↦ elim (is_in_force now p) as (λ b. cond b (Some (moved p)) None ≡ option_map moved (cond b (Some p) None)) [ true ↦ refl | false ↦ refl ]
       ]
 
   -- and no other key certifies
   pub usable_gone : (now level y : ℕ) → keep y ≡ false → (ps : List Placed) → usable now level y (cut_certs ps) ≡ None
-  usable_gone now level y gone ps = ap (λ xs. option_and_then (in_force now) (latest xs)) (counts_gone level y gone ps)
+  usable_gone now level y gone ps = ap (λ xs. option_and_then (in_force now) (latest_cert xs)) (counts_gone level y gone ps)
 
   -- what holds of each certification holds of the usable one, and that it is the issuer's
   pub usable_has : (P : Placed → Type 0) (now level y : ℕ) (ps : List Placed) → AllByRecursion P ps → IfSome (usable now level y ps) P
   usable_has P now level y ps h =
-      elim (deciding level y ps) as (λ o. IfSome o P → IfSome (option_and_then (in_force now) o) P) [
+      elim (deciding_cert level y ps) as (λ o. IfSome o P → IfSome (option_and_then (in_force now) o) P) [
         | None ↦ λ _. tt
         | Some p ↦ λ here. elim (is_in_force now p) as (λ b. IfSome (cond b (Some p) None) P) [ true ↦ here | false ↦ tt ]
       ] (latest_has P (filter (counts_for level y) ps) (All-filter P (counts_for level y) ps h))
@@ -242,7 +242,7 @@ module _ (keep : KeySet) (kept_at : ℕ → Bool) where
 
   pub usable_by : (now level y : ℕ) (ps : List Placed) → IfSome (usable now level y ps) (λ p. p.cert.issuer ≡ y)
   usable_by now level y ps =
-      elim (deciding level y ps) as (λ o. IfSome o (λ p. p.cert.issuer ≡ y) → IfSome (option_and_then (in_force now) o) (λ p. p.cert.issuer ≡ y)) [
+      elim (deciding_cert level y ps) as (λ o. IfSome o (λ p. p.cert.issuer ≡ y) → IfSome (option_and_then (in_force now) o) (λ p. p.cert.issuer ≡ y)) [
         | None ↦ λ _. tt
         | Some p ↦ λ here. elim (is_in_force now p) as (λ b. IfSome (cond b (Some p) None) (λ q. q.cert.issuer ≡ y)) [ true ↦ here | false ↦ tt ]
       ] (latest_has (λ p. p.cert.issuer ≡ y) (filter (counts_for level y) ps) (all_by level y (filter (counts_for level y) ps) (filter_passes (counts_for level y) ps)))

@@ -19,10 +19,10 @@ use Rattle.wot_types.specs.declared.trust.Trust.{Trust}
 use Rattle.wot_types.specs.Candidates.{RowMap, candidacy, candidates, count_of, is_candidate, is_full}
 use Rattle.wot_types.specs.Expiry.{is_expired, key_is_live, user_is_live}
 use Rattle.wot_types.specs.Letters.{best_letter, has_level_0, key_letter, letter_at, letter_of_count, user_letter}
-use Rattle.wot_types.specs.Levels.{delegating, delegation, delegations_on, first_row, has_full_user, kept_or, live_spots, new_row, row_by, rows_of, rows_upto, trust_of_owner}
-use Rattle.wot_types.specs.NextCheck.{key_expiries, next_check, soonest, sooner, user_expiries}
+use Rattle.wot_types.specs.Levels.{delegating_cert, delegation, delegations_on, first_row, has_full_user, kept_or, live_spots, new_row, row_by, rows_of, rows_upto, trust_of_owner}
+use Rattle.wot_types.specs.NextCheck.{key_expiries, next_check, soonest, sooner_of, user_expiries}
 use Rattle.wot_types.specs.Scope.{admits}
-use Rattle.wot_types.specs.Selection.{Spot, counts_for, deciding, in_force, latest, placed_from, spots_from, usable}
+use Rattle.wot_types.specs.Selection.{Spot, counts_for, deciding_cert, in_force, latest_cert, placed_from, spots_from, usable}
 use Rattle.wot_types.specs.Trust.{is_ultimate, is_below_marginal, is_fully_trusted, is_marginal}
 use Rattle.wot_types.specs.Explanation.{spot_of}
 use Rattle.wot_explain_laws.proofs.LevelLemmas.{get_first, get_next}
@@ -52,7 +52,7 @@ module _ (a b : ℕ) (later : a ≤ b) where
       before : nat_lt a e ≡ false → Same e
       before t = grind (arith, nat_tests)
 
-  two : (e r : ℕ) → nat_lt a e ≡ true → IsBefore b (sooner e r) → (b < e) × IsBefore b r
+  two : (e r : ℕ) → nat_lt a e ≡ true → IsBefore b (sooner_of e r) → (b < e) × IsBefore b r
   two e r t h =
       elim (r == 0) as (λ x. (r == 0) ≡ x → (b < e) × IsBefore b r) [
         | true ↦ λ z. (only_e z h, inl (is_zero z))
@@ -62,10 +62,10 @@ module _ (a b : ℕ) (later : a ≤ b) where
       is_zero : (r == 0) ≡ true → r ≡ 0
       is_zero z = grind (arith, nat_tests)
 
-      sooner_is : (x : ℕ) → (r == 0) ≡ true → sooner e r ≡ x → e ≡ x
+      sooner_is : (x : ℕ) → (r == 0) ≡ true → sooner_of e r ≡ x → e ≡ x
       sooner_is x z k = grind (arith, nat_tests, z, k, t)
 
-      min_is : (x : ℕ) → (r == 0) ≡ false → sooner e r ≡ x → min e r ≡ x
+      min_is : (x : ℕ) → (r == 0) ≡ false → sooner_of e r ≡ x → min e r ≡ x
       min_is x z k = grind (arith, nat_tests, z, k, t)
 
       above : a < e
@@ -74,13 +74,13 @@ module _ (a b : ℕ) (later : a ≤ b) where
       positive : (r == 0) ≡ false → 0 < r
       positive z = grind (arith, nat_tests)
 
-      only_e : (r == 0) ≡ true → IsBefore b (sooner e r) → b < e
+      only_e : (r == 0) ≡ true → IsBefore b (sooner_of e r) → b < e
       only_e z (inl none) = let no : e ≡ 0 = sooner_is 0 z none in absurd (omega (arith, no, above))
-      only_e z (inr less) = let same = sooner_is (sooner e r) z refl in omega (arith, same, less)
+      only_e z (inr less) = let same = sooner_is (sooner_of e r) z refl in omega (arith, same, less)
 
-      less_both : (r == 0) ≡ false → IsBefore b (sooner e r) → (b < e) × (b < r)
+      less_both : (r == 0) ≡ false → IsBefore b (sooner_of e r) → (b < e) × (b < r)
       less_both z (inl none) = let no = min_is 0 z none in absurd (omega (arith, no, above, positive z))
-      less_both z (inr less) = let same = min_is (sooner e r) z refl in (omega (arith, same, less), omega (arith, same, less))
+      less_both z (inr less) = let same = min_is (sooner_of e r) z refl in (omega (arith, same, less), omega (arith, same, less))
 
   all_same : (es : List ℕ) → IsBefore b (soonest (filter (λ e. nat_lt a e) es)) → AllByRecursion Same es
   all_same [] h = tt
@@ -147,7 +147,7 @@ module _ (a b : ℕ) (later : a ≤ b) where
 
   same_usable : (level y : ℕ) (ps : List Placed) → AllByRecursion (λ p. Same p.cert.expires) ps → usable a level y ps ≡ usable b level y ps
   same_usable level y ps h =
-      elim (deciding level y ps) as (λ o. IfSome o (λ p. Same p.cert.expires) → option_and_then (in_force a) o ≡ option_and_then (in_force b) o) [
+      elim (deciding_cert level y ps) as (λ o. IfSome o (λ p. Same p.cert.expires) → option_and_then (in_force a) o ≡ option_and_then (in_force b) o) [
         | None ↦ λ _. refl
         | Some p ↦ λ same. ap (λ t. cond (not (p.cert.class == 48) && not t) (Some p) None) same
       ] (latest_has (λ p. Same p.cert.expires) (filter (counts_for level y) ps) (All-filter (λ p. Same p.cert.expires) (counts_for level y) ps h))
@@ -182,14 +182,14 @@ module _ (a b : ℕ) (later : a ≤ b) where
     same_any (spot ∷ spots) h = λ i. is_full o (same_counts spot h.0 i) || same_any spots h.1 i
 
     each_delegation : (spot : Spot) → SameSpot spot → (es : List (ℕ × Row))
-        → AllByRecursion (λ e. option_and_then (delegating e.1) (candidacy o a spot e.0 e.1) ≡ option_and_then (delegating e.1) (candidacy o b spot e.0 e.1)) es
+        → AllByRecursion (λ e. option_and_then (delegating_cert e.1) (candidacy o a spot e.0 e.1) ≡ option_and_then (delegating_cert e.1) (candidacy o b spot e.0 e.1)) es
     each_delegation spot h [] = tt
-    each_delegation spot h (e ∷ es) = (ap (option_and_then (delegating e.1)) (same_candidacy spot h e.0 e.1), each_delegation spot h es)
+    each_delegation spot h (e ∷ es) = (ap (option_and_then (delegating_cert e.1)) (same_candidacy spot h e.0 e.1), each_delegation spot h es)
 
     same_delegations : (spots : List Spot) → AllByRecursion SameSpot spots → flat_map (delegations_on o a rows) spots ≡ flat_map (delegations_on o b rows) spots
     same_delegations [] h = refl
     same_delegations (spot ∷ spots) h =
-        λ i. same_filter_map (λ (e : ℕ × Row). option_and_then (delegating e.1) (candidacy o a spot e.0 e.1)) (λ e. option_and_then (delegating e.1) (candidacy o b spot e.0 e.1))
+        λ i. same_filter_map (λ (e : ℕ × Row). option_and_then (delegating_cert e.1) (candidacy o a spot e.0 e.1)) (λ e. option_and_then (delegating_cert e.1) (candidacy o b spot e.0 e.1))
         (finmap.entries rows) (each_delegation spot h.0 (finmap.entries rows)) i ++ same_delegations spots h.1 i
 
     same_live_spots : (key : Key) → SameKey key → live_spots a key ≡ live_spots b key
@@ -204,7 +204,7 @@ module _ (a b : ℕ) (later : a ≤ b) where
 
     same_delegation : (key : Key) → SameKey key → delegation o a rows key ≡ delegation o b rows key
     same_delegation key h =
-        ap (λ xs. cond o.pgp (latest xs) None) (ap (flat_map (delegations_on o a rows)) (same_live_spots key h) ∙ same_delegations (live_spots b key) (live_same key h))
+        ap (λ xs. cond o.pgp (latest_cert xs) None) (ap (flat_map (delegations_on o a rows)) (same_live_spots key h) ∙ same_delegations (live_spots b key) (live_same key h))
 
 -- ---- rows and letters
 

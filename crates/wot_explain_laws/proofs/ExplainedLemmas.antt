@@ -7,7 +7,7 @@ use Rattle.wot_types.specs.State.{State}
 use Rattle.wot_types.specs.Candidates.{count_of}
 use Rattle.wot_types.specs.Levels.{rows_of}
 use Rattle.wot_types.specs.Selection.{Spot}
-use Rattle.wot_types.specs.Explanation.{KeySet, are_candidates, candidates_of, direct, explained_rows, explanation, from_some, named_by, needs_introducers, spot_of, count_by_trust}
+use Rattle.wot_types.specs.Explanation.{KeySet, are_candidates, candidates_of, direct, explained_rows, explanation, from_some, issuers_of_rows, needs_introducers, spot_of, count_by_trust}
 use Rattle.wot_types.specs.Letters.{letter_at}
 use Rattle.wot_types.specs.CutState.{cut}
 use Rattle.wot_explain_laws.proofs.CutRows.{false_true}
@@ -30,11 +30,11 @@ pub explained_have_rows : (s : State) (id place y : ℕ) → explanation s id pl
 explained_have_rows s id place = all_have_rows s (direct s id place) (direct_have_rows s id place) s.options.depth
 
 -- so its rows name it
-pub rows_name_it : (s : State) (id place y : ℕ) → named_by (finmap.values (explained_rows s (explanation s id place))) y ≡ explanation s id place y
+pub rows_name_it : (s : State) (id place y : ℕ) → issuers_of_rows (finmap.values (explained_rows s (explanation s id place))) y ≡ explanation s id place y
 rows_name_it s id place = named s (explanation s id place) (explained_have_rows s id place)
 
 -- and the law holds of the state that is cut by them
-pub letters_agree_by_rows : (s : State) (id place : ℕ) → letter_at (cut s (named_by (finmap.values (explained_rows s (explanation s id place)))) id) id place ≡ letter_at s id place
+pub letters_agree_by_rows : (s : State) (id place : ℕ) → letter_at (cut s (issuers_of_rows (finmap.values (explained_rows s (explanation s id place)))) id) id place ≡ letter_at s id place
 letters_agree_by_rows s id place =
     (λ i. letter_at (cut s (λ y. rows_name_it s id place y i) id) id place) ∙ letters_agree s id place
 

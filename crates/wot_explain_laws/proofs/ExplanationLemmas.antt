@@ -10,8 +10,8 @@ use Rattle.wot_types.specs.declared.placed.Placed.{Placed}
 use Rattle.wot_types.specs.declared.row.Row.{Row}
 use Rattle.wot_types.specs.State.{State}
 use Rattle.wot_types.specs.Candidates.{RowMap, candidacy}
-use Rattle.wot_types.specs.Levels.{delegating, delegation, delegations_on, live_spots, rows_of, rows_upto}
-use Rattle.wot_types.specs.Selection.{Spot, latest}
+use Rattle.wot_types.specs.Levels.{delegating_cert, delegation, delegations_on, live_spots, rows_of, rows_upto}
+use Rattle.wot_types.specs.Selection.{Spot, latest_cert}
 use Rattle.wot_types.specs.Explanation.{KeySet, are_candidates, first_full, from_some, is_issuer, level_rests_on, new_row_rests_on, rests_on, row_rests_on, with_support, with_support_times}
 use Rattle.wot_explain_laws.proofs.MapLemmas.{IsAt, any_key, entries_at, some_key}
 use Rattle.wot_explain_laws.proofs.LevelLemmas.{level_le, stays_to_the_end}
@@ -40,11 +40,11 @@ abbrev IssuerHasRow : RowMap → Placed → Type 0
 IssuerHasRow rows p = HasRow rows p.cert.issuer
 
 by_introducers : (o : Options) (now : ℕ) (rows : RowMap) (spot : Spot) (es : List (ℕ × Row)) → AllByRecursion (IsAt rows) es
-    → AllByRecursion (IssuerHasRow rows) (filter_map (λ entry. option_and_then (delegating entry.1) (candidacy o now spot entry.0 entry.1)) es)
+    → AllByRecursion (IssuerHasRow rows) (filter_map (λ entry. option_and_then (delegating_cert entry.1) (candidacy o now spot entry.0 entry.1)) es)
 by_introducers o now rows spot [] h = tt
 by_introducers o now rows spot (e ∷ es) h =
     let rest = by_introducers o now rows spot es h.1 in
-    let f = λ (entry : ℕ × Row). option_and_then (delegating entry.1) (candidacy o now spot entry.0 entry.1) in
+    let f = λ (entry : ℕ × Row). option_and_then (delegating_cert entry.1) (candidacy o now spot entry.0 entry.1) in
     elim (f e) as (λ r. IfSome r (λ p. p.cert.issuer ≡ e.0) → AllByRecursion (IssuerHasRow rows) (cons_option r (filter_map f es))) [
       | None ↦ λ _. rest
       | Some p ↦ λ its. (ap (λ y. is_some (finmap.get rows y)) its ∙ ap is_some h.0, rest)
@@ -62,7 +62,7 @@ all_by_introducers o now rows (spot ∷ spots) =
 
 delegator_has_row : (o : Options) (now : ℕ) (rows : RowMap) (key : Key) → IfSome (delegation o now rows key) (IssuerHasRow rows)
 delegator_has_row o now rows key =
-    elim o.pgp as (λ b. IfSome (cond b (latest (flat_map (delegations_on o now rows) (live_spots now key))) None) (IssuerHasRow rows)) [
+    elim o.pgp as (λ b. IfSome (cond b (latest_cert (flat_map (delegations_on o now rows) (live_spots now key))) None) (IssuerHasRow rows)) [
       | true ↦ latest_has (IssuerHasRow rows) (flat_map (delegations_on o now rows) (live_spots now key)) (all_by_introducers o now rows (live_spots now key))
       | false ↦ tt
     ]

@@ -19,7 +19,7 @@ use Rattle.wot_types.specs.Expiry.{key_is_live}
 use Rattle.wot_types.specs.Levels.{delegation, first_row, has_full_user, kept_or, map_by, new_row, row_by, rows_of, rows_upto, trust_of_owner}
 use Rattle.wot_types.specs.Selection.{Spot}
 use Rattle.wot_types.specs.Trust.{is_ultimate, is_below_marginal, is_fully_trusted, is_marginal}
-use Rattle.wot_types.specs.Explanation.{KeySet, are_candidates, candidate_rows, explained_rows, from_some, level_rests_on, named_by, new_row_rests_on, rests_on, row_rests_on, count_by_trust, with_support_times}
+use Rattle.wot_types.specs.Explanation.{KeySet, are_candidates, candidate_rows, explained_rows, from_some, level_rests_on, issuers_of_rows, new_row_rests_on, rests_on, row_rests_on, count_by_trust, with_support_times}
 use Rattle.wot_explain_laws.proofs.MapLemmas.{IsAt, any_key, count_only, entries_at, get-map_by, get_only}
 use Rattle.wot_explain_laws.proofs.LevelLemmas.{get_first, get_next, level_le, row_by_level, some_none, stays_one, stays_to_the_end}
 use Rattle.wot_explain_laws.proofs.CutCounts.{same_count}
@@ -80,7 +80,7 @@ pub own_keys : (s : State) (keep : KeySet) → AllByRecursion (λ (e : ℕ × Ro
 own_keys s keep = all_name s keep (finmap.entries (explained_rows s keep)) (entries_at (explained_rows s keep))
 
 -- the rows of a set of introducers name it
-pub named : (s : State) (keep : KeySet) → ((y : ℕ) → keep y ≡ true → is_some (finmap.get (rows_of s) y) ≡ true) → (y : ℕ) → named_by (finmap.values (explained_rows s keep)) y ≡ keep y
+pub named : (s : State) (keep : KeySet) → ((y : ℕ) → keep y ≡ true → is_some (finmap.get (rows_of s) y) ≡ true) → (y : ℕ) → issuers_of_rows (finmap.values (explained_rows s keep)) y ≡ keep y
 named s keep have y =
     named_in y (finmap.entries (explained_rows s keep)) (own_keys s keep)
     ∙ sym (contains_key-keys (explained_rows s keep) y)

@@ -44,7 +44,7 @@ impl<F: Files, I: Read, O: Write> FileSite<F, I, O> {
     }
 
     // Hands a call of the disk on, and counts its error.
-    fn counted<T>(&mut self, answer: io::Result<T>) -> Result<T, Failed>
+    fn count_error<T>(&mut self, answer: io::Result<T>) -> Result<T, Failed>
         ensures value { IfOk result (λ x. answer ≡ Ok x) }
         ensures cause { HasCause disk_faults (faults_of self.old) (faults_of self.new) result }
         ensures input { input_of self.new ≡ input_of self.old }
@@ -103,7 +103,7 @@ impl<F: Files, I: Read, O: Write> Site for FileSite<F, I, O> {
         ensures output { output_of self.new ≡ output_of self.old }
     {
         let answer = self.sides.size(side);
-        self.counted(answer)
+        self.count_error(answer)
     }
 
     fn read(&mut self, side: Side, at: u64, buf: &mut [u8]) -> Result<usize, Failed>
@@ -113,7 +113,7 @@ impl<F: Files, I: Read, O: Write> Site for FileSite<F, I, O> {
         ensures output { output_of self.new ≡ output_of self.old }
     {
         let answer = self.sides.read(side, at, buf);
-        self.counted(answer)
+        self.count_error(answer)
     }
 
     fn write(&mut self, side: Side, at: u64, bytes: &[u8]) -> Result<(), Failed>
@@ -122,7 +122,7 @@ impl<F: Files, I: Read, O: Write> Site for FileSite<F, I, O> {
         ensures output { output_of self.new ≡ output_of self.old }
     {
         let answer = self.sides.write(side, at, bytes);
-        self.counted(answer)
+        self.count_error(answer)
     }
 
     fn sync(&mut self, side: Side) -> Result<(), Failed>
@@ -131,6 +131,6 @@ impl<F: Files, I: Read, O: Write> Site for FileSite<F, I, O> {
         ensures output { output_of self.new ≡ output_of self.old }
     {
         let answer = self.sides.sync(side);
-        self.counted(answer)
+        self.count_error(answer)
     }
 }

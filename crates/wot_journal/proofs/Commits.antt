@@ -3,7 +3,7 @@ use Rattle.std.proofs.Common.{◌≡◌, ◌⊎◌, inl, inr, ℕ, ◌+◌, ◌<
 use Rattle.std.specs.Int.{to_be_bytes, w32}
 use Rattle.std.proofs.lemmas.Bool.{cases_eq, cases_lt}
 use Rattle.std.proofs.lemmas.List.{length-append, take-take, get_or-take, take-append-drop, drop_more}
-use Rattle.wot_site.specs.Disk.{Disk, Disks, IsImage, disk_of, with_disk, after_write, after_sync, settled, written}
+use Rattle.wot_site.specs.Disk.{Disk, Disks, IsImage, disk_of, with_disk, after_write, after_sync, settled_disk, bytes_after_write}
 use Rattle.wot_site.specs.Seen.{Seen}
 use Rattle.wot_site.specs.Site.{on_disk}
 use Rattle.wot_site.specs.Work.{Works}
@@ -20,13 +20,13 @@ length_behind payload = simp length-append (omega arith)
 -- one put and the sides at each of its moments
 pub puts_work : (P : Disks → Type 0) (side : Side) (at : ℕ) (bytes : List ℕ) (x y : Seen) → P x.disks
     → P (with_disk side (after_write at bytes (disk_of side x.disks)) x.disks)
-    → P (with_disk side (settled (written (disk_of side x.disks).reads at bytes)) x.disks)
+    → P (with_disk side (settled_disk (bytes_after_write (disk_of side x.disks).reads at bytes)) x.disks)
     → Puts side at bytes x y → Works P x y
 puts_work P side at bytes x y first second third puts =
     let wrote = with_disk side (after_write at bytes (disk_of side x.disks)) x.disks in
-    let same : after_sync (disk_of side wrote) ≡ settled (written (disk_of side x.disks).reads at bytes) = ap after_sync (disk_with side (after_write at bytes (disk_of side x.disks)) x.disks) in
-    let last : with_disk side (after_sync (disk_of side wrote)) wrote ≡ with_disk side (settled (written (disk_of side x.disks).reads at bytes)) x.disks =
-    ap (λ (d : Disk). with_disk side d wrote) same ∙ with_with side (after_write at bytes (disk_of side x.disks)) (settled (written (disk_of side x.disks).reads at bytes)) x.disks in
+    let same : after_sync (disk_of side wrote) ≡ settled_disk (bytes_after_write (disk_of side x.disks).reads at bytes) = ap after_sync (disk_with side (after_write at bytes (disk_of side x.disks)) x.disks) in
+    let last : with_disk side (after_sync (disk_of side wrote)) wrote ≡ with_disk side (settled_disk (bytes_after_write (disk_of side x.disks).reads at bytes)) x.disks =
+    ap (λ (d : Disk). with_disk side d wrote) same ∙ with_with side (after_write at bytes (disk_of side x.disks)) (settled_disk (bytes_after_write (disk_of side x.disks).reads at bytes)) x.disks in
     works_to P x (on_disk side after_sync (on_disk side (after_write at bytes) x)) y puts
     (works_push P x (on_disk side (after_write at bytes) x) (with_disk side (after_sync (disk_of side wrote)) wrote)
     (works_push P x x wrote (works_start P x first) second) (subst P (sym last) third))
@@ -41,16 +41,16 @@ puts_not_work P side at bytes x y first second (inr not) = works_to P x x y not 
 
 -- the side after a put
 pub put_side : (side : Side) (at : ℕ) (bytes : List ℕ) (x y : Seen) → Puts side at bytes x y
-    → y.disks ≡ with_disk side (settled (written (disk_of side x.disks).reads at bytes)) x.disks
+    → y.disks ≡ with_disk side (settled_disk (bytes_after_write (disk_of side x.disks).reads at bytes)) x.disks
 put_side side at bytes x y puts =
     let wrote = with_disk side (after_write at bytes (disk_of side x.disks)) x.disks in
-    let same : after_sync (disk_of side wrote) ≡ settled (written (disk_of side x.disks).reads at bytes) = ap after_sync (disk_with side (after_write at bytes (disk_of side x.disks)) x.disks) in
+    let same : after_sync (disk_of side wrote) ≡ settled_disk (bytes_after_write (disk_of side x.disks).reads at bytes) = ap after_sync (disk_with side (after_write at bytes (disk_of side x.disks)) x.disks) in
     ap (λ (s : Seen). s.disks) puts ∙ ap (λ (d : Disk). with_disk side d wrote) same
-    ∙ with_with side (after_write at bytes (disk_of side x.disks)) (settled (written (disk_of side x.disks).reads at bytes)) x.disks
+    ∙ with_with side (after_write at bytes (disk_of side x.disks)) (settled_disk (bytes_after_write (disk_of side x.disks).reads at bytes)) x.disks
 
 module _ (bytes : List ℕ) (end : ℕ) (payload : List ℕ) (gate : IsClosed bytes end) where
   abbrev pub staged : List ℕ
-  staged = written bytes (end + 1) (behind_gate payload)
+  staged = bytes_after_write bytes (end + 1) (behind_gate payload)
 
   low : end + 1 ≤ length bytes
   low = omega (arith, gate.within)
@@ -70,15 +70,15 @@ module _ (bytes : List ℕ) (end : ℕ) (payload : List ℕ) (gate : IsClosed by
     };
   }
 
-  pub at_first : (c : List ℕ) → IsImage (settled bytes) c → IsUnchanged bytes end c
+  pub at_first : (c : List ℕ) → IsImage (settled_disk bytes) c → IsUnchanged bytes end c
   at_first c image = let same = settled_image bytes c image in unchanged c (ap (λ (l : List ℕ). take (end + 1) l) same) (omega (arith, gate.within, ap length same))
 
-  pub while_written : (c : List ℕ) → IsImage (after_write (end + 1) (behind_gate payload) (settled bytes)) c → IsUnchanged bytes end c
+  pub while_written : (c : List ℕ) → IsImage (after_write (end + 1) (behind_gate payload) (settled_disk bytes)) c → IsUnchanged bytes end c
   while_written c image =
       let torn = torn_image bytes (end + 1) (behind_gate payload) c low image in
       unchanged c torn.front (omega (arith, gate.within, torn.no_shorter))
 
-  pub once_written : (c : List ℕ) → IsImage (settled staged) c → IsUnchanged bytes end c
+  pub once_written : (c : List ℕ) → IsImage (settled_disk staged) c → IsUnchanged bytes end c
   once_written c image =
       let same = settled_image staged c image in
       unchanged c (ap (λ (l : List ℕ). take (end + 1) l) same ∙ take_written bytes (end + 1) (behind_gate payload) low) (omega (arith, gate.within, long, ap length same))
@@ -100,7 +100,7 @@ module _ (bytes : List ℕ) (end : ℕ) (payload : List ℕ) (gate : IsClosed by
       regroup : (a b d : List ℕ) → (a ++ (b ++ 0 ∷ [])) ++ d ≡ (a ++ b) ++ 0 ∷ d
       regroup a b d = append_assoc a (b ++ 0 ∷ []) d ∙ ap (λ (l : List ℕ). a ++ l) (append_assoc b (0 ∷ []) d) ∙ sym (append_assoc a b (0 ∷ d))
 
-  pub while_opened : (c : List ℕ) → IsImage (after_write end (open_gate ∷ []) (settled staged)) c → IsUnchanged bytes end c ⊎ (c ≡ with_record bytes end payload)
+  pub while_opened : (c : List ℕ) → IsImage (after_write end (open_gate ∷ []) (settled_disk staged)) c → IsUnchanged bytes end c ⊎ (c ≡ with_record bytes end payload)
   while_opened c image =
       let torn = torn_image staged end (open_gate ∷ []) c (omega (arith, gate.within, long)) image in
       let tall : end < length c = omega (arith, gate.within, long, torn.no_shorter) in
@@ -111,7 +111,7 @@ module _ (bytes : List ℕ) (end : ℕ) (payload : List ℕ) (gate : IsClosed by
         | inr shut ↦ inl (record { front = torn.front ∙ front_staged; gate = record { within = tall; closed = shut } })
       ]
 
-  pub once_opened : written staged end (open_gate ∷ []) ≡ with_record bytes end payload
+  pub once_opened : bytes_after_write staged end (open_gate ∷ []) ≡ with_record bytes end payload
   once_opened = (λ i. front_staged i ++ (open_gate ∷ back_staged i)) ∙ opened
 
 -- what commits, at each of its moments
@@ -135,7 +135,7 @@ module _ (side : Side) (built : Framed) (x : Seen) (known : IsEnd built.end (dis
     images = λ c image. inl (at_first (disk_of side x.disks).reads built.end built.payload known.gate c (subst (λ (d : Disk). IsImage d c) known.settled image));
   }
 
-  from_settled : (at : ℕ) (text : List ℕ) → after_write at text (disk_of side x.disks) ≡ after_write at text (settled (disk_of side x.disks).reads)
+  from_settled : (at : ℕ) (text : List ℕ) → after_write at text (disk_of side x.disks) ≡ after_write at text (settled_disk (disk_of side x.disks).reads)
   from_settled at text = ap (λ (d : Disk). after_write at text d) known.settled
 
   writing : IsCommitting side built x.disks (with_disk side (after_write (built.end + 1) (behind_gate built.payload) (disk_of side x.disks)) x.disks)
@@ -144,40 +144,40 @@ module _ (side : Side) (built : Framed) (x : Seen) (known : IsEnd built.end (dis
 
   pub first_put : (y : Seen) → Puts side (built.end + 1) (behind_gate built.payload) x y → Works (IsCommitting side built x.disks) x y
   first_put y puts = puts_work (IsCommitting side built x.disks) side (built.end + 1) (behind_gate built.payload) x y at_start writing
-      (on_side (settled (staged (disk_of side x.disks).reads built.end built.payload known.gate)) (λ c image. inl (once_written (disk_of side x.disks).reads built.end built.payload known.gate c image))) puts
+      (on_side (settled_disk (staged (disk_of side x.disks).reads built.end built.payload known.gate)) (λ c image. inl (once_written (disk_of side x.disks).reads built.end built.payload known.gate c image))) puts
 
   pub first_not : (y : Seen) → PutsNot side (built.end + 1) (behind_gate built.payload) x y → Works (IsCommitting side built x.disks) x y
   first_not y puts = puts_not_work (IsCommitting side built x.disks) side (built.end + 1) (behind_gate built.payload) x y at_start writing puts
 
   -- the sides after the first put
   module _ (y : Seen) (puts : Puts side (built.end + 1) (behind_gate built.payload) x y) where
-    put_disks : y.disks ≡ with_disk side (settled (staged (disk_of side x.disks).reads built.end built.payload known.gate)) x.disks
+    put_disks : y.disks ≡ with_disk side (settled_disk (staged (disk_of side x.disks).reads built.end built.payload known.gate)) x.disks
     put_disks = put_side side (built.end + 1) (behind_gate built.payload) x y puts
 
-    put_disk : disk_of side y.disks ≡ settled (staged (disk_of side x.disks).reads built.end built.payload known.gate)
-    put_disk = ap (λ (d : Disks). disk_of side d) put_disks ∙ disk_with side (settled (staged (disk_of side x.disks).reads built.end built.payload known.gate)) x.disks
+    put_disk : disk_of side y.disks ≡ settled_disk (staged (disk_of side x.disks).reads built.end built.payload known.gate)
+    put_disk = ap (λ (d : Disks). disk_of side d) put_disks ∙ disk_with side (settled_disk (staged (disk_of side x.disks).reads built.end built.payload known.gate)) x.disks
 
     over : (d : Disk) → with_disk side d y.disks ≡ with_disk side d x.disks
-    over d = ap (λ (e : Disks). with_disk side d e) put_disks ∙ with_with side (settled (staged (disk_of side x.disks).reads built.end built.payload known.gate)) d x.disks
+    over d = ap (λ (e : Disks). with_disk side d e) put_disks ∙ with_with side (settled_disk (staged (disk_of side x.disks).reads built.end built.payload known.gate)) d x.disks
 
     between : IsCommitting side built x.disks y.disks
     between = (first_put y puts).last
 
     opening : IsCommitting side built x.disks (with_disk side (after_write built.end (open_gate ∷ []) (disk_of side y.disks)) y.disks)
     opening = subst (IsCommitting side built x.disks) (sym (over (after_write built.end (open_gate ∷ []) (disk_of side y.disks)) ∙ ap (λ (d : Disk). with_disk side (after_write built.end (open_gate ∷ []) d) x.disks) put_disk))
-        (on_side (after_write built.end (open_gate ∷ []) (settled (staged (disk_of side x.disks).reads built.end built.payload known.gate)))
+        (on_side (after_write built.end (open_gate ∷ []) (settled_disk (staged (disk_of side x.disks).reads built.end built.payload known.gate)))
         (while_opened (disk_of side x.disks).reads built.end built.payload known.gate))
 
-    has_record : written (disk_of side y.disks).reads built.end (open_gate ∷ []) ≡ with_record (disk_of side x.disks).reads built.end built.payload
-    has_record = ap (λ (d : Disk). written d.reads built.end (open_gate ∷ [])) put_disk ∙ once_opened (disk_of side x.disks).reads built.end built.payload known.gate
+    has_record : bytes_after_write (disk_of side y.disks).reads built.end (open_gate ∷ []) ≡ with_record (disk_of side x.disks).reads built.end built.payload
+    has_record = ap (λ (d : Disk). bytes_after_write d.reads built.end (open_gate ∷ [])) put_disk ∙ once_opened (disk_of side x.disks).reads built.end built.payload known.gate
 
-    opened_disks : with_disk side (settled (written (disk_of side y.disks).reads built.end (open_gate ∷ []))) y.disks ≡ with_disk side (settled (with_record (disk_of side x.disks).reads built.end built.payload)) x.disks
-    opened_disks = over (settled (written (disk_of side y.disks).reads built.end (open_gate ∷ []))) ∙ ap (λ (l : List ℕ). with_disk side (settled l) x.disks) has_record
+    opened_disks : with_disk side (settled_disk (bytes_after_write (disk_of side y.disks).reads built.end (open_gate ∷ []))) y.disks ≡ with_disk side (settled_disk (with_record (disk_of side x.disks).reads built.end built.payload)) x.disks
+    opened_disks = over (settled_disk (bytes_after_write (disk_of side y.disks).reads built.end (open_gate ∷ []))) ∙ ap (λ (l : List ℕ). with_disk side (settled_disk l) x.disks) has_record
 
     pub second_put : (z : Seen) → Puts side built.end (open_gate ∷ []) y z → Works (IsCommitting side built x.disks) x z
     second_put z puts2 = works_then (IsCommitting side built x.disks) x y z (first_put y puts)
         (puts_work (IsCommitting side built x.disks) side built.end (open_gate ∷ []) y z between opening
-        (subst (IsCommitting side built x.disks) (sym opened_disks) (on_side (settled (with_record (disk_of side x.disks).reads built.end built.payload)) (λ c image. inr (settled_image _ c image)))) puts2)
+        (subst (IsCommitting side built x.disks) (sym opened_disks) (on_side (settled_disk (with_record (disk_of side x.disks).reads built.end built.payload)) (λ c image. inr (settled_image _ c image)))) puts2)
 
     pub second_not : (z : Seen) → PutsNot side built.end (open_gate ∷ []) y z → Works (IsCommitting side built x.disks) x z
     second_not z puts2 = works_then (IsCommitting side built x.disks) x y z (first_put y puts)

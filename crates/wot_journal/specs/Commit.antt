@@ -1,6 +1,6 @@
 -- What putting a record onto the disk does.
 use Rattle.std.specs.Prelude.{ℕ, ◌≡◌, ◌⊎◌, List, take}
-use Rattle.wot_site.specs.Disk.{Disk, Disks, IsImage, disk_of, with_disk, after_write, after_sync, settled}
+use Rattle.wot_site.specs.Disk.{Disk, Disks, IsImage, disk_of, with_disk, after_write, after_sync, settled_disk}
 use Rattle.wot_site.specs.Seen.{Seen}
 use Rattle.wot_site.specs.Site.{on_disk}
 use Rattle.wot_site.specs.declared.site.Side.{Side}
@@ -16,12 +16,12 @@ PutsNot side at bytes old new = (new ≡ on_disk side (after_write at bytes) old
 
 -- the journal of a side ends here: nothing is pending, and the gate is closed
 pub record IsEnd (at : ℕ) (d : Disk) : Type 0 where
-  pub settled : d ≡ settled d.reads
+  pub settled : d ≡ settled_disk d.reads
   pub gate : IsClosed d.reads at
 
 -- the record stands on the side with a closed gate behind it, nothing is pending there, and the other side is as it was
 abbrev pub Commits : Side → Framed → Seen → Seen → Type 0
-Commits side built old new = new.disks ≡ with_disk side (settled (with_record (disk_of side old.disks).reads built.end built.payload)) old.disks
+Commits side built old new = new.disks ≡ with_disk side (settled_disk (with_record (disk_of side old.disks).reads built.end built.payload)) old.disks
 
 -- the bytes before the journal's end are these, and its gate is closed
 pub record IsUnchanged (bytes : List ℕ) (end : ℕ) (c : List ℕ) : Type 0 where

@@ -16,10 +16,10 @@ use Rattle.wot_types.specs.declared.placed.Placed.{Placed}
 use Rattle.wot_types.specs.declared.row.Row.{Row}
 use Rattle.wot_types.specs.declared.trust.Trust.{Trust}
 use Rattle.wot_types.specs.Candidates.{RowMap, candidacy, count_of, is_candidate}
-use Rattle.wot_types.specs.Levels.{delegating, delegations_on}
+use Rattle.wot_types.specs.Levels.{delegating_cert, delegations_on}
 use Rattle.wot_types.specs.Scope.{admits}
-use Rattle.wot_types.specs.Selection.{Spot, counts_for, in_force, is_disregarded, is_earlier, later, latest, usable}
-use Rattle.wot_levels.specs.Candidates.{IsAtMost, bare, best_of, candidate_at, candidate_list, candidate_of, counted, delegates, has_trust, later_of, one_if, plus, tally}
+use Rattle.wot_types.specs.Selection.{Spot, counts_for, in_force, is_disregarded, is_earlier, later_cert, latest_cert, usable}
+use Rattle.wot_levels.specs.Candidates.{IsAtMost, bare, best_of, candidate_at, candidate_list, candidate_of, count_with, delegates, has_trust, later_of, one_if, plus, tally}
 use Rattle.wot_select.specs.Run.{IsBy}
 use Rattle.wot_levels.specs.Runs.{IsBehind}
 use Rattle.wot_levels.proofs.Walks.{absent, first_part, second_part}
@@ -117,21 +117,21 @@ module _ (o : Options) (now : ℕ) (text : List ℕ) (rows : RowMap) where
   no_candidates = none_picked (finmap.entries rows)
 
   module _ (k : ℕ) (run rest : List Placed) (its : IsBy k run) (others : IsBehind k rest) where
-    usable_of : (y : ℕ) → usable now o.level y (run ++ rest) ≡ option_and_then (in_force now) (latest (filter (counts_for o.level y) run ++ filter (counts_for o.level y) rest))
-    usable_of y = ap (λ xs. option_and_then (in_force now) (latest xs)) (filter-append (counts_for o.level y) run rest)
+    usable_of : (y : ℕ) → usable now o.level y (run ++ rest) ≡ option_and_then (in_force now) (latest_cert (filter (counts_for o.level y) run ++ filter (counts_for o.level y) rest))
+    usable_of y = ap (λ xs. option_and_then (in_force now) (latest_cert xs)) (filter-append (counts_for o.level y) run rest)
 
     usable_first : usable now o.level k (run ++ rest) ≡ usable now o.level k run
     usable_first =
         usable_of k
-        ∙ ap (λ xs. option_and_then (in_force now) (latest xs))
+        ∙ ap (λ xs. option_and_then (in_force now) (latest_cert xs))
         (ap (λ xs. filter (counts_for o.level k) run ++ xs) (none_behind o.level k k (omega arith) rest others) ∙ append-nil (filter (counts_for o.level k) run))
 
     usable_rest : (y : ℕ) → (y == k) ≡ false → usable now o.level y (run ++ rest) ≡ usable now o.level y rest
     usable_rest y other =
-        usable_of y ∙ ap (λ xs. option_and_then (in_force now) (latest (xs ++ filter (counts_for o.level y) rest))) (none_of o.level y k other run its)
+        usable_of y ∙ ap (λ xs. option_and_then (in_force now) (latest_cert (xs ++ filter (counts_for o.level y) rest))) (none_of o.level y k other run its)
 
     unusable : (y : ℕ) → y ≤ k → usable now o.level y rest ≡ None
-    unusable y le = ap (λ xs. option_and_then (in_force now) (latest xs)) (none_behind o.level y k le rest others)
+    unusable y le = ap (λ xs. option_and_then (in_force now) (latest_cert xs)) (none_behind o.level y k le rest others)
 
     apart_below : (y : ℕ) → y < k → (y == k) ≡ false
     apart_below y h = grind (arith, nat_tests)
@@ -166,7 +166,7 @@ some_first [] p h = absurd (none_some h)
     none_some e = cc
 some_first (x ∷ ps) p h = omega arith
 
-pub tally_more : (c : Count) (found : Option (Row × Placed)) (fs : List (Row × Placed)) → plus (counted c found) (tally fs) ≡ plus c (tally (cons_option found fs))
+pub tally_more : (c : Count) (found : Option (Row × Placed)) (fs : List (Row × Placed)) → plus (count_with c found) (tally fs) ≡ plus c (tally (cons_option found fs))
 tally_more c found fs =
     λ i. record {
       ultimate = one is_ultimate c.ultimate i;
@@ -178,7 +178,7 @@ tally_more c found fs =
     one : (test : Trust → Bool) (n : ℕ) → n + one_if test found + count_by (has_trust test) fs ≡ n + count_by (has_trust test) (cons_option found fs)
     one test n = let more = count_more test found fs in omega (arith, more)
 
-pub at_most_counted : (c : Count) (n : ℕ) (found : Option (Row × Placed)) → IsAtMost c n → IsAtMost (counted c found) (n + 1)
+pub at_most_counted : (c : Count) (n : ℕ) (found : Option (Row × Placed)) → IsAtMost c n → IsAtMost (count_with c found) (n + 1)
 at_most_counted c n found h = record {
   ultimate = one is_ultimate c.ultimate h.ultimate;
   full = one is_fully_trusted c.full h.full;
@@ -197,14 +197,14 @@ pub at_most_more : (c : Count) (m n : ℕ) → m ≤ n → IsAtMost c m → IsAt
 at_most_more c m n le h = let a = h.ultimate in let b = h.full in let d = h.marginal in let e = h.other in
     record { ultimate = omega (arith, le, a); full = omega (arith, le, b); marginal = omega (arith, le, d); other = omega (arith, le, e) }
 
-later_assoc : (p q r : Placed) → later (later p (Some q)) (Some r) ≡ later p (Some (later q (Some r)))
+later_assoc : (p q r : Placed) → later_cert (later_cert p (Some q)) (Some r) ≡ later_cert p (Some (later_cert q (Some r)))
 later_assoc p q r =
-    elim (is_earlier p q) as (λ b. is_earlier p q ≡ b → later (cond b q p) (Some r) ≡ later p (Some (later q (Some r)))) [
-      | true ↦ λ pq. elim (is_earlier q r) as (λ b. is_earlier q r ≡ b → cond b r q ≡ later p (Some (cond b r q))) [
+    elim (is_earlier p q) as (λ b. is_earlier p q ≡ b → later_cert (cond b q p) (Some r) ≡ later_cert p (Some (later_cert q (Some r)))) [
+      | true ↦ λ pq. elim (is_earlier q r) as (λ b. is_earlier q r ≡ b → cond b r q ≡ later_cert p (Some (cond b r q))) [
         | true ↦ λ qr. sym (ap (λ b. cond b r p) (trans p q r pq qr))
         | false ↦ λ qr. sym (ap (λ b. cond b q p) pq)
       ] refl
-      | false ↦ λ pq. elim (is_earlier q r) as (λ b. is_earlier q r ≡ b → later p (Some r) ≡ later p (Some (cond b r q))) [
+      | false ↦ λ pq. elim (is_earlier q r) as (λ b. is_earlier q r ≡ b → later_cert p (Some r) ≡ later_cert p (Some (cond b r q))) [
         | true ↦ λ qr. refl
         | false ↦ λ qr. ap (λ b. cond b r p) (not_trans p q r pq qr) ∙ sym (ap (λ b. cond b q p) pq)
       ] refl
@@ -227,13 +227,13 @@ pub later_of-none : (a : Option Placed) → later_of a None ≡ a
 later_of-none None = refl
 later_of-none (Some p) = refl
 
-pub latest-append : (xs ys : List Placed) → latest (xs ++ ys) ≡ later_of (latest xs) (latest ys)
+pub latest-append : (xs ys : List Placed) → latest_cert (xs ++ ys) ≡ later_of (latest_cert xs) (latest_cert ys)
 latest-append [] ys = refl
-latest-append (x ∷ xs) ys = ap (λ o. Some (later x o)) (latest-append xs ys) ∙ sym (later_of-assoc (Some x) (latest xs) (latest ys))
+latest-append (x ∷ xs) ys = ap (λ o. Some (later_cert x o)) (latest-append xs ys) ∙ sym (later_of-assoc (Some x) (latest_cert xs) (latest_cert ys))
 
 best_cons : (found : Option (Row × Placed)) (fs : List (Row × Placed)) → best_of (cons_option found fs) ≡ later_of (option_and_then delegates found) (best_of fs)
 best_cons None fs = refl
-best_cons (Some f) fs = elim (delegates f) as (λ d. latest (cons_option d (filter_map delegates fs)) ≡ later_of d (best_of fs)) [ None ↦ refl | Some p ↦ refl ]
+best_cons (Some f) fs = elim (delegates f) as (λ d. latest_cert (cons_option d (filter_map delegates fs)) ≡ later_of d (best_of fs)) [ None ↦ refl | Some p ↦ refl ]
 
 pub best_more : (b : Option Placed) (found : Option (Row × Placed)) (fs : List (Row × Placed))
     → later_of (later_of b (option_and_then delegates found)) (best_of fs) ≡ later_of b (best_of (cons_option found fs))
@@ -263,19 +263,19 @@ tally_is o now spot rows =
     }
 
 delegations_alike : (o : Options) (now : ℕ) (spot : Spot) (es : List (ℕ × Row))
-    → filter_map delegates (filter_map (candidate_at o now spot) es) ≡ filter_map (λ entry. option_and_then (delegating entry.1) (candidacy o now spot entry.0 entry.1)) es
+    → filter_map delegates (filter_map (candidate_at o now spot) es) ≡ filter_map (λ entry. option_and_then (delegating_cert entry.1) (candidacy o now spot entry.0 entry.1)) es
 delegations_alike o now spot [] = refl
 delegations_alike o now spot (e ∷ es) =
     here (candidacy o now spot e.0 e.1) (filter_map (candidate_at o now spot) es)
-    ∙ ap (cons_option (option_and_then (delegating e.1) (candidacy o now spot e.0 e.1))) (delegations_alike o now spot es)
+    ∙ ap (cons_option (option_and_then (delegating_cert e.1) (candidacy o now spot e.0 e.1))) (delegations_alike o now spot es)
   where
-    here : (c : Option Placed) (fs : List (Row × Placed)) → filter_map delegates (cons_option (option_map (λ p. (e.1, p)) c) fs) ≡ cons_option (option_and_then (delegating e.1) c) (filter_map delegates fs)
+    here : (c : Option Placed) (fs : List (Row × Placed)) → filter_map delegates (cons_option (option_map (λ p. (e.1, p)) c) fs) ≡ cons_option (option_and_then (delegating_cert e.1) c) (filter_map delegates fs)
     here None fs = refl
     here (Some p) fs = refl
 
 -- and the latest delegation on it too
-pub best_is : (o : Options) (now : ℕ) (spot : Spot) (rows : RowMap) → best_of (candidate_list o now spot rows) ≡ latest (delegations_on o now rows spot)
-best_is o now spot rows = ap latest (delegations_alike o now spot (finmap.entries rows))
+pub best_is : (o : Options) (now : ℕ) (spot : Spot) (rows : RowMap) → best_of (candidate_list o now spot rows) ≡ latest_cert (delegations_on o now rows spot)
+best_is o now spot rows = ap latest_cert (delegations_alike o now spot (finmap.entries rows))
 
 pub all_passed : (ps : List Placed) → slice_get ps 0 ≡ None → ps ≡ []
 all_passed [] h = refl

@@ -8,7 +8,7 @@ use Rattle.wot_types.specs.declared.cert.Cert.{Cert}
 use Rattle.wot_types.specs.declared.options.Options.{Options}
 use Rattle.wot_types.specs.declared.placed.Placed.{Placed}
 use Rattle.wot_types.specs.Candidates.{RowMap}
-use Rattle.wot_types.specs.Selection.{counts_for, in_force, is_earlier, later, latest, placed_from, usable}
+use Rattle.wot_types.specs.Selection.{counts_for, in_force, is_earlier, later_cert, latest_cert, placed_from, usable}
 use Rattle.wot_levels.specs.Candidates.{bare, candidate_list}
 use Rattle.wot_levels.proofs.CandidateLemmas.{candidates_alike}
 
@@ -57,10 +57,10 @@ from_filter f (x ∷ xs) y is =
 
 -- ---- the latest
 
-latest_in : (ps : List Placed) (p : Placed) → latest ps ≡ Some p → Contains ps p
+latest_in : (ps : List Placed) (p : Placed) → latest_cert ps ≡ Some p → Contains ps p
 latest_in [] p e = absurd (some_none p (sym e))
 latest_in (x ∷ ps) p e =
-    elim (latest ps) as (λ o. latest ps ≡ o → Some (later x o) ≡ Some p → Contains (x ∷ ps) p) [
+    elim (latest_cert ps) as (λ o. latest_cert ps ≡ o → Some (later_cert x o) ≡ Some p → Contains (x ∷ ps) p) [
       | None ↦ λ _ h. subst (Contains (x ∷ ps)) (some_same x p h) (in_head x ps)
       | Some q ↦ λ found h. elim (is_earlier x q) as (λ b. Some (cond b q x) ≡ Some p → Contains (x ∷ ps) p) [
         | true ↦ λ k. in_tail x ps p (latest_in ps p (found ∙ k))
@@ -77,15 +77,15 @@ past_earlier x q y h = grind (arith, nat_tests)
 past_later : (x q y : Placed) → is_earlier x q ≡ false → is_earlier q y ≡ false → is_earlier x y ≡ false
 past_later x q y h k = grind (arith, nat_tests)
 
-empty : (ps : List Placed) (y : Placed) → latest ps ≡ None → Contains ps y → ⊥
+empty : (ps : List Placed) (y : Placed) → latest_cert ps ≡ None → Contains ps y → ⊥
 empty [] y e h = nothing_in y h
-empty (x ∷ ps) y e h = some_none (later x (latest ps)) e
+empty (x ∷ ps) y e h = some_none (later_cert x (latest_cert ps)) e
 
 -- none is later than it
-latest_last : (ps : List Placed) (p : Placed) → latest ps ≡ Some p → (y : Placed) → Contains ps y → is_earlier p y ≡ false
+latest_last : (ps : List Placed) (p : Placed) → latest_cert ps ≡ Some p → (y : Placed) → Contains ps y → is_earlier p y ≡ false
 latest_last [] p e y h = absurd (nothing_in y h)
 latest_last (x ∷ ps) p e y h =
-    elim (latest ps) as (λ o. latest ps ≡ o → Some (later x o) ≡ Some p → is_earlier p y ≡ false) [
+    elim (latest_cert ps) as (λ o. latest_cert ps ≡ o → Some (later_cert x o) ≡ Some p → is_earlier p y ≡ false) [
       | None ↦ λ none k. elim (in_cases x ps y h) as (λ _. is_earlier p y ≡ false) [
         | inl here ↦ subst (λ z. is_earlier p z ≡ false) (sym (some_same x p k) ∙ here) (not_itself p)
         | inr there ↦ absurd (empty ps y none there)
@@ -106,14 +106,14 @@ latest_last (x ∷ ps) p e y h =
 abbrev pub PlacesTell : List Placed → Type 0
 PlacesTell ps = (p q : Placed) → Contains ps p → Contains ps q → p.place ≡ q.place → p ≡ q
 
-latest_same : (xs ys : List Placed) → ((q : Placed) → Contains xs q → Contains ys q) → ((q : Placed) → Contains ys q → Contains xs q) → PlacesTell xs → latest xs ≡ latest ys
+latest_same : (xs ys : List Placed) → ((q : Placed) → Contains xs q → Contains ys q) → ((q : Placed) → Contains ys q → Contains xs q) → PlacesTell xs → latest_cert xs ≡ latest_cert ys
 latest_same xs ys to from tell =
-    elim (latest xs) as (λ a. latest xs ≡ a → a ≡ latest ys) [
-      | None ↦ λ none. elim (latest ys) as (λ b. latest ys ≡ b → None ≡ b) [
+    elim (latest_cert xs) as (λ a. latest_cert xs ≡ a → a ≡ latest_cert ys) [
+      | None ↦ λ none. elim (latest_cert ys) as (λ b. latest_cert ys ≡ b → None ≡ b) [
         | None ↦ λ _. refl
         | Some q ↦ λ found. absurd (empty xs q none (from q (latest_in ys q found)))
       ] refl
-      | Some p ↦ λ found. elim (latest ys) as (λ b. latest ys ≡ b → Some p ≡ b) [
+      | Some p ↦ λ found. elim (latest_cert ys) as (λ b. latest_cert ys ≡ b → Some p ≡ b) [
         | None ↦ λ none. absurd (empty ys p none (to p (latest_in xs p found)))
         | Some q ↦ λ there.
             let at_p = latest_in xs p found in

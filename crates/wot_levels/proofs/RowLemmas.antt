@@ -5,11 +5,11 @@ use Rattle.wot_types.specs.declared.row.Row.{Row}
 use Rattle.wot_types.specs.State.{State}
 use Rattle.wot_types.specs.Candidates.{RowMap}
 use Rattle.wot_types.specs.Levels.{first_row, map_by, next_rows, rows_upto}
-use Rattle.wot_levels.specs.Given.{if_below, in_limit, limited}
+use Rattle.wot_levels.specs.Given.{if_below, in_limit, rows_within}
 use Rattle.wot_levels.proofs.Walks.{get-map_by}
 
 -- a limited view finds the rows below the limit
-pub get-limited : (limit : Option ℕ) (rows : RowMap) (id : ℕ) → finmap.get (limited limit rows) id ≡ option_and_then (in_limit limit) (finmap.get rows id)
+pub get-limited : (limit : Option ℕ) (rows : RowMap) (id : ℕ) → finmap.get (rows_within limit rows) id ≡ option_and_then (in_limit limit) (finmap.get rows id)
 get-limited None rows id = itself (finmap.get rows id)
   where
     itself : (r : Option Row) → r ≡ option_and_then (in_limit None) r

@@ -18,7 +18,7 @@ use Rattle.wot_types.specs.Candidates.{RowMap, count_of, is_full}
 use Rattle.wot_types.specs.Expiry.{user_is_live}
 use Rattle.wot_types.specs.Keyring.{Keyring}
 use Rattle.wot_types.specs.Levels.{delegations_on}
-use Rattle.wot_types.specs.Selection.{Spot, latest, placed_from, spots_from}
+use Rattle.wot_types.specs.Selection.{Spot, latest_cert, placed_from, spots_from}
 use Rattle.wot_levels.specs.Candidates.{bare, candidate_list, later_of}
 use Rattle.wot_types.specs.Arrangement.{spot_at}
 use Rattle.wot_levels.proofs.CandidateLemmas.{later_of-assoc, later_of-none, latest-append}
@@ -89,7 +89,7 @@ module _ (o : Options) (now : ℕ) (rows : RowMap) (key : Key) where
   full_in spots = list_any fills (filter live spots)
 
   abbrev pub latest_in : List Spot → Option Placed
-  latest_in spots = latest (flat_map (delegations_on o now rows) (filter live spots))
+  latest_in spots = latest_cert (flat_map (delegations_on o now rows) (filter live spots))
 
   pub full_more : (a : Bool) (spot : Spot) (spots : List Spot) → ((a || (live spot && fills spot)) || full_in spots) ≡ (a || full_in (spot ∷ spots))
   full_more a spot spots =
@@ -99,11 +99,11 @@ module _ (o : Options) (now : ℕ) (rows : RowMap) (key : Key) where
       ]
 
   pub latest_more : (a : Option Placed) (spot : Spot) (spots : List Spot)
-      → later_of (later_of a (cond (live spot) (latest (delegations_on o now rows spot)) None)) (latest_in spots) ≡ later_of a (latest_in (spot ∷ spots))
+      → later_of (later_of a (cond (live spot) (latest_cert (delegations_on o now rows spot)) None)) (latest_in spots) ≡ later_of a (latest_in (spot ∷ spots))
   latest_more a spot spots =
       let rest = filter live spots in
-      elim (live spot) as (λ b. later_of (later_of a (cond b (latest (delegations_on o now rows spot)) None)) (latest_in spots) ≡ later_of a (latest (flat_map (delegations_on o now rows) (cond b (spot ∷ rest) rest)))) [
-        | true ↦ later_of-assoc a (latest (delegations_on o now rows spot)) (latest_in spots)
+      elim (live spot) as (λ b. later_of (later_of a (cond b (latest_cert (delegations_on o now rows spot)) None)) (latest_in spots) ≡ later_of a (latest_cert (flat_map (delegations_on o now rows) (cond b (spot ∷ rest) rest)))) [
+        | true ↦ later_of-assoc a (latest_cert (delegations_on o now rows spot)) (latest_in spots)
             ∙ ap (later_of a) (sym (latest-append (delegations_on o now rows spot) (flat_map (delegations_on o now rows) rest)))
         | false ↦ ap (λ x. later_of x (latest_in spots)) (later_of-none a)
       ]

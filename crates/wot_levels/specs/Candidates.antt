@@ -9,8 +9,8 @@ use Rattle.wot_types.specs.declared.row.Row.{Row}
 use Rattle.wot_types.specs.declared.trust.Trust.{Trust}
 use Rattle.wot_types.specs.declared.user.UserKind.TheVariants.{Uid}
 use Rattle.wot_types.specs.Candidates.{RowMap, candidacy}
-use Rattle.wot_types.specs.Levels.{delegating}
-use Rattle.wot_types.specs.Selection.{Spot, later, latest}
+use Rattle.wot_types.specs.Levels.{delegating_cert}
+use Rattle.wot_types.specs.Selection.{Spot, later_cert, latest_cert}
 use Rattle.wot_types.specs.Trust.{is_below_marginal, is_fully_trusted, is_marginal, is_ultimate}
 
 -- a user ID of which only the text and the certifications matter
@@ -40,23 +40,23 @@ tally fs = record {
 }
 
 abbrev pub delegates : Row × Placed → Option Placed
-delegates f = delegating f.0 f.1
+delegates f = delegating_cert f.0 f.1
 
 -- the latest delegation among them
 abbrev pub best_of : List (Row × Placed) → Option Placed
-best_of fs = latest (filter_map delegates fs)
+best_of fs = latest_cert (filter_map delegates fs)
 
 abbrev pub later_of : Option Placed → Option Placed → Option Placed
 later_of None q = q
-later_of (Some p) q = Some (later p q)
+later_of (Some p) q = Some (later_cert p q)
 
 abbrev pub one_if : (Trust → Bool) → Option (Row × Placed) → ℕ
 one_if test None = 0
 one_if test (Some f) = if has_trust test f then 1 else 0
 
 -- the count with one more candidate, if there is one
-abbrev pub counted : Count → Option (Row × Placed) → Count
-counted c found = record {
+abbrev pub count_with : Count → Option (Row × Placed) → Count
+count_with c found = record {
   ultimate = c.ultimate + one_if is_ultimate found;
   full = c.full + one_if is_fully_trusted found;
   marginal = c.marginal + one_if is_marginal found;

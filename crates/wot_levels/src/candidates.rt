@@ -8,11 +8,11 @@ ghost use Rattle.wot_types.specs.Letters.{letter_of_count};
 ghost use Rattle.wot_types.specs.Levels.{allowed_depth};
 ghost use Rattle.wot_types.specs.Limits.{most_certs};
 ghost use Rattle.wot_types.specs.Scope.{admits};
-ghost use Rattle.wot_types.specs.Selection.{is_earlier, later, usable};
+ghost use Rattle.wot_types.specs.Selection.{is_earlier, later_cert, usable};
 ghost use Rattle.wot_types.specs.declared.placed.Placed.{Placed};
 ghost use Rattle.wot_types.specs.declared.row.Row.{Row};
 ghost use Rattle.wot_select.specs.Run.{IsBy};
-ghost use Rattle.wot_levels.specs.Candidates.{IsAtMost, bare, best_of, candidate_list, candidate_of, counted, delegates, later_of, tally};
+ghost use Rattle.wot_levels.specs.Candidates.{IsAtMost, bare, best_of, candidate_list, candidate_of, count_with, delegates, later_of, tally};
 
 use crate::introducers::Introducers;
 use crate::runs::split_run;
@@ -67,7 +67,7 @@ fn is_earlier(p: &Placed, q: &Placed) -> bool
 }
 
 fn later<'a>(p: &'a Placed, q: &'a Placed) -> &'a Placed
-    ensures { result.now ≡ later p.now (Some q.now) }
+    ensures { result.now ≡ later_cert p.now (Some q.now) }
 {
     if is_earlier(p, q) { q } else { p }
 }
@@ -143,9 +143,9 @@ pub fn candidate<'a, 'b>(
     Some((row, placed))
 }
 
-fn counted(count: Count, trust: Trust) -> Count
+fn count_with(count: Count, trust: Trust) -> Count
     requires { IsAtMost count (2 ^ 32 - 2) }
-    ensures { (row : Row) (p : Placed) → row.trust ≡ trust → result ≡ counted count (Some (row, p)) }
+    ensures { (row : Row) (p : Placed) → row.trust ≡ trust → result ≡ count_with count (Some (row, p)) }
 {
     let mut count = count;
     match trust {
@@ -159,13 +159,13 @@ fn counted(count: Count, trust: Trust) -> Count
 
 fn with_candidate<'a>(look: Look<'a>, found: Option<(&Row, &'a Placed)>) -> Look<'a>
     requires { IsAtMost look.count (2 ^ 32 - 2) }
-    ensures count { result.count ≡ counted look.entry.count (option_map (λ f. (f.0.now, f.1.now)) found.entry) }
+    ensures count { result.count ≡ count_with look.entry.count (option_map (λ f. (f.0.now, f.1.now)) found.entry) }
     ensures best { option_copied result.best ≡ later_of (option_copied look.entry.best) (option_and_then delegates (option_map (λ f. (f.0.now, f.1.now)) found.entry)) }
 {
     match found {
         None => look,
         Some(found) => Look {
-            count: counted(look.count, found.0.trust),
+            count: count_with(look.count, found.0.trust),
             best: later_of(look.best, delegates(found.0, found.1)),
         },
     }

@@ -12,7 +12,7 @@ ghost use Rattle.wot_types.specs.Expiry.{key_is_live, user_is_live};
 ghost use Rattle.wot_types.specs.Keyring.{Keyring, certs_at, key_certs};
 ghost use Rattle.wot_types.specs.Levels.{delegation, delegations_on, first_row, greater_trust, has_full_user, left_after, live_spots, new_row, row_by, trust_of_amount};
 ghost use Rattle.wot_types.specs.Ownertrust.{ownertrust_of};
-ghost use Rattle.wot_types.specs.Selection.{Spot, latest};
+ghost use Rattle.wot_types.specs.Selection.{Spot, latest_cert};
 ghost use Rattle.wot_levels.specs.Candidates.{later_of};
 ghost use Rattle.wot_levels.specs.Given.{given_issuer, given_row, state_of};
 ghost use Rattle.wot_levels.specs.Standings.{IsHeadAt, standing_row};
@@ -117,7 +117,7 @@ pub fn support_of<'a, L: Ledger>(
     requires level { options.now.level ≤ 3 }
     requires head { IsHeadAt table.now id key.now }
     ensures full { (k : Key) (spot : Spot) → map.get table.now id ≡ Some k → spot_at table.now id user ≡ Some spot → result.full ≡ (user_is_live now k spot.user && is_full options.now (count_of options.now now spot introducers.now)) }
-    ensures best { (k : Key) (spot : Spot) → map.get table.now id ≡ Some k → spot_at table.now id user ≡ Some spot → option_copied result.best ≡ (if user_is_live now k spot.user then latest (delegations_on options.now now introducers.now spot) else None) }
+    ensures best { (k : Key) (spot : Spot) → map.get table.now id ≡ Some k → spot_at table.now id user ≡ Some spot → option_copied result.best ≡ (if user_is_live now k spot.user then latest_cert (delegations_on options.now now introducers.now spot) else None) }
     ensures ticks { (k : Key) (spot : Spot) → map.get table.now id ≡ Some k → spot_at table.now id user ≡ Some spot → steps.new ≤ steps.old + length spot.certs }
 {
     if let Some(head) = user_at(table, id, user) {
@@ -157,7 +157,7 @@ fn support_all<'a, L: Ledger>(
     requires level { options.now.level ≤ 3 }
     requires head { IsHeadAt table.now id key.now }
     ensures full { (k : Key) → map.get table.now id ≡ Some k → result.full ≡ has_full_user options.now now introducers.now k }
-    ensures best { (k : Key) → map.get table.now id ≡ Some k → option_copied result.best ≡ latest (flat_map (delegations_on options.now now introducers.now) (live_spots now k)) }
+    ensures best { (k : Key) → map.get table.now id ≡ Some k → option_copied result.best ≡ latest_cert (flat_map (delegations_on options.now now introducers.now) (live_spots now k)) }
     ensures ticks { (k : Key) → map.get table.now id ≡ Some k → steps.new ≤ steps.old + key_certs k }
 {
     let mut all = Support {

@@ -49,7 +49,7 @@ impl KeyBlock {
     }
 
     /// Ends the block: its key ID and its key.
-    pub fn finish(mut self) -> Result<(KeyId, Key), LineError>
+    pub fn into_key(mut self) -> Result<(KeyId, Key), LineError>
         ensures { Answers result (first_failing ((is_none self.fpr, ListingWhat.NoFingerprint) ∷ []))
             (λ p. (p.0 ≡ self.primary.id) × (p.1 ≡ key_at_end self)) }
     {

@@ -57,7 +57,7 @@ impl Listing {
             Some(stop) => Err(stop),
             None => {
                 let number = self.progress.lines.saturating_add(1);
-                match self.progress.feed(self.alloc, line) {
+                match self.progress.add_line(self.alloc, line) {
                     Ok(()) => Ok(()),
                     Err(e) => {
                         let stop = stop_at(number, e);
@@ -86,7 +86,7 @@ impl Listing {
             Some(stop) => Err(stop),
             None => {
                 let number = progress.lines.saturating_add(1);
-                match progress.finish(alloc) {
+                match progress.into_blocks(alloc) {
                     Ok(blocks) => Ok(blocks),
                     Err(e) => Err(stop_at(number, e)),
                 }

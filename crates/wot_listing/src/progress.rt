@@ -41,7 +41,7 @@ impl Progress {
     }
 
     /// Reads a line. After an error what is kept means nothing.
-    pub fn feed(&mut self, alloc: Global, line: &[u8]) -> Result<(), LineError>
+    pub fn add_line(&mut self, alloc: Global, line: &[u8]) -> Result<(), LineError>
         ensures { Answers result (failing_in self.old line.now) (λ _. self.new ≡ after_line self.old line.now) }
     {
         let line = Fields::new(line);
@@ -51,7 +51,7 @@ impl Progress {
     }
 
     /// Ends the last block: the keys of all blocks.
-    pub fn finish(mut self, alloc: Global) -> Result<Blocks, LineError>
+    pub fn into_blocks(mut self, alloc: Global) -> Result<Blocks, LineError>
         ensures { Answers result (first_failing ((is_unnamed self.block, ListingWhat.NoFingerprint) ∷ []))
             (λ blocks. (blocks.keys ≡ map.values (after_block self).keys) × (blocks.kept ≡ self.kept) × (blocks.passed ≡ self.passed)) }
     {
@@ -168,7 +168,7 @@ impl Progress {
     {
         match self.block.take() {
             Some(block) => {
-                let (id, key) = block.finish()?;
+                let (id, key) = block.into_key()?;
                 self.keys.insert(id, key)?;
                 Ok(())
             }

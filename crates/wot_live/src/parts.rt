@@ -123,14 +123,14 @@ impl Parts {
     }
 
     /// The same, whatever it reads on the way.
-    pub fn counted(self) -> Result<Engine, Mem>
+    pub fn into_engine(self) -> Result<Engine, Mem>
         ensures { IfOk result (λ engine. engine ≡ self) }
     {
-        self.counted_by::<Brand>(Blank::new(1))
+        self.into_engine_by::<Brand>(Blank::new(1))
     }
 
     /// The same by a counter of its own.
-    fn counted_by<L: Ledger>(self, blank: Blank) -> Result<Engine, Mem>
+    fn into_engine_by<L: Ledger>(self, blank: Blank) -> Result<Engine, Mem>
         requires own { (blank.name ≡ L.name) × (blank.parts ≡ L.parts) × (0 < L.parts) }
         ensures { IfOk result (λ engine. engine ≡ self) }
     {

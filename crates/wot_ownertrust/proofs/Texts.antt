@@ -22,7 +22,7 @@ use Rattle.wot_types.specs.Payload.{AreSettable, IsRisingBy}
 use Rattle.wot_types.specs.Numbers.{capped}
 use Rattle.wot_types.proofs.FinMaps.{All-insert}
 use Rattle.wot_types.proofs.Fingerprints.{fpr_cmp_total, fpr_cmp-IsAntisymmetric}
-use Rattle.wot_ownertrust.specs.Reading.{SoFar, after, by_line, reading, so_far}
+use Rattle.wot_ownertrust.specs.Reading.{SoFar, so_far_after, by_line, reading, so_far}
 use Rattle.wot_ownertrust.proofs.Lines.{line_sets}
 
 -- ---- one more line
@@ -68,11 +68,11 @@ one_more None (Err what) m number = refl
 one_more None (Ok None) m number = refl
 one_more None (Ok (Some entry)) m number = refl
 
-step_after : (o : Option (ℕ × OwnertrustFault)) (line : List ℕ) (m : OwnertrustMap) (k : ℕ) → step o (entry_of_line line) m (capped (k + 1)) ≡ after (so_far o m (capped k)) line
+step_after : (o : Option (ℕ × OwnertrustFault)) (line : List ℕ) (m : OwnertrustMap) (k : ℕ) → step o (entry_of_line line) m (capped (k + 1)) ≡ so_far_after (so_far o m (capped k)) line
 step_after (Some fault) line m k = refl
 step_after None line m k = ap (λ (number : ℕ). by_line (entry_of_line line) m number) (sym (capped_more k))
 
-pub after_one : (lines : List (List ℕ)) (line : List ℕ) → reading (lines ++ line ∷ []) ≡ after (reading lines) line
+pub after_one : (lines : List (List ℕ)) (line : List ℕ) → reading (lines ++ line ∷ []) ≡ so_far_after (reading lines) line
 after_one lines line =
     let number : 0 + length lines + 1 ≡ length lines + 1 = omega arith in
     let count : length (lines ++ line ∷ []) ≡ length lines + 1 = omega (arith, length-append lines (line ∷ [])) in

@@ -24,6 +24,6 @@ by_line (Err what) entries number = Err (number, what)
 by_line (Ok None) entries number = Ok (entries, number)
 by_line (Ok (Some entry)) entries number = Ok (finmap.insert entries entry.fpr (kept_of entry), number)
 
-abbrev pub after : SoFar → List ℕ → SoFar
-after (Err fault) line = Err fault
-after (Ok kept) line = by_line (entry_of_line line) kept.0 (capped (kept.1 + 1))
+abbrev pub so_far_after : SoFar → List ℕ → SoFar
+so_far_after (Err fault) line = Err fault
+so_far_after (Ok kept) line = by_line (entry_of_line line) kept.0 (capped (kept.1 + 1))

@@ -82,7 +82,7 @@ fn reads_and_writes_a_text(rt: HostRuntime) -> Result<(), Fail> {
     ] {
         text.add_line(line.as_bytes())?;
     }
-    let entries = text.finish(alloc)?;
+    let entries = text.into_entries(alloc)?;
     assert_eq!(rt; entries.len(), 2);
     for (entry, want) in entries.as_slice().iter().zip([
         "0000000000000000000000000000000000000AAA:4:",
@@ -106,6 +106,6 @@ fn keeps_the_first_fault(rt: HostRuntime) -> Result<(), Fail> {
         text.add_line(line.as_bytes())?;
     }
     let fault = TextError::Fault(2, OwnertrustFault::BadFingerprint);
-    assert_eq!(rt; text.finish(alloc).err(), Some(fault));
+    assert_eq!(rt; text.into_entries(alloc).err(), Some(fault));
     Ok(())
 }

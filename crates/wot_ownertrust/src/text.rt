@@ -6,7 +6,7 @@ ghost use Rattle.wot_types.specs.declared.fault.OwnertrustFault.{OwnertrustFault
 ghost use Rattle.wot_types.specs.OwnertrustText.{listed_entries, ownertrust_fault};
 ghost use Rattle.wot_types.specs.Payload.{AreSettable};
 ghost use Rattle.wot_ownertrust.specs.declared.text.TextError.TheVariants.{Fault, Memory};
-ghost use Rattle.wot_ownertrust.specs.Reading.{after, reading};
+ghost use Rattle.wot_ownertrust.specs.Reading.{so_far_after, reading};
 ghost use Rattle.wot_types.specs.Ownertrust.{entry_of};
 
 use crate::line::read_line;
@@ -79,7 +79,7 @@ impl OwnertrustText {
 
     #[tactic(auto, using(crate::proofs::Lines::line_sets))]
     fn add(&mut self, line: &[u8]) -> Result<(), Mem>
-        ensures ok { OnOk result (self.new ≡ after self.old line.now) }
+        ensures ok { OnOk result (self.new ≡ so_far_after self.old line.now) }
         ensures err { OnErr result (self.new ≡ self.old) }
     {
         if self.fault.is_some() {
@@ -104,7 +104,7 @@ impl OwnertrustText {
 
     /// Ends the text: its entries in rising order of their fingerprints, or its first fault.
     #[tactic(auto, using(crate::proofs::Texts::settable, crate::proofs::Texts::whole, crate::proofs::Texts::faulty))]
-    pub fn finish(self, alloc: Global) -> Result<Entries, TextError>
+    pub fn into_entries(self, alloc: Global) -> Result<Entries, TextError>
         ensures entries { (lines : List (List ℕ)) → self ≡ reading lines → IfOk result (λ entries. entries ≡ listed_entries lines) }
         ensures fault { (lines : List (List ℕ)) → self ≡ reading lines → (line : ℕ) (what : OwnertrustFault)
             → (result ≡ Err (Fault line what)) ↔ (ownertrust_fault lines ≡ Some (line, what)) }
@@ -114,13 +114,13 @@ impl OwnertrustText {
         let OwnertrustText { entries, fault, .. } = self;
         match fault {
             Some((line, what)) => Err(TextError::Fault(line, what)),
-            None => Ok(listed(alloc, &entries)?),
+            None => Ok(entries_of(alloc, &entries)?),
         }
     }
 }
 
 /// The entries in rising order of their fingerprints.
-fn listed(alloc: Global, entries: &Trusts) -> Result<Entries, Mem>
+fn entries_of(alloc: Global, entries: &Trusts) -> Result<Entries, Mem>
     ensures { IfOk result (λ listed. listed ≡ map entry_of (finmap.entries entries.now)) }
 {
     let mut listed = List::new(alloc);

@@ -8,14 +8,14 @@ use wot_fields::printed::push_number;
 use wot_types::Mem;
 
 /// `ok`, after a command that tells nothing else.
-pub fn ok(alloc: Global) -> Result<Vec<u8>, Mem>
+pub fn ok_line(alloc: Global) -> Result<Vec<u8>, Mem>
     ensures { IfOk result (λ text. text.items ≡ ok_line) }
 {
     Ok(Vec::from_slice(alloc, b"ok\n")?)
 }
 
 /// `ok keys K kept C passed P`, after an import.
-pub fn imported(alloc: Global, keys: u64, kept: u64, passed: u64) -> Result<Vec<u8>, Mem>
+pub fn import_line(alloc: Global, keys: u64, kept: u64, passed: u64) -> Result<Vec<u8>, Mem>
     ensures { IfOk result (λ text. text.items ≡ import_line keys kept passed) }
 {
     let mut text = Vec::from_slice(alloc, b"ok keys ")?;
@@ -29,7 +29,7 @@ pub fn imported(alloc: Global, keys: u64, kept: u64, passed: u64) -> Result<Vec<
 }
 
 /// `ok keys K`, after a sample.
-pub fn sampled(alloc: Global, keys: u32) -> Result<Vec<u8>, Mem>
+pub fn keys_line(alloc: Global, keys: u32) -> Result<Vec<u8>, Mem>
     ensures { IfOk result (λ text. text.items ≡ keys_line keys) }
 {
     let mut text = Vec::from_slice(alloc, b"ok keys ")?;
@@ -39,7 +39,7 @@ pub fn sampled(alloc: Global, keys: u32) -> Result<Vec<u8>, Mem>
 }
 
 /// `ok entries E`, after an ownertrust text.
-pub fn set(alloc: Global, entries: u64) -> Result<Vec<u8>, Mem>
+pub fn entries_line(alloc: Global, entries: u64) -> Result<Vec<u8>, Mem>
     ensures { IfOk result (λ text. text.items ≡ entries_line entries) }
 {
     let mut text = Vec::from_slice(alloc, b"ok entries ")?;

@@ -4,7 +4,7 @@ ghost use Rattle.std.specs.Prelude.{◌≡◌, ◌++◌, OnOk};
 ghost use Rattle.hex.specs.Hex.{encode_upper};
 ghost use Rattle.wot_types.specs.Printing.{ended_field, expiry_field, key_id_text, number_field, scope_text};
 ghost use Rattle.wot_types.specs.Tally.{count_field};
-ghost use Rattle.wot_types.specs.Quotes.{printed};
+ghost use Rattle.wot_types.specs.Quotes.{printed_text};
 
 use std::alloc::Global;
 use wot_fields::printed::{push_hex, push_number};
@@ -69,7 +69,7 @@ pub fn push_key_id(alloc: Global, text: &mut Vec<u8>, id: KeyId) -> Result<(), M
 }
 
 pub fn push_quoted_field(alloc: Global, text: &mut Vec<u8>, field: &Text) -> Result<(), Mem>
-    ensures { OnOk result (text.new.items ≡ text.old.items ++ ended_field (printed field.now)) }
+    ensures { OnOk result (text.new.items ≡ text.old.items ++ ended_field (printed_text field.now)) }
 {
     let quoted = quote(alloc, field)?;
     push_field(text, quoted.as_bytes())

@@ -12,7 +12,7 @@ mod ownertrust; // the ownertrust export
 mod records; // the lines of a listing
 mod refusals; // the line of a refused command
 
-pub use answers::{imported, ok, sampled, set};
+pub use answers::{entries_line, import_line, keys_line, ok_line};
 pub use counts::tally;
 pub use explanation::why;
 pub use listing::list;

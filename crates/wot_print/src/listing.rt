@@ -9,7 +9,7 @@ ghost use Rattle.wot_types.specs.Keyring.{cert_total};
 ghost use Rattle.wot_types.specs.Levels.{rows_of};
 ghost use Rattle.wot_types.specs.Listing.{Spells};
 ghost use Rattle.wot_types.specs.Ownertrust.{ownertrust_of};
-ghost use Rattle.wot_types.specs.Printing.{cert_line, key_lines, list_text, listed, user_lines};
+ghost use Rattle.wot_types.specs.Printing.{cert_line, key_lines, list_text, listed_keyblocks, user_lines};
 ghost use Rattle.wot_types.specs.Selection.{Spot, spots_from};
 ghost use Rattle.wot_types.specs.Numbers.{capped};
 ghost use Rattle.wot_table.specs.Heads.{IsKeyHead, IsUserHead};
@@ -74,7 +74,7 @@ fn push_listed<L: Ledger>(
     sigs: bool,
     steps: &mut Steps<L>,
 ) -> Result<(), Mem>
-    ensures lines { OnOk result (text.new.items ≡ text.old.items ++ flat_map (key_lines engine.now (rows_of engine.now) sigs) (listed engine.now only)) }
+    ensures lines { OnOk result (text.new.items ≡ text.old.items ++ flat_map (key_lines engine.now (rows_of engine.now) sigs) (listed_keyblocks engine.now only)) }
     ensures fits { only ≡ None → IsTrue sigs → OnOk result (All (λ e. FitsKey e.1) (map.entries engine.now.keys)) }
 {
     match only {
@@ -91,7 +91,7 @@ fn push_keys<L: Ledger>(
     sigs: bool,
     steps: &mut Steps<L>,
 ) -> Result<(), Mem>
-    ensures lines { OnOk result (text.new.items ≡ text.old.items ++ flat_map (key_lines engine.now (rows_of engine.now) sigs) (listed engine.now None)) }
+    ensures lines { OnOk result (text.new.items ≡ text.old.items ++ flat_map (key_lines engine.now (rows_of engine.now) sigs) (listed_keyblocks engine.now None)) }
     ensures fits { IsTrue sigs → OnOk result (All (λ e. FitsKey e.1) (map.entries engine.now.keys)) }
 {
     let mut after = None;
@@ -113,7 +113,7 @@ fn push_key<L: Ledger>(
     sigs: bool,
     steps: &mut Steps<L>,
 ) -> Result<(), Mem>
-    ensures lines { OnOk result (text.new.items ≡ text.old.items ++ flat_map (key_lines engine.now (rows_of engine.now) sigs) (listed engine.now (Some id))) }
+    ensures lines { OnOk result (text.new.items ≡ text.old.items ++ flat_map (key_lines engine.now (rows_of engine.now) sigs) (listed_keyblocks engine.now (Some id))) }
     ensures fits { (key : Key) → map.get engine.now.keys id ≡ Some key → IsTrue sigs → OnOk result (FitsKey key) }
 {
     match engine.table().key(id) {

@@ -16,7 +16,7 @@ use Rattle.wot_types.specs.Dates.{date_or_0}
 use Rattle.wot_types.specs.Fields.{field, has_fewer}
 use Rattle.wot_types.specs.Fingerprint.{IsFprLength, fingerprint, key_id_of}
 use Rattle.wot_types.specs.Numbers.{depth_and_amount, number_or_0}
-use Rattle.wot_types.specs.Quotes.{printed, unquoted}
+use Rattle.wot_types.specs.Quotes.{printed_text, unquoted}
 use Rattle.wot_types.specs.Listing.{cert_checks, first_failing, fpr_checks, pub_checks, user_checks}
 use Rattle.wot_types.specs.Limits.{longest_scope}
 use Rattle.wot_types.specs.Printing.{cert_name, class_text, depth_text, key_id_text, kind_text, scope_text}
@@ -108,7 +108,7 @@ fpr_says key h sized =
 
 abbrev pub user_parts : List ℕ → User → List (List ℕ)
 user_parts letter user =
-    kind_text user.kind ∷ letter ∷ [] ∷ [] ∷ [] ∷ decimal user.made ∷ expiry_text user.expires ∷ user.hash ∷ [] ∷ printed user.text ∷ []
+    kind_text user.kind ∷ letter ∷ [] ∷ [] ∷ [] ∷ decimal user.made ∷ expiry_text user.expires ∷ user.hash ∷ [] ∷ printed_text user.text ∷ []
 
 pub record IsUid (marked : Bool) (user : User) (line : List ℕ) : Type 0 where
   pub kind : kind_of line ≡ UserId user.kind

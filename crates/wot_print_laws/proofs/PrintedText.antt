@@ -15,7 +15,7 @@ use Rattle.wot_types.specs.Ownertrust.{ownertrust_of}
 use Rattle.wot_types.specs.Printing.{capabilities_text, cert_line, cert_name, class_text, depth_text, ended_field, expiry_field, fpr_line, key_id_text, key_lines, kind_text, letter_text, list_text, model_text, number_field, pub_line, scope_text, tru_line, user_line, user_lines}
 use Rattle.wot_types.specs.Trust.{trust_text}
 use Rattle.hex.specs.Hex.{encode_upper}
-use Rattle.wot_types.specs.Quotes.{printed}
+use Rattle.wot_types.specs.Quotes.{printed_text}
 use Rattle.wot_types.specs.Runs.{Run}
 use Rattle.wot_types.specs.Selection.{Spot, spots_from}
 use Rattle.wot_print_laws.proofs.Parts.{ended, joined, joined_is}
@@ -90,7 +90,7 @@ fpr_is key = chained_is (codes "fpr:::::::::") (ended_field (encode_upper key.fp
 user_is : (s : State) (rows : RowMap) (id : ℕ) (key : Key) (spot : Spot) → user_line (user_letter s rows id key spot) spot.user ≡ user_row s rows id key spot ++ 10 ∷ []
 user_is s rows id key spot =
     chained_is (ended_field (kind_text spot.user.kind)) (ended_field (letter_text (user_letter s rows id key spot)) ∷ codes ":::" ∷ number_field spot.user.made ∷ expiry_field spot.user.expires
-    ∷ ended_field spot.user.hash ∷ codes ":" ∷ ended_field (printed spot.user.text) ∷ (10 ∷ []) ∷ [])
+    ∷ ended_field spot.user.hash ∷ codes ":" ∷ ended_field (printed_text spot.user.text) ∷ (10 ∷ []) ∷ [])
     ∙ joined_is (user_parts (letter_text (user_letter s rows id key spot)) spot.user) (10 ∷ [])
 
 cert_is : (cert : Cert) → cert_line cert ≡ cert_row cert ++ 10 ∷ []

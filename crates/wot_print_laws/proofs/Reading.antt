@@ -31,7 +31,7 @@ use Rattle.wot_types.specs.Letters.{key_letter, user_letter}
 use Rattle.wot_types.specs.Levels.{rows_of}
 use Rattle.wot_types.specs.Listing.{Line, Spells, fault_at_end, kept_of, listed_keys, passed_of}
 use Rattle.wot_types.specs.Numbers.{capped}
-use Rattle.wot_types.specs.NextCheck.{key_expiries, next_check, sooner, soonest, user_expiries}
+use Rattle.wot_types.specs.NextCheck.{key_expiries, next_check, sooner_of, soonest, user_expiries}
 use Rattle.wot_types.specs.Ownertrust.{ownertrust_of}
 use Rattle.wot_types.specs.Printing.{capabilities_text, kind_text, letter_text, list_text, model_text}
 use Rattle.wot_types.specs.Trust.{trust_text}
@@ -82,7 +82,7 @@ dates_append : (xs ys : List ℕ) → AreDates xs → AreDates ys → AreDates (
 dates_append [] ys h k = k
 dates_append (x ∷ xs) ys h k = (h.0, dates_append xs ys h.1 k)
 
-sooner_fits : (a b : ℕ) → a < 2 ^ 32 → b < 2 ^ 32 → sooner a b < 2 ^ 32
+sooner_fits : (a b : ℕ) → a < 2 ^ 32 → b < 2 ^ 32 → sooner_of a b < 2 ^ 32
 sooner_fits a b p q =
     cond_both (a == 0) b (if b == 0 then a else min a b) (λ n. n < 2 ^ 32) (λ e. q)
     (λ e. cond_both (b == 0) a (min a b) (λ n. n < 2 ^ 32) (λ f. p) (λ f. omega arith))

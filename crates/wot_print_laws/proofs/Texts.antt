@@ -14,7 +14,7 @@ use Rattle.wot_types.specs.declared.cert.Cert.{Cert}
 use Rattle.wot_types.specs.Lines.{is_space}
 use Rattle.wot_types.specs.Numbers.{depth_and_amount, is_digit, two_bytes, both}
 use Rattle.wot_types.specs.Printing.{class_text, depth_text, key_id_text, scope_text}
-use Rattle.wot_types.specs.Quotes.{hex_pair, is_escaped, printed, printed_byte, quoted_front, unquoted, unquoted_in}
+use Rattle.wot_types.specs.Quotes.{hex_pair, is_escaped, printed_text, printed_byte, quoted_front, unquoted, unquoted_in}
 use Rattle.wot_types.specs.Fingerprint.{IsFprLength, fingerprint}
 use Rattle.wot_types.specs.Records.{class_of, key_id}
 use Rattle.wot_print_laws.specs.Fits.{IsScopeOfBytes}
@@ -61,18 +61,18 @@ printed_byte_some : (b : ℕ) → 0 < length (printed_byte b)
 printed_byte_some b =
     cond_both (is_escaped b) (92 ∷ 120 ∷ slice_index lower_digits (b / 16) ∷ slice_index lower_digits (b % 16) ∷ []) (b ∷ []) (λ s. 0 < length s) (λ e. omega arith) (λ e. omega arith)
 
-unquoted_in-printed : (n : ℕ) (text : List ℕ) → AreBytes text → length (printed text) ≤ n → unquoted_in n (printed text) ≡ Some text
+unquoted_in-printed : (n : ℕ) (text : List ℕ) → AreBytes text → length (printed_text text) ≤ n → unquoted_in n (printed_text text) ≡ Some text
 unfolding unquoted_in
 unquoted_in-printed zero [] h l = refl
 unquoted_in-printed (suc n) [] h l = refl
-unquoted_in-printed zero (b ∷ text) h l = absurd (omega (arith, length-append (printed_byte b) (printed text), printed_byte_some b))
+unquoted_in-printed zero (b ∷ text) h l = absurd (omega (arith, length-append (printed_byte b) (printed_text text), printed_byte_some b))
 unquoted_in-printed (suc n) (b ∷ text) h l =
-    let size = length-append (printed_byte b) (printed text) in
-    unquoted_step n (printed_byte b ++ printed text) b (printed text) (omega (arith, size, printed_byte_some b)) (front_of_printed b (printed text) h.0)
+    let size = length-append (printed_byte b) (printed_text text) in
+    unquoted_step n (printed_byte b ++ printed_text text) b (printed_text text) (omega (arith, size, printed_byte_some b)) (front_of_printed b (printed_text text) h.0)
     ∙ ap (option_map (λ t. b ∷ t)) (unquoted_in-printed n text h.1 (omega (arith, size, printed_byte_some b)))
 
-pub unquoted-printed : (text : List ℕ) → AreBytes text → unquoted (printed text) ≡ Some text
-unquoted-printed text h = unquoted_in-printed (length (printed text)) text h (omega arith)
+pub unquoted-printed : (text : List ℕ) → AreBytes text → unquoted (printed_text text) ≡ Some text
+unquoted-printed text h = unquoted_in-printed (length (printed_text text)) text h (omega arith)
 
 inner_printed_byte : (b : ℕ) → b < 256 → IsInner (printed_byte b)
 inner_printed_byte b l =
@@ -83,9 +83,9 @@ inner_printed_byte b l =
     let above = or_parts (nat_lt b 32) (b == 127) colon.0 in
     and_from _ _ (inner_byte b (omega (arith, ltb-false b 32 above.0)) (eqb-false b 58 colon.1)) refl)
 
-pub inner_printed : (text : List ℕ) → AreBytes text → IsInner (printed text)
+pub inner_printed : (text : List ℕ) → AreBytes text → IsInner (printed_text text)
 inner_printed [] h = refl
-inner_printed (b ∷ text) h = inner_append (printed_byte b) (printed text) (inner_printed_byte b h.0) (inner_printed text h.1)
+inner_printed (b ∷ text) h = inner_append (printed_byte b) (printed_text text) (inner_printed_byte b h.0) (inner_printed text h.1)
 
 -- ---- scopes
 

@@ -5,7 +5,7 @@ use Rattle.std.proofs.lemmas.Bool.Decides.{nat_tests}
 use Rattle.std.proofs.lemmas.List.{take_more, take-append-drop}
 use Rattle.std.proofs.lemmas.List.Elements.{filter-append}
 use Rattle.wot_types.specs.declared.placed.Placed.{Placed}
-use Rattle.wot_types.specs.Selection.{counts_for, in_force, is_disregarded, is_earlier, later, latest, usable}
+use Rattle.wot_types.specs.Selection.{counts_for, in_force, is_disregarded, is_earlier, later_cert, latest_cert, usable}
 use Rattle.wot_select.specs.Run.{IsBy}
 use Rattle.wot_types.specs.Arrangement.{IsRising, is_before}
 
@@ -39,8 +39,8 @@ rising_back (p ∷ ps) qs h = rising_back ps qs h.1
 
 -- the last one of a run decides, unless it is disregarded
 latest_last : (level issuer : ℕ) (ps : List Placed) (q : Placed) → AllBefore q ps → IsBy issuer ps → q.cert.issuer ≡ issuer → is_disregarded level q.cert ≡ false
-    → latest (filter (counts_for level issuer) (ps ++ q ∷ [])) ≡ Some q
-latest_last level issuer [] q h by its kept = ap (λ b. latest (cond b (q ∷ []) [])) (counts q its kept)
+    → latest_cert (filter (counts_for level issuer) (ps ++ q ∷ [])) ≡ Some q
+latest_last level issuer [] q h by its kept = ap (λ b. latest_cert (cond b (q ∷ []) [])) (counts q its kept)
   where
     counts : (p : Placed) → p.cert.issuer ≡ issuer → is_disregarded level p.cert ≡ false → counts_for level issuer p ≡ true
     counts p e k =
@@ -49,8 +49,8 @@ latest_last level issuer [] q h by its kept = ap (λ b. latest (cond b (q ∷ []
 latest_last level issuer (p ∷ ps) q h by its kept =
     let rest = filter (counts_for level issuer) (ps ++ q ∷ []) in
     let behind = latest_last level issuer ps q h.1 by.1 its kept in
-    elim (counts_for level issuer p) as (λ b. latest (cond b (p ∷ rest) rest) ≡ Some q) [
-      | true ↦ ap (λ o. Some (later p o)) behind ∙ ap (λ b. Some (cond b q p)) (earlier p q h.0 by.0 its)
+    elim (counts_for level issuer p) as (λ b. latest_cert (cond b (p ∷ rest) rest) ≡ Some q) [
+      | true ↦ ap (λ o. Some (later_cert p o)) behind ∙ ap (λ b. Some (cond b q p)) (earlier p q h.0 by.0 its)
       | false ↦ behind
     ]
   where
@@ -61,7 +61,7 @@ latest_last level issuer (p ∷ ps) q h by its kept =
 pub disregarded_last : (now level issuer : ℕ) (ps : List Placed) (q : Placed) → is_disregarded level q.cert ≡ true
     → usable now level issuer (ps ++ q ∷ []) ≡ usable now level issuer ps
 disregarded_last now level issuer ps q h =
-    ap (λ xs. option_and_then (in_force now) (latest xs))
+    ap (λ xs. option_and_then (in_force now) (latest_cert xs))
     (filter-append (counts_for level issuer) ps (q ∷ []) ∙ ap (λ b. filter (counts_for level issuer) ps ++ cond b (q ∷ []) []) (left_out (q.cert.issuer == issuer) (is_disregarded level q.cert) h) ∙ append_none (filter (counts_for level issuer) ps))
   where
     left_out : (a b : Bool) → b ≡ true → (a && not b) ≡ false

@@ -2,7 +2,7 @@
 use Rattle.std.proofs.Common.{◌≡◌, ℕ, ◌==◌, List, [], ◌++◌, ◌∷◌, length, map, if◌then◌else◌, Option, Some, sym, ap, ◌∙◌, append_assoc}
 use Rattle.std.proofs.lemmas.List.{append-nil, map-append}
 use Rattle.wot_types.specs.Lines.{lines, open_line, read_line, whole_lines}
-use Rattle.wot_types.specs.Commands.{cut_after, unfinished, whole_commands}
+use Rattle.wot_types.specs.Commands.{cut_after, unfinished_commands, whole_commands}
 use Rattle.wot_types.specs.Commands.Cut.{over}
 use Rattle.wot_types.specs.LineByLine.{Position, after_lines, commands_in}
 use Rattle.wot_types.specs.Session.{after_all, replies}
@@ -63,10 +63,10 @@ commands_end s input =
     let whole = whole_from (Some []) input in
     let last = last_lines (open_from (Some []) input) in
     let t = position_after s input in
-    ap (λ lines. commands_in s lines ++ unfinished (cut_after s.cut lines)) (all_lines input)
-    ∙ ap (λ front. front ++ unfinished (cut_after s.cut (whole ++ last))) (laws.whole_append s.cut whole last)
-    ∙ ap (λ cut. (commands_in s whole ++ commands_in t last) ++ unfinished cut) (cut_append s.cut whole last)
-    ∙ append_assoc (commands_in s whole) (commands_in t last) (unfinished (after_lines t last).cut)
+    ap (λ lines. commands_in s lines ++ unfinished_commands (cut_after s.cut lines)) (all_lines input)
+    ∙ ap (λ front. front ++ unfinished_commands (cut_after s.cut (whole ++ last))) (laws.whole_append s.cut whole last)
+    ∙ ap (λ cut. (commands_in s whole ++ commands_in t last) ++ unfinished_commands cut) (cut_append s.cut whole last)
+    ∙ append_assoc (commands_in s whole) (commands_in t last) (unfinished_commands (after_lines t last).cut)
     ∙ ap (λ front. front ++ last_commands t (open_from (Some []) input)) (sym (fed_commands s input))
 
 -- how far a session has come at the end
@@ -77,7 +77,7 @@ end_is s input =
     ap (after_all s.progress) (commands_end s input)
     ∙ after_commands_append s.progress (whole_at s input) (last_commands t line)
     ∙ ap (λ p. after_all p (last_commands t line)) (sym (progress_after s input))
-    ∙ after_commands_append t.progress (commands_in t (last_lines line)) (unfinished (after_lines t (last_lines line)).cut)
+    ∙ after_commands_append t.progress (commands_in t (last_lines line)) (unfinished_commands (after_lines t (last_lines line)).cut)
 
 -- what is whole in the first bytes are the first commands of all
 pub commands_more : (s : Position) (fed rest : List ℕ)
@@ -90,8 +90,8 @@ commands_more s fed rest =
 -- behind `quit` there are no further ones
 over_last : (p : Position) (line : Option (List ℕ)) → p.cut ≡ over → last_commands p line ≡ []
 over_last p line is =
-    ap (λ front. front ++ unfinished (after_lines p (last_lines line)).cut) (over_commands p (last_lines line) is)
-    ∙ ap (λ (q : Position). unfinished q.cut) (over_lines p (last_lines line) is) ∙ ap unfinished is
+    ap (λ front. front ++ unfinished_commands (after_lines p (last_lines line)).cut) (over_commands p (last_lines line) is)
+    ∙ ap (λ (q : Position). unfinished_commands q.cut) (over_lines p (last_lines line) is) ∙ ap unfinished_commands is
 
 pub commands_over : (s : Position) (fed rest : List ℕ) → (position_after s fed).cut ≡ over → commands_at s (fed ++ rest) ≡ whole_at s fed
 commands_over s fed rest is =

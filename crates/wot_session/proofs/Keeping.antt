@@ -8,7 +8,7 @@ use Rattle.wot_site.specs.Work.{now}
 use Rattle.wot_store.specs.Shows.{IsStored, Shows}
 use Rattle.wot_store.proofs.Openings.{settled_images}
 use Rattle.wot_types.specs.Commands.{Command}
-use Rattle.wot_types.specs.Session.{Progress, after, after_all, replies, reply_to}
+use Rattle.wot_types.specs.Session.{Progress, after_command, after_all, replies, reply_to}
 use Rattle.wot_types.proofs.Cuts.{after_commands_append, commands_append}
 use Rattle.wot_session.specs.Kept.{AllShow, IsWhole, Kept}
 
@@ -33,15 +33,15 @@ kept_here p (command ∷ commands) told m same shows = inl (record {
 pub kept_more : (p : Progress) (xs ys : List Command) (told : List ℕ) (m : Moment) → Kept p xs told m → Kept p (xs ++ ys) told m
 kept_more p [] ys told m (same, shows) = kept_here p ys told m same shows
 kept_more p (command ∷ xs) ys told m (inl around) = inl around
-kept_more p (command ∷ xs) ys told m (inr later) = inr (kept_more (after p command) xs ys (told ++ reply_to p command) m later)
+kept_more p (command ∷ xs) ys told m (inr later) = inr (kept_more (after_command p command) xs ys (told ++ reply_to p command) m later)
 
 -- others came before
 pub kept_then : (p : Progress) (xs ys : List Command) (told : List ℕ) (m : Moment)
     → Kept (after_all p xs) ys (told ++ replies p xs) m → Kept p (xs ++ ys) told m
 kept_then p [] ys told m kept = subst (λ t. Kept p ys t m) (append-nil told) kept
 kept_then p (command ∷ xs) ys told m kept =
-    inr (kept_then (after p command) xs ys (told ++ reply_to p command) m
-    (subst (λ t. Kept (after_all (after p command) xs) ys t m) (sym (append_assoc told (reply_to p command) (replies (after p command) xs))) kept))
+    inr (kept_then (after_command p command) xs ys (told ++ reply_to p command) m
+    (subst (λ t. Kept (after_all (after_command p command) xs) ys t m) (sym (append_assoc told (reply_to p command) (replies (after_command p command) xs))) kept))
 
 -- commands that were answered wholly
 pub whole_here : (p : Progress) (commands : List Command) (told : List ℕ) (new : Seen) → new.told ≡ told → IsStored p.store new.disks → IsWhole p commands told new

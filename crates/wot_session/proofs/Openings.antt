@@ -5,7 +5,7 @@ use Rattle.std.proofs.lemmas.List.Elements.{All-append, All-nil, All-weaker}
 use Rattle.wot_types.specs.Grammar.{has_block}
 use Rattle.wot_types.specs.Lines.{lines, read_line}
 use Rattle.wot_types.specs.Store.{Store}
-use Rattle.wot_types.specs.Commands.{Command, begun, commands_from, first_cut, takes_input}
+use Rattle.wot_types.specs.Commands.{Command, begun_command, commands_from, first_cut, takes_input}
 use Rattle.wot_types.specs.LineByLine.{at_first}
 use Rattle.wot_types.specs.Session.{after_all, at_start, commands_of, output_of, replies}
 use Rattle.wot_site.specs.Disk.{Image, IsImageOf, Leaves, reads_of}
@@ -197,7 +197,7 @@ module _ (store : Store) (words : List (List ℕ)) (takes : takes_input words �
   }
 
 -- a run of one command without a block
-same_one : (words : List (List ℕ)) (bytes : List ℕ) → (words ≡ [] → ⊥) → has_block words ≡ false → commands_of words bytes ≡ begun words ∷ []
+same_one : (words : List (List ℕ)) (bytes : List ℕ) → (words ≡ [] → ⊥) → has_block words ≡ false → commands_of words bytes ≡ begun_command words ∷ []
 same_one [] bytes some none = absurd (some refl)
 same_one (name ∷ words) bytes some none = ap (λ b. commands_from (first_cut (name ∷ words)) (if b then map read_line (lines bytes) else [])) none
 
@@ -210,8 +210,8 @@ takes_block [] takes = refl
 takes_block (name ∷ words) takes = takes
 
 module _ (store : Store) (words : List (List ℕ)) (some : words ≡ [] → ⊥) (none : has_block words ≡ false) (y z : Seen) where
-  pub one_ended : (most : ℕ) (refused : Bool) → refused ≡ (after_all (at_start store) (begun words ∷ [])).refused
-      → IsStored (after_all (at_start store) (begun words ∷ [])).store z.disks → Said (at_start store) (begun words ∷ []) y z → WordsEnded store words most refused y z
+  pub one_ended : (most : ℕ) (refused : Bool) → refused ≡ (after_all (at_start store) (begun_command words ∷ [])).refused
+      → IsStored (after_all (at_start store) (begun_command words ∷ [])).store z.disks → Said (at_start store) (begun_command words ∷ []) y z → WordsEnded store words most refused y z
   one_ended most refused refusals stored said =
       let same = sym (same_one words y.left some none) in
       record {
@@ -223,7 +223,7 @@ module _ (store : Store) (words : List (List ℕ)) (some : words ≡ [] → ⊥)
         since = subst (λ commands. Since (Kept (at_start store) commands y.told) y z) same said.since;
       }
 
-  pub one_stopped : (most : ℕ) (stop : Stop) → IsAnswering stop → SaidPrefix (at_start store) (begun words ∷ []) stop y z → WordsStopped store words most stop y z
+  pub one_stopped : (most : ℕ) (stop : Stop) → IsAnswering stop → SaidPrefix (at_start store) (begun_command words ∷ []) stop y z → WordsStopped store words most stop y z
   one_stopped most stop kind said =
       let same = sym (same_one words y.left some none) in
       let told = said.told.told in
@@ -285,7 +285,7 @@ some_length [] some = absurd (some refl)
 some_length (name ∷ words) some = omega arith
 
 -- the block of the one command
-pub first_block : (block : Block) (words : List (List ℕ)) → (words ≡ [] → ⊥) → IsBlockOf block (begun words) → IsCut (Within block) (first_cut words)
+pub first_block : (block : Block) (words : List (List ℕ)) → (words ≡ [] → ⊥) → IsBlockOf block (begun_command words) → IsCut (Within block) (first_cut words)
 first_block block [] some is = absurd (some refl)
 first_block block (name ∷ words) some is = is
 

@@ -7,16 +7,16 @@ use Rattle.wot_site.specs.Disk.{Image, Leaves}
 use Rattle.wot_site.specs.Seen.{Moment, Seen}
 use Rattle.wot_store.specs.Shows.{Shows}
 use Rattle.wot_types.specs.Commands.{Command}
-use Rattle.wot_types.specs.Session.{Progress, acknowledged, after, after_all, is_edit, replies, reply_to, states}
+use Rattle.wot_types.specs.Session.{Progress, acknowledged, after_command, after_all, is_edit, replies, reply_to, states}
 use Rattle.wot_types.proofs.Counting.{first_state, kept, none_acknowledged, replied}
 use Rattle.wot_session.proofs.Keeping.{stored_shows}
 use Rattle.wot_session.specs.Kept.{IsAround, IsSafe, IsWhole, Kept, ShowsPrefix, ShowsState}
 
 -- a command without a reply leaves the store
-silent : (p : Progress) (command : Command) → length (reply_to p command) ≡ 0 → (after p command).store ≡ p.store
+silent : (p : Progress) (command : Command) → length (reply_to p command) ≡ 0 → (after_command p command).store ≡ p.store
 silent p command none = cases (is_edit p command) refl
   where
-    cases : (edit : Bool) → is_edit p command ≡ edit → (after p command).store ≡ p.store
+    cases : (edit : Bool) → is_edit p command ≡ edit → (after_command p command).store ≡ p.store
     cases true is = absurd (omega (arith, replied p command is, none))
     cases false is = kept p command is
 
@@ -32,12 +32,12 @@ one_plus j = omega arith
 
 -- the state after j edits and, before them, one more if the first command is an edit
 state_later : (p : Progress) (command : Command) (commands : List Command) (j : ℕ)
-    → slice_get (states p (command ∷ commands)) (one_if (is_edit p command) + j) ≡ slice_get (states (after p command) commands) j
+    → slice_get (states p (command ∷ commands)) (one_if (is_edit p command) + j) ≡ slice_get (states (after_command p command) commands) j
 state_later p command commands j =
-    elim (is_edit p command) as (λ b. slice_get (if b then p.store.state ∷ states (after p command) commands else states (after p command) commands) (one_if b + j)
-    ≡ slice_get (states (after p command) commands) j) [
-      | true ↦ ap (slice_get (p.store.state ∷ states (after p command) commands)) (one_plus j)
-      | false ↦ ap (slice_get (states (after p command) commands)) (zero_plus j)
+    elim (is_edit p command) as (λ b. slice_get (if b then p.store.state ∷ states (after_command p command) commands else states (after_command p command) commands) (one_if b + j)
+    ≡ slice_get (states (after_command p command) commands) j) [
+      | true ↦ ap (slice_get (p.store.state ∷ states (after_command p command) commands)) (one_plus j)
+      | false ↦ ap (slice_get (states (after_command p command) commands)) (zero_plus j)
     ]
 
 -- the first command is not answered wholly
@@ -46,18 +46,18 @@ count_none p command commands n less = grind (arith, nat_tests)
 
 -- the first command is answered wholly
 count_later : (p : Progress) (command : Command) (commands : List Command) (n : ℕ)
-    → acknowledged p (command ∷ commands) (length (reply_to p command) + n) ≡ one_if (is_edit p command) + acknowledged (after p command) commands n
+    → acknowledged p (command ∷ commands) (length (reply_to p command) + n) ≡ one_if (is_edit p command) + acknowledged (after_command p command) commands n
 count_later p command commands n =
     let size : (length (reply_to p command) + n) - length (reply_to p command) ≡ n = omega arith in
     let no : nat_lt (length (reply_to p command) + n) (length (reply_to p command)) ≡ false = grind (arith, nat_tests) in
-    ap (λ b. if b then 0 else one_if (is_edit p command) + acknowledged (after p command) commands ((length (reply_to p command) + n) - length (reply_to p command))) no
-    ∙ ap (λ n. one_if (is_edit p command) + acknowledged (after p command) commands n) size
+    ap (λ b. if b then 0 else one_if (is_edit p command) + acknowledged (after_command p command) commands ((length (reply_to p command) + n) - length (reply_to p command))) no
+    ∙ ap (λ n. one_if (is_edit p command) + acknowledged (after_command p command) commands n) size
 
 module _ (p : Progress) (command : Command) (commands : List Command) where
   -- the state after the first command is that after as many edits as it makes
-  after_state : slice_get (states p (command ∷ commands)) (one_if (is_edit p command)) ≡ Some (after p command).store.state
+  after_state : slice_get (states p (command ∷ commands)) (one_if (is_edit p command)) ≡ Some (after_command p command).store.state
   after_state =
-      ap (slice_get (states p (command ∷ commands))) (sym plus) ∙ state_later p command commands 0 ∙ first_state (after p command) commands
+      ap (slice_get (states p (command ∷ commands))) (sym plus) ∙ state_later p command commands 0 ∙ first_state (after_command p command) commands
     where
       plus : one_if (is_edit p command) + 0 ≡ one_if (is_edit p command)
       plus = omega arith
@@ -66,7 +66,7 @@ module _ (p : Progress) (command : Command) (commands : List Command) where
   one_at_most = elim (is_edit p command) as (λ b. one_if b ≤ 1) [ true ↦ omega arith | false ↦ omega arith ]
 
   -- before the whole reply
-  early : (n : ℕ) → n < length (reply_to p command) → (image : Image) → Shows image p.store ⊎ Shows image (after p command).store
+  early : (n : ℕ) → n < length (reply_to p command) → (image : Image) → Shows image p.store ⊎ Shows image (after_command p command).store
       → ShowsPrefix p (command ∷ commands) n image
   early n less image (inl shows) = record {
     j = 0;
@@ -78,27 +78,27 @@ module _ (p : Progress) (command : Command) (commands : List Command) where
     j = one_if (is_edit p command);
     least = omega (arith, count_none p command commands n less);
     most = omega (arith, one_at_most);
-    shows = record { store = (after p command).store; shows = shows; is = after_state };
+    shows = record { store = (after_command p command).store; shows = shows; is = after_state };
   }
 
   -- after it
-  late : (image : Image) → Shows image (after p command).store → ShowsPrefix p (command ∷ commands) (length (reply_to p command)) image
+  late : (image : Image) → Shows image (after_command p command).store → ShowsPrefix p (command ∷ commands) (length (reply_to p command)) image
   late image shows =
       let size : length (reply_to p command) + 0 ≡ length (reply_to p command) = omega arith in
       let count = sym (ap (acknowledged p (command ∷ commands)) size) ∙ count_later p command commands 0 in
-      let none = none_acknowledged (after p command) commands in
+      let none = none_acknowledged (after_command p command) commands in
       record {
         j = one_if (is_edit p command);
         least = omega (arith, count, none);
         most = omega (arith, count, none);
-        shows = record { store = (after p command).store; shows = shows; is = after_state };
+        shows = record { store = (after_command p command).store; shows = shows; is = after_state };
       }
 
-  whole_reply : (image : Image) → length (reply_to p command) ≡ 0 → Shows image p.store ⊎ Shows image (after p command).store → Shows image (after p command).store
+  whole_reply : (image : Image) → length (reply_to p command) ≡ 0 → Shows image p.store ⊎ Shows image (after_command p command).store → Shows image (after_command p command).store
   whole_reply image none (inl shows) = subst (Shows image) (sym (silent p command none)) shows
   whole_reply image none (inr shows) = shows
 
-  around_prefix : (before : List ℕ) (m : Moment) (around : IsAround p.store (after p command).store (reply_to p command) before m)
+  around_prefix : (before : List ℕ) (m : Moment) (around : IsAround p.store (after_command p command).store (reply_to p command) before m)
       → Leaves (ShowsPrefix p (command ∷ commands) (length around.prefix)) m.disks
   around_prefix before m around image is_image = cases (nat_lt (length around.prefix) (length (reply_to p command))) refl
     where
@@ -108,7 +108,7 @@ module _ (p : Progress) (command : Command) (commands : List Command) where
       full : nat_lt (length around.prefix) (length (reply_to p command)) ≡ false → length around.prefix ≡ length (reply_to p command)
       full past = let less : length (reply_to p command) ≤ length around.prefix = grind (arith, nat_tests) in omega (arith, less, size)
 
-      shown : length around.prefix ≡ length (reply_to p command) → Leaves (λ image. Shows image (after p command).store) m.disks ⊎ (around.prefix ≡ []) → Shows image (after p command).store
+      shown : length around.prefix ≡ length (reply_to p command) → Leaves (λ image. Shows image (after_command p command).store) m.disks ⊎ (around.prefix ≡ []) → Shows image (after_command p command).store
       shown all (inl shows) = shows image is_image
       shown all (inr none) = whole_reply image (sym all ∙ ap length none) (around.either image is_image)
 
@@ -120,7 +120,7 @@ module _ (p : Progress) (command : Command) (commands : List Command) where
       cases false is = subst (λ n. ShowsPrefix p (command ∷ commands) n image) (sym (full is)) (late image (shown (full is) around.answered))
 
   -- the first command was answered
-  later_prefix : (n : ℕ) (image : Image) → ShowsPrefix (after p command) commands n image → ShowsPrefix p (command ∷ commands) (length (reply_to p command) + n) image
+  later_prefix : (n : ℕ) (image : Image) → ShowsPrefix (after_command p command) commands n image → ShowsPrefix p (command ∷ commands) (length (reply_to p command) + n) image
   later_prefix n image prefix =
       let count = count_later p command commands n in
       record {
@@ -145,14 +145,14 @@ kept_safe p [] before m (told, shows) = record {
 kept_safe p (command ∷ commands) before m (inl around) = record {
   text = around.prefix;
   is_prefix = (
-    around.is_prefix.0 ++ replies (after p command) commands,
-    sym (append_assoc around.prefix around.is_prefix.0 (replies (after p command) commands)) ∙ ap (λ text. text ++ replies (after p command) commands) around.is_prefix.1,
+    around.is_prefix.0 ++ replies (after_command p command) commands,
+    sym (append_assoc around.prefix around.is_prefix.0 (replies (after_command p command) commands)) ∙ ap (λ text. text ++ replies (after_command p command) commands) around.is_prefix.1,
   );
   told = around.told;
   images = around_prefix p command commands before m around;
 }
 kept_safe p (command ∷ commands) before m (inr later) =
-    let rest = kept_safe (after p command) commands (before ++ reply_to p command) m later in
+    let rest = kept_safe (after_command p command) commands (before ++ reply_to p command) m later in
     record {
       text = reply_to p command ++ rest.text;
       is_prefix = (rest.is_prefix.0, append_assoc (reply_to p command) rest.text rest.is_prefix.0 ∙ ap (λ text. reply_to p command ++ text) rest.is_prefix.1);
@@ -167,10 +167,10 @@ whole_state : (p : Progress) (done rest : List Command)
     → slice_get (states p (done ++ rest)) (acknowledged p (done ++ rest) (length (replies p done))) ≡ Some (after_all p done).store.state
 whole_state p [] rest = ap (slice_get (states p rest)) (none_acknowledged p rest) ∙ first_state p rest
 whole_state p (command ∷ done) rest =
-    ap (λ n. slice_get (states p (command ∷ done ++ rest)) (acknowledged p (command ∷ done ++ rest) n)) (length-append (reply_to p command) (replies (after p command) done))
-    ∙ ap (slice_get (states p (command ∷ done ++ rest))) (count_later p command (done ++ rest) (length (replies (after p command) done)))
-    ∙ state_later p command (done ++ rest) (acknowledged (after p command) (done ++ rest) (length (replies (after p command) done)))
-    ∙ whole_state (after p command) done rest
+    ap (λ n. slice_get (states p (command ∷ done ++ rest)) (acknowledged p (command ∷ done ++ rest) n)) (length-append (reply_to p command) (replies (after_command p command) done))
+    ∙ ap (slice_get (states p (command ∷ done ++ rest))) (count_later p command (done ++ rest) (length (replies (after_command p command) done)))
+    ∙ state_later p command (done ++ rest) (acknowledged (after_command p command) (done ++ rest) (length (replies (after_command p command) done)))
+    ∙ whole_state (after_command p command) done rest
 
 pub whole_exact : (p : Progress) (commands : List Command) (before text : List ℕ) (new : Seen) → new.told ≡ before ++ text → IsWhole p commands before new
     → Leaves (ShowsState p commands (acknowledged p commands (length text))) new.disks

@@ -6,9 +6,9 @@ use Rattle.wot_site.specs.Seen.{Honestly, Moment, Seen}
 use Rattle.wot_site.specs.Work.{now}
 use Rattle.wot_site.proofs.Works.{since_start, since_then, since_weaker}
 use Rattle.wot_store.specs.Shows.{IsStored}
-use Rattle.wot_types.specs.Commands.{Command, Cut, ReadLine, closed, ends, made_by, of_line, opens_block, unfinished}
+use Rattle.wot_types.specs.Commands.{Command, Cut, ReadLine, closed_command, ends, made_by, of_line, opens_block, unfinished_commands}
 use Rattle.wot_types.specs.Commands.Cut.{between, over, within}
-use Rattle.wot_types.specs.Session.{Progress, after, after_all, replies, reply_to}
+use Rattle.wot_types.specs.Session.{Progress, after_command, after_all, replies, reply_to}
 use Rattle.wot_types.specs.LineByLine.{Position, after_line, after_lines, commands_in}
 use Rattle.wot_types.proofs.Cuts.{after_one, commands_append, one_line}
 use Rattle.wot_session.specs.Fed.{last_lines}
@@ -46,7 +46,7 @@ pub record AtMostOne (commands : List Command) : Type 0 where
 around_kept : (p : Progress) (commands : List Command) (told : List ℕ) (m : Moment) → AtMostOne commands
     → IsAround p.store (after_all p commands).store (replies p commands) told m → Kept p commands told m
 around_kept p [] told m one around = none_kept p told m around
-around_kept p (command ∷ []) told m one around = inl (subst (λ reply. IsAround p.store (after p command).store reply told m) (append-nil (reply_to p command)) around)
+around_kept p (command ∷ []) told m one around = inl (subst (λ reply. IsAround p.store (after_command p command).store reply told m) (append-nil (reply_to p command)) around)
 around_kept p (command ∷ other ∷ commands) told m one around = absurd (no one.cases)
   where
     no : ((command ∷ other ∷ commands) ≡ []) ⊎ ((single : Command) × ((command ∷ other ∷ commands) ≡ single ∷ [])) → ⊥
@@ -60,12 +60,12 @@ one_made between line = elim (opens_block line) as (λ b. AtMostOne (if b then [
   | true ↦ record { cases = inl refl }
   | false ↦ record { cases = inr (of_line line, refl) }
 ]
-one_made (within command) line = elim (ends command line) as (λ b. AtMostOne (if b then closed command ∷ [] else [])) [
-  | true ↦ record { cases = inr (closed command, refl) }
+one_made (within command) line = elim (ends command line) as (λ b. AtMostOne (if b then closed_command command ∷ [] else [])) [
+  | true ↦ record { cases = inr (closed_command command, refl) }
   | false ↦ record { cases = inl refl }
 ]
 
-pub one_unfinished : (cut : Cut) → AtMostOne (unfinished cut)
+pub one_unfinished : (cut : Cut) → AtMostOne (unfinished_commands cut)
 one_unfinished between = record { cases = inl refl }
 one_unfinished (within command) = record { cases = inr (command, refl) }
 one_unfinished over = record { cases = inl refl }
@@ -157,11 +157,11 @@ last_none p line is = ap (λ line. commands_in p (last_lines line)) is
 one_only : (command : Command) → AtMostOne (command ∷ [])
 one_only command = record { cases = inr (command, refl) }
 
-pub given_one : (p : Progress) (command : Command) (x y : Seen) → Given p.store (after p command).store (reply_to p command) x y → Said p (command ∷ []) x y
+pub given_one : (p : Progress) (command : Command) (x y : Seen) → Given p.store (after_command p command).store (reply_to p command) x y → Said p (command ∷ []) x y
 given_one p command x y given =
-    given_said p (command ∷ []) x y (one_only command) (subst (λ reply. Given p.store (after p command).store reply x y) (sym (append-nil (reply_to p command))) given)
+    given_said p (command ∷ []) x y (one_only command) (subst (λ reply. Given p.store (after_command p command).store reply x y) (sym (append-nil (reply_to p command))) given)
 
 pub given_one_prefix : (p : Progress) (command : Command) (stop : Stop) (x y : Seen) → IsGiving stop
-    → GivenPrefix p.store (after p command).store (reply_to p command) x y → SaidPrefix p (command ∷ []) stop x y
+    → GivenPrefix p.store (after_command p command).store (reply_to p command) x y → SaidPrefix p (command ∷ []) stop x y
 given_one_prefix p command stop x y kind given =
-    given_said_prefix p (command ∷ []) stop x y (one_only command) kind (subst (λ reply. GivenPrefix p.store (after p command).store reply x y) (sym (append-nil (reply_to p command))) given)
+    given_said_prefix p (command ∷ []) stop x y (one_only command) kind (subst (λ reply. GivenPrefix p.store (after_command p command).store reply x y) (sym (append-nil (reply_to p command))) given)

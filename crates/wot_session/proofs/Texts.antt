@@ -6,7 +6,7 @@ use Rattle.std.proofs.lemmas.List.Elements.{All-nil, All-cons}
 use Rattle.std.proofs.Math.Seq.{take-add}
 use Rattle.wot_site.specs.Disk.{Disks}
 use Rattle.wot_site.specs.Seen.{Moment, Seen}
-use Rattle.wot_site.specs.Site.{Tells, Stays, telling}
+use Rattle.wot_site.specs.Site.{Tells, Stays, moments_telling}
 use Rattle.wot_site.specs.Work.{now}
 use Rattle.wot_site.proofs.Works.{since_start, since_then, since_weaker}
 use Rattle.wot_session.specs.Told.{IsTelling, Told, ToldPrefix, Telling, TellingPrefix}
@@ -49,7 +49,7 @@ prefix_more text more x y told =
     }
 
 -- the moments while a text is told, where a prefix of it was told before
-telling_each : (sides : Disks) (before text done rest told : List ℕ) → done ++ rest ≡ text → told ≡ before ++ done → All (IsTelling sides before text) (telling sides told rest)
+telling_each : (sides : Disks) (before text done rest told : List ℕ) → done ++ rest ≡ text → told ≡ before ++ done → All (IsTelling sides before text) (moments_telling sides told rest)
 telling_each sides before text done [] told split so_far = All-nil _
 telling_each sides before text done (b ∷ rest) told split so_far =
     let next = ap (λ told. told ++ b ∷ []) so_far ∙ append_assoc before done (b ∷ []) in
@@ -72,7 +72,7 @@ tells_telling n bytes y z tells = record {
   disks = ap (λ (s : Seen). s.disks) tells;
   since = record {
     first = telling_first (take n bytes) y;
-    moments = telling y.disks y.told (take n bytes);
+    moments = moments_telling y.disks y.told (take n bytes);
     is = ap (λ (s : Seen). s.moments) tells;
     each = telling_each y.disks y.told (take n bytes) [] (take n bytes) y.told refl (sym (append-nil y.told));
   };

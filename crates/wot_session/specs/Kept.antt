@@ -2,7 +2,7 @@
 use Rattle.std.specs.Prelude.{ℕ, ◌≡◌, ◌⊎◌, ◌+◌, ◌≤◌, List, [], ◌∷◌, ◌++◌, length, Some, slice_get}
 use Rattle.wot_types.specs.Store.{Store}
 use Rattle.wot_types.specs.Commands.{Command}
-use Rattle.wot_types.specs.Session.{Progress, acknowledged, after, after_all, replies, reply_to, states}
+use Rattle.wot_types.specs.Session.{Progress, acknowledged, after_command, after_all, replies, reply_to, states}
 use Rattle.wot_site.specs.Disk.{Disks, Image, Leaves}
 use Rattle.wot_site.specs.Seen.{Moment, Seen}
 use Rattle.wot_store.specs.Shows.{IsStored, Shows}
@@ -32,7 +32,7 @@ pub record IsAround (s t : Store) (reply before : List ℕ) (m : Moment) : Type 
 abbrev pub Kept : Progress → List Command → List ℕ → Moment → Type 0
 Kept p [] told m = (m.told ≡ told) × AllShow p.store m.disks
 Kept p (command ∷ commands) told m =
-    IsAround p.store (after p command).store (reply_to p command) told m ⊎ Kept (after p command) commands (told ++ reply_to p command) m
+    IsAround p.store (after_command p command).store (reply_to p command) told m ⊎ Kept (after_command p command) commands (told ++ reply_to p command) m
 
 -- some of these commands were answered wholly, and nothing was done for the others
 pub record IsWhole (p : Progress) (commands : List Command) (before : List ℕ) (new : Seen) : Type 0 where

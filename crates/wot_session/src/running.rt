@@ -39,7 +39,7 @@ pub fn run_session<S: Site>(session: &mut Session, site: &mut S, most: u64) -> R
         }
         room -= n as u64;
     }
-    match session.finish(site) {
+    match session.answer_rest(site) {
         Ok(()) => Ok(session.is_refused()),
         Err(stop) => Err(stop),
     }

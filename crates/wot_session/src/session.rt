@@ -2,9 +2,9 @@
 
 ghost use Rattle.std.specs.Prelude.{◌≡◌, ◌⊎◌, ◌↔◌, ◌<◌, ◌≤◌, ◌||◌, ℕ, false, List, [], ◌∷◌, length, take, min, Some, None, OnOk, OnErr, IfOk, IfErr, IsTrue};
 ghost use Rattle.wot_types.specs.Store.{Store};
-ghost use Rattle.wot_types.specs.Commands.{begun, made_by, unfinished};
-ghost use Rattle.wot_types.specs.LineByLine.{Position, after_line, after_lines, closing, commands_in, reply_to_line};
-ghost use Rattle.wot_types.specs.Session.{after, at_start, reply_to};
+ghost use Rattle.wot_types.specs.Commands.{begun_command, made_by, unfinished_commands};
+ghost use Rattle.wot_types.specs.LineByLine.{Position, after_line, after_lines, closing_reply, commands_in, reply_to_line};
+ghost use Rattle.wot_types.specs.Session.{after_command, at_start, reply_to};
 ghost use Rattle.wot_answer.specs.Answer.{IsCut};
 ghost use Rattle.wot_site.specs.Seen.{Honestly, IfHonest};
 ghost use Rattle.wot_session.specs.AtEnd.{at_end, closed_at, last_commands};
@@ -140,7 +140,7 @@ impl Session {
     }
 
     /// Answers each line that these bytes end, one after the other, up to `quit`; what they leave open is kept.
-    pub fn feed<S: Site>(&mut self, site: &mut S, bytes: &[u8]) -> Result<(), Stop>
+    pub fn answer_bytes<S: Site>(&mut self, site: &mut S, bytes: &[u8]) -> Result<(), Stop>
         requires { IsSomewhere self.old (S.seen site.old) }
         ensures at { OnOk result ((p : Position) → IsHere self.old (S.seen site.old) p
             → IsHere self.new (S.seen site.new) (after_lines p (whole_from self.old.line bytes.now))) }
@@ -194,7 +194,7 @@ impl Session {
     fn close(&mut self) -> Result<Answer, Mem>
         requires { (p : Position) × IsAt self.old p }
         ensures due { IfOk result (λ answer. (p : Position) → IsAt self.old p
-            → IsDue self.new answer p.progress.store (closed_at p) (closing p)) }
+            → IsDue self.new answer p.progress.store (closed_at p) (closing_reply p)) }
     {
         let Cut::Within(block) = mem::replace(&mut self.cut, Cut::Over) else {
             return Ok(self.nothing());
@@ -237,9 +237,9 @@ impl Session {
         requires { IsSomewhere self.old (S.seen site.old) }
         ensures at { OnOk result ((p : Position) → IsHere self.old (S.seen site.old) p → IsHere self.new (S.seen site.new) (closed_at p)) }
         ensures told { OnOk result ((p : Position) → IsHere self.old (S.seen site.old) p
-            → Honestly (S.seen site.old) (S.seen site.new) (Said p.progress (unfinished p.cut))) }
+            → Honestly (S.seen site.old) (S.seen site.new) (Said p.progress (unfinished_commands p.cut))) }
         ensures prefix { IfErr result (λ stop. (p : Position) → IsHere self.old (S.seen site.old) p
-            → Honestly (S.seen site.old) (S.seen site.new) (SaidPrefix p.progress (unfinished p.cut) stop)) }
+            → Honestly (S.seen site.old) (S.seen site.new) (SaidPrefix p.progress (unfinished_commands p.cut) stop)) }
         ensures cause { StopsTelling (S.faults site.old) (S.faults site.new) result }
     {
         let answer = match self.close() {
@@ -250,7 +250,7 @@ impl Session {
     }
 
     /// Answers what is left at the end of the input: the last line, and a command whose block is unfinished.
-    pub fn finish<S: Site>(&mut self, site: &mut S) -> Result<(), Stop>
+    pub fn answer_rest<S: Site>(&mut self, site: &mut S) -> Result<(), Stop>
         requires { IsSomewhere self.old (S.seen site.old) }
         ensures at { OnOk result ((p : Position) → IsHere self.old (S.seen site.old) p → IsHere self.new (S.seen site.new) (at_end p self.old.line)) }
         ensures told { OnOk result ((p : Position) → IsHere self.old (S.seen site.old) p
@@ -272,7 +272,7 @@ impl Session {
     fn reply_to_words(&mut self, words: &Words) -> Result<Answer, Mem>
         requires some { 0 < length words.now }
         ensures due { IfOk result (λ answer. (p : Position) → IsAt self.old p
-            → IsDue self.new answer p.progress.store (record p { progress = after p.progress (begun words.now) }) (reply_to p.progress (begun words.now))) }
+            → IsDue self.new answer p.progress.store (record p { progress = after_command p.progress (begun_command words.now) }) (reply_to p.progress (begun_command words.now))) }
     {
         let Some(engine) = self.engine.take() else {
             return Err(Mem::Memory);
@@ -288,11 +288,11 @@ impl Session {
         requires some { 0 < length words.now }
         requires somewhere { IsSomewhere self.old (S.seen site.old) }
         ensures at { OnOk result ((p : Position) → IsHere self.old (S.seen site.old) p
-            → IsHere self.new (S.seen site.new) (record p { progress = after p.progress (begun words.now) })) }
+            → IsHere self.new (S.seen site.new) (record p { progress = after_command p.progress (begun_command words.now) })) }
         ensures told { OnOk result ((p : Position) → IsHere self.old (S.seen site.old) p
-            → Honestly (S.seen site.old) (S.seen site.new) (Said p.progress (begun words.now ∷ []))) }
+            → Honestly (S.seen site.old) (S.seen site.new) (Said p.progress (begun_command words.now ∷ []))) }
         ensures prefix { IfErr result (λ stop. (p : Position) → IsHere self.old (S.seen site.old) p
-            → Honestly (S.seen site.old) (S.seen site.new) (SaidPrefix p.progress (begun words.now ∷ []) stop)) }
+            → Honestly (S.seen site.old) (S.seen site.new) (SaidPrefix p.progress (begun_command words.now ∷ []) stop)) }
         ensures cause { StopsTelling (S.faults site.old) (S.faults site.new) result }
     {
         let answer = match self.reply_to_words(words) {
@@ -323,7 +323,7 @@ impl Session {
             Err(Failed) => return Err(Stop::ReadFault),
         };
         let read = first_of(taken, room);
-        match self.feed(site, &buf[..read]) {
+        match self.answer_bytes(site, &buf[..read]) {
             Ok(()) => {}
             Err(stop) => return Err(stop),
         }

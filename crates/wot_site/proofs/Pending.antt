@@ -4,12 +4,12 @@ use Rattle.std.specs.Prelude.{slice_index, All, Some}
 use Rattle.std.proofs.lemmas.Bool.{cases_lt}
 use Rattle.std.proofs.lemmas.List.{take_more, take_all, get_or_read}
 use Rattle.std.proofs.lemmas.List.Elements.{All-nil, All-pop, All-push}
-use Rattle.wot_site.specs.Disk.{Range, Disk, IsImage, IsOutside, written, after_write}
+use Rattle.wot_site.specs.Disk.{Range, Disk, IsImage, IsOutside, bytes_after_write, after_write}
 use Rattle.wot_site.specs.MemorySide.{IsFilled}
 use Rattle.wot_site.proofs.Images.{image_kept}
 
 -- what was read at the last sync stays an image when more is written
-pub kept_here : (reads synced new : List ℕ) (pending more : List Range) (at : ℕ) (x : List ℕ) → new ≡ written reads at x → more ≡ pending ++ record { at = at; len = length x } ∷ [] → at ≤ length reads
+pub kept_here : (reads synced new : List ℕ) (pending more : List Range) (at : ℕ) (x : List ℕ) → new ≡ bytes_after_write reads at x → more ≡ pending ++ record { at = at; len = length x } ∷ [] → at ≤ length reads
     → IsImage (record { reads = reads; synced = length synced; pending = pending }) synced → IsImage (record { reads = new; synced = length synced; pending = more }) synced
 kept_here reads synced new pending more at x is pushed low image =
     subst (λ (d : Disk). IsImage d synced) (λ i. record { reads = sym is i; synced = length synced; pending = sym pushed i })

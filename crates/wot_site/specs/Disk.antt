@@ -22,18 +22,18 @@ pub record IsImage (d : Disk) (c : List ℕ) : Type 0 where
   pub kept : (i : ℕ) → i < d.synced → i < length d.reads → IsOutside i d.pending → slice_index c i ≡ slice_index d.reads i
 
 -- bytes written over others from a place on, and past their end
-abbrev pub written : List ℕ → ℕ → List ℕ → List ℕ
-written old at bytes = take at old ++ (bytes ++ drop (at + length bytes) old)
+abbrev pub bytes_after_write : List ℕ → ℕ → List ℕ → List ℕ
+bytes_after_write old at bytes = take at old ++ (bytes ++ drop (at + length bytes) old)
 
 abbrev pub after_write : ℕ → List ℕ → Disk → Disk
-after_write at bytes d = record { reads = written d.reads at bytes; synced = d.synced; pending = d.pending ++ record { at = at; len = length bytes } ∷ [] }
+after_write at bytes d = record { reads = bytes_after_write d.reads at bytes; synced = d.synced; pending = d.pending ++ record { at = at; len = length bytes } ∷ [] }
 
 -- a side with these bytes and nothing pending
-abbrev pub settled : List ℕ → Disk
-settled bytes = record { reads = bytes; synced = length bytes; pending = [] }
+abbrev pub settled_disk : List ℕ → Disk
+settled_disk bytes = record { reads = bytes; synced = length bytes; pending = [] }
 
 abbrev pub after_sync : Disk → Disk
-after_sync d = settled d.reads
+after_sync d = settled_disk d.reads
 
 -- the two sides
 pub record Disks : Type 0 where

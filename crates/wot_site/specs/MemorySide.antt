@@ -1,6 +1,6 @@
 -- A side of the store in memory: its disk, and beside it what it read at its last sync.
 use Rattle.std.specs.Prelude.{ℕ, ◌≡◌, ◌<◌, List, [], ◌∷◌, ◌++◌, length, slice_index}
-use Rattle.wot_site.specs.Disk.{Disk, Disks, Range, IsOutside, written}
+use Rattle.wot_site.specs.Disk.{Disk, Disks, Range, IsOutside, bytes_after_write}
 use Rattle.wot_site.specs.declared.memory.crash.Pick.{Pick}
 use Rattle.wot_site.specs.declared.memory.crash.Pick.TheVariants.{Nothing, All, Fill}
 use Rattle.wot_site.specs.declared.site.Side.{Side}
@@ -19,8 +19,8 @@ disk b = record { reads = b.reads; synced = length b.synced; pending = b.pending
 abbrev pub at_rest : List ℕ → Bytes
 at_rest bytes = record { reads = bytes; synced = bytes; pending = [] }
 
-abbrev pub wrote : ℕ → List ℕ → Bytes → Bytes
-wrote at bytes b = record { reads = written b.reads at bytes; synced = b.synced; pending = b.pending ++ record { at = at; len = length bytes } ∷ [] }
+abbrev pub after_writing : ℕ → List ℕ → Bytes → Bytes
+after_writing at bytes b = record { reads = bytes_after_write b.reads at bytes; synced = b.synced; pending = b.pending ++ record { at = at; len = length bytes } ∷ [] }
 
 abbrev pub synced_now : Bytes → Bytes
 synced_now b = at_rest b.reads

@@ -2,9 +2,9 @@
 use Rattle.std.specs.Prelude.{ℕ, ◌≡◌, ◌≢◌, ◌⊎◌, ◌+◌, ◌-◌, ◌^◌, List, [], drop, min, Option}
 use Rattle.std.specs.List.{Contains}
 use Rattle.wot_site.specs.Calls.{calls_in, one_more, device_after}
-use Rattle.wot_site.specs.Disk.{Image, settled}
+use Rattle.wot_site.specs.Disk.{Image, settled_disk}
 use Rattle.wot_site.specs.MemorySide.{Both, IsPicked, disks_of}
-use Rattle.wot_site.specs.Notes.{Past, start, replay}
+use Rattle.wot_site.specs.Notes.{Past, past_at_start, replay}
 use Rattle.wot_site.specs.Seen.{Seen, Faults}
 use Rattle.wot_site.specs.Stop.{IsStopped}
 use Rattle.wot_site.specs.declared.memory.calls.Calls.{Calls}
@@ -15,7 +15,7 @@ use Rattle.wot_site.specs.declared.memory.MemorySite.{MemorySite}
 
 -- what its record of calls tells
 abbrev pub past_of : MemorySite → Past
-past_of site = replay (start site.first_zero.items site.first_one.items) site.notes.items
+past_of site = replay (past_at_start site.first_zero.items site.first_one.items) site.notes.items
 
 -- its sides
 abbrev pub sides_of : MemorySite → Both
@@ -34,7 +34,7 @@ seen_of site = record {
 
 -- what it tells at the start: nothing told, nothing pending
 abbrev pub first_seen : List ℕ → List ℕ → List ℕ → Seen
-first_seen input zero one = record { left = input; told = []; taken = 0; asks = []; disks = record { zero = settled zero; one = settled one }; moments = [] }
+first_seen input zero one = record { left = input; told = []; taken = 0; asks = []; disks = record { zero = settled_disk zero; one = settled_disk one }; moments = [] }
 
 -- how often its calls have failed
 abbrev pub faults_of : MemorySite → Faults
@@ -81,10 +81,10 @@ abbrev pub IsDue : CallKind → MemorySite → Type 0
 IsDue kind site = IsPlanned kind site ⊎ IsStopped (stop_of site) (one_more (device_of site))
 
 -- the counts after one more call of that kind failed
-abbrev pub counted : CallKind → Faults → Faults
-counted Take faults = record faults { take = one_more faults.take }
-counted Tell faults = record faults { tell = one_more faults.tell }
-counted kind faults = record faults { disk = one_more faults.disk }
+abbrev pub with_fault : CallKind → Faults → Faults
+with_fault Take faults = record faults { take = one_more faults.take }
+with_fault Tell faults = record faults { tell = one_more faults.tell }
+with_fault kind faults = record faults { disk = one_more faults.disk }
 
 -- the plan, the stop and the cut are the same
 pub record SamePlan (old new : MemorySite) : Type 0 where

@@ -1,9 +1,9 @@
 -- What the notes of a site in memory tell: its record of calls, read from the start.
 use Rattle.std.proofs.Common.{refl}
 use Rattle.std.specs.Prelude.{ℕ, ◌≡◌, List, [], ◌∷◌, ◌++◌}
-use Rattle.wot_site.specs.MemorySide.{Bytes, Both, at_rest, wrote, synced_now, bytes_of, with_bytes, disks_of}
+use Rattle.wot_site.specs.MemorySide.{Bytes, Both, at_rest, after_writing, synced_now, bytes_of, with_bytes, disks_of}
 use Rattle.wot_site.specs.Seen.{Moment}
-use Rattle.wot_site.specs.Site.{telling}
+use Rattle.wot_site.specs.Site.{moments_telling}
 use Rattle.wot_site.specs.declared.memory.notes.Note.{Note}
 use Rattle.wot_site.specs.declared.memory.notes.Note.TheVariants.{Told, Wrote, Synced}
 
@@ -13,27 +13,27 @@ pub record Past : Type 0 where
   pub told : List ℕ
   pub moments : List Moment
 
-abbrev pub start : List ℕ → List ℕ → Past
-start zero one = record { sides = record { zero = at_rest zero; one = at_rest one }; told = []; moments = [] }
+abbrev pub past_at_start : List ℕ → List ℕ → Past
+past_at_start zero one = record { sides = record { zero = at_rest zero; one = at_rest one }; told = []; moments = [] }
 
 abbrev pub with_sides : Both → Past → Past
 with_sides sides p = record p { sides = sides; moments = p.moments ++ record { disks = disks_of sides; told = p.told } ∷ [] }
 
-abbrev pub noted : Past → Note → Past
-noted p (Told bytes) = record p { told = p.told ++ bytes.items; moments = p.moments ++ telling (disks_of p.sides) p.told bytes.items }
-noted p (Wrote side at bytes) = with_sides (with_bytes side (wrote at bytes.items (bytes_of side p.sides)) p.sides) p
-noted p (Synced side) = with_sides (with_bytes side (synced_now (bytes_of side p.sides)) p.sides) p
+abbrev pub past_after : Past → Note → Past
+past_after p (Told bytes) = record p { told = p.told ++ bytes.items; moments = p.moments ++ moments_telling (disks_of p.sides) p.told bytes.items }
+past_after p (Wrote side at bytes) = with_sides (with_bytes side (after_writing at bytes.items (bytes_of side p.sides)) p.sides) p
+past_after p (Synced side) = with_sides (with_bytes side (synced_now (bytes_of side p.sides)) p.sides) p
 
 -- after these notes, the first of them first
 abbrev pub replay : Past → List Note → Past
 replay p [] = p
-replay p (note ∷ notes) = replay (noted p note) notes
+replay p (note ∷ notes) = replay (past_after p note) notes
 
-pub replay_push : (p : Past) (notes : List Note) (note : Note) → replay p (notes ++ note ∷ []) ≡ noted (replay p notes) note
+pub replay_push : (p : Past) (notes : List Note) (note : Note) → replay p (notes ++ note ∷ []) ≡ past_after (replay p notes) note
 replay_push p [] note = refl
-replay_push p (first ∷ notes) note = replay_push (noted p first) notes note
+replay_push p (first ∷ notes) note = replay_push (past_after p first) notes note
 
 -- what the notes tell is what the sides and the told bytes are now
 pub record IsNoted (first_zero first_one : List ℕ) (notes : List Note) (zero one : Bytes) (text : List ℕ) : Type 0 where
-  pub sides : (replay (start first_zero first_one) notes).sides ≡ record { zero = zero; one = one }
-  pub told : (replay (start first_zero first_one) notes).told ≡ text
+  pub sides : (replay (past_at_start first_zero first_one) notes).sides ≡ record { zero = zero; one = one }
+  pub told : (replay (past_at_start first_zero first_one) notes).told ≡ text

@@ -10,21 +10,21 @@ abbrev pub asked_at : Seen → Asked
 asked_at s = record { taken = s.taken; told = length s.told }
 
 -- after a call of `take` that moved nothing: the call is noted
-abbrev pub asked : Seen → Seen
-asked s = record s { asks = s.asks ++ asked_at s ∷ [] }
+abbrev pub after_asking : Seen → Seen
+after_asking s = record s { asks = s.asks ++ asked_at s ∷ [] }
 
 -- after a call of `take` that moved n bytes
 abbrev pub after_take : ℕ → Seen → Seen
 after_take n s = record s { left = drop n s.left; taken = s.taken + n; asks = s.asks ++ asked_at s ∷ [] }
 
 -- a moment for each byte told, where these were told before
-abbrev pub telling : Disks → List ℕ → List ℕ → List Moment
-telling disks told [] = []
-telling disks told (b ∷ bytes) = record { disks = disks; told = told ++ b ∷ [] } ∷ telling disks (told ++ b ∷ []) bytes
+abbrev pub moments_telling : Disks → List ℕ → List ℕ → List Moment
+moments_telling disks told [] = []
+moments_telling disks told (b ∷ bytes) = record { disks = disks; told = told ++ b ∷ [] } ∷ moments_telling disks (told ++ b ∷ []) bytes
 
 -- after these bytes were told
 abbrev pub after_tell : List ℕ → Seen → Seen
-after_tell bytes s = record s { told = s.told ++ bytes; moments = s.moments ++ telling s.disks s.told bytes }
+after_tell bytes s = record s { told = s.told ++ bytes; moments = s.moments ++ moments_telling s.disks s.told bytes }
 
 -- after the disk came to this
 abbrev pub with_disks : Disks → Seen → Seen
@@ -42,7 +42,7 @@ pub record Takes (n : ℕ) (buf : List ℕ) (old new : Seen) : Type 0 where
 
 -- `take` failed: the call is noted, or there was no memory for the note
 abbrev pub TakesNothing : Seen → Seen → Type 0
-TakesNothing old new = (new ≡ asked old) ⊎ (new ≡ old)
+TakesNothing old new = (new ≡ after_asking old) ⊎ (new ≡ old)
 
 -- `tell` appended the first n of these bytes
 abbrev pub Tells : ℕ → List ℕ → Seen → Seen → Type 0

@@ -1,7 +1,7 @@
 //! The bytes of one call.
 
 ghost use Rattle.std.specs.Prelude.{◌≡◌, ◌⊎◌, ◌+◌, ◌<◌, ◌≤◌, length, take, drop, slice_index, IfOk};
-ghost use Rattle.wot_site.specs.Disk.{written};
+ghost use Rattle.wot_site.specs.Disk.{bytes_after_write};
 ghost use Rattle.wot_site.specs.Passed.{passed};
 
 use std::alloc::Global;
@@ -49,7 +49,7 @@ pub fn read_at(bytes: &[u8], at: u64, buf: &mut [u8]) -> usize
 /// A list with bytes written over it from a place on, and past its end.
 pub fn written_over(alloc: Global, old: &[u8], at: usize, bytes: &[u8]) -> Result<Vec<u8>, Mem>
     requires { at ≤ length old.now }
-    ensures { IfOk result (λ v. v.items ≡ written old.now at bytes.now) }
+    ensures { IfOk result (λ v. v.items ≡ bytes_after_write old.now at bytes.now) }
 {
     let mut next = old[..at].to_vec(alloc)?;
     next.extend_from_slice(bytes)?;

@@ -181,8 +181,8 @@ impl Site for MemorySite {
     ghost use Rattle.std.specs.Prelude.{◌^◌, ◌-◌};
     ghost use Rattle.wot_site.specs.Disk.{disk_of};
     ghost use Rattle.wot_site.specs.Passed.{passed};
-    ghost use Rattle.wot_site.specs.Site.{asked, Takes, TakesNothing, Tells, Stays, Sizes, Reads, Writes, WritesOrNot, Syncs, HasCause, Rose, take_faults, tell_faults, disk_faults};
-    ghost use Rattle.wot_site.specs.MemorySite.{seen_of, faults_of, starved_of, cut_of, IsPlanned, IsDue, counted, OneCall};
+    ghost use Rattle.wot_site.specs.Site.{after_asking, Takes, TakesNothing, Tells, Stays, Sizes, Reads, Writes, WritesOrNot, Syncs, HasCause, Rose, take_faults, tell_faults, disk_faults};
+    ghost use Rattle.wot_site.specs.MemorySite.{seen_of, faults_of, starved_of, cut_of, IsPlanned, IsDue, with_fault, OneCall};
     ghost use Rattle.wot_site.specs.Calls.{one_more};
     ghost use Rattle.wot_site.specs.declared.memory.plan.CallKind.TheVariants.{Take, Tell, Size, Read, Write, Sync};
 
@@ -197,11 +197,11 @@ impl Site for MemorySite {
         ensures err { OnErr result (TakesNothing (seen_of self.old) (seen_of self.new)) }
         ensures cause { HasCause take_faults (faults_of self.old) (faults_of self.new) result }
         ensures moved { IfOk result (λ n. n ≡ passed (cut_of self.old) (min (length buf.old) (length (seen_of self.old).left))) }
-        ensures noted { OnErr result ((seen_of self.new ≡ asked (seen_of self.old)) ⊎ Rose (starved_of self.old) (starved_of self.new)) }
+        ensures noted { OnErr result ((seen_of self.new ≡ after_asking (seen_of self.old)) ⊎ Rose (starved_of self.old) (starved_of self.new)) }
         ensures planned { IsPlanned Take self.old → IsErr result }
         ensures starves { starved_of self.old < starved_of self.new → IsErr result × (seen_of self.new ≡ seen_of self.old) }
         ensures failed { IsErr result → IsPlanned Take self.old ⊎ Rose (starved_of self.old) (starved_of self.new) }
-        ensures faults_rise { OnErr result (faults_of self.new ≡ counted Take (faults_of self.old)) }
+        ensures faults_rise { OnErr result (faults_of self.new ≡ with_fault Take (faults_of self.old)) }
         ensures starved { (starved_of self.new ≡ starved_of self.old) ⊎ (starved_of self.new ≡ one_more (starved_of self.old)) }
         ensures called { OneCall Take self.old self.new }
     {
@@ -239,7 +239,7 @@ impl Site for MemorySite {
         ensures starves { starved_of self.old < starved_of self.new → IsErr result }
         ensures fed { IsPlanned Tell self.old → starved_of self.new ≡ starved_of self.old }
         ensures failed { IsErr result → IsPlanned Tell self.old ⊎ Rose (starved_of self.old) (starved_of self.new) }
-        ensures faults_rise { OnErr result (faults_of self.new ≡ counted Tell (faults_of self.old)) }
+        ensures faults_rise { OnErr result (faults_of self.new ≡ with_fault Tell (faults_of self.old)) }
         ensures starved { (starved_of self.new ≡ starved_of self.old) ⊎ (starved_of self.new ≡ one_more (starved_of self.old)) }
         ensures called { OneCall Tell self.old self.new }
     {
@@ -264,7 +264,7 @@ impl Site for MemorySite {
         ensures cause { HasCause disk_faults (faults_of self.old) (faults_of self.new) result }
         ensures planned { IsDue Size self.old → IsErr result }
         ensures failed { IsErr result → IsDue Size self.old }
-        ensures faults_rise { OnErr result (faults_of self.new ≡ counted Size (faults_of self.old)) }
+        ensures faults_rise { OnErr result (faults_of self.new ≡ with_fault Size (faults_of self.old)) }
         ensures starved { starved_of self.new ≡ starved_of self.old }
         ensures called { OneCall Size self.old self.new }
     {
@@ -287,7 +287,7 @@ impl Site for MemorySite {
         ensures cause { HasCause disk_faults (faults_of self.old) (faults_of self.new) result }
         ensures planned { IsDue Read self.old → IsErr result }
         ensures failed { IsErr result → IsDue Read self.old }
-        ensures faults_rise { OnErr result (faults_of self.new ≡ counted Read (faults_of self.old)) }
+        ensures faults_rise { OnErr result (faults_of self.new ≡ with_fault Read (faults_of self.old)) }
         ensures starved { starved_of self.new ≡ starved_of self.old }
         ensures called { OneCall Read self.old self.new }
     {
@@ -314,7 +314,7 @@ impl Site for MemorySite {
         ensures planned { IsDue Write self.old → IsErr result }
         ensures starves { starved_of self.old < starved_of self.new → IsErr result × (seen_of self.new ≡ seen_of self.old) }
         ensures failed { IsErr result → IsDue Write self.old ⊎ Rose (starved_of self.old) (starved_of self.new) }
-        ensures faults_rise { OnErr result (faults_of self.new ≡ counted Write (faults_of self.old)) }
+        ensures faults_rise { OnErr result (faults_of self.new ≡ with_fault Write (faults_of self.old)) }
         ensures starved { (starved_of self.new ≡ starved_of self.old) ⊎ (starved_of self.new ≡ one_more (starved_of self.old)) }
         ensures called { OneCall Write self.old self.new }
     {
@@ -341,7 +341,7 @@ impl Site for MemorySite {
         ensures starves { starved_of self.old < starved_of self.new → IsErr result }
         ensures fed { IsDue Sync self.old → starved_of self.new ≡ starved_of self.old }
         ensures failed { IsErr result → IsDue Sync self.old ⊎ Rose (starved_of self.old) (starved_of self.new) }
-        ensures faults_rise { OnErr result (faults_of self.new ≡ counted Sync (faults_of self.old)) }
+        ensures faults_rise { OnErr result (faults_of self.new ≡ with_fault Sync (faults_of self.old)) }
         ensures starved { (starved_of self.new ≡ starved_of self.old) ⊎ (starved_of self.new ≡ one_more (starved_of self.old)) }
         ensures called { OneCall Sync self.old self.new }
     {

@@ -4,10 +4,10 @@ use Rattle.std.proofs.lemmas.List.{take-append-drop, drop-drop, length-drop, dro
 use Rattle.std.proofs.lemmas.Bool.Decides.{nat_tests}
 use Rattle.wot_types.specs.declared.edit.Edit.{Edit}
 use Rattle.wot_types.specs.State.{State}
-use Rattle.wot_types.specs.Outcome.{refusal_of, edited, edited_store}
+use Rattle.wot_types.specs.Outcome.{refusal_of, state_after, edited_store}
 use Rattle.wot_types.specs.Payload.{payload}
 use Rattle.wot_types.specs.State.{opening_state}
-use Rattle.wot_site.specs.Disk.{Disk, Disks, Image, settled}
+use Rattle.wot_site.specs.Disk.{Disk, Disks, Image, settled_disk}
 use Rattle.wot_site.specs.Seen.{Seen}
 use Rattle.wot_site.specs.Work.{Works}
 use Rattle.wot_site.specs.declared.site.Side.{Side}
@@ -128,16 +128,16 @@ module _ (bytes : List ℕ) (shown : Store) (shows : ShowsBase Zero bytes shown)
             ∙ ap (λ (k : ℕ). get_or (with_record bytes shown.end spelling) k 0) none ∙ e
 
   module _ (edit : Edit) (spelled : HasPayload edit) (allowed : refusal_of shown.state edit ≡ None) (room : shown.end + length (payload edit) + 6 ≤ most) where
-    accepted : after_edit shown.state edit ≡ Some (edited shown.state edit)
+    accepted : after_edit shown.state edit ≡ Some (state_after shown.state edit)
     accepted = rw allowed refl
 
     end_is : shown.end + length (payload edit) + 5 ≡ shown.end + 5 + length (payload edit)
     end_is = omega arith
 
-    longer_journal : Ends (with_record bytes shown.end (payload edit)) 24 opening_state (edited shown.state edit) (shown.end + length (payload edit) + 5)
+    longer_journal : Ends (with_record bytes shown.end (payload edit)) 24 opening_state (state_after shown.state edit) (shown.end + length (payload edit) + 5)
     longer_journal = record {
       edits = shows.journal.edits ++ edit ∷ [];
-      reaches = reaches_more (with_record bytes shown.end (payload edit)) 24 opening_state shows.journal.edits shown.end shown.state edit (shown.end + length (payload edit) + 5) (edited shown.state edit)
+      reaches = reaches_more (with_record bytes shown.end (payload edit)) 24 opening_state shows.journal.edits shown.end shown.state edit (shown.end + length (payload edit) + 5) (state_after shown.state edit)
           (still_reaches (with_record bytes shown.end (payload edit)) (front_record (payload edit) room) (omega (arith, within_record (payload edit) room))) (has_record (payload edit) room) spelled accepted;
       gate = closed_record (payload edit) room;
     }
@@ -150,7 +150,7 @@ module _ (bytes : List ℕ) (shown : Store) (shows : ShowsBase Zero bytes shown)
           opened = still_opened (with_record bytes shown.end (payload edit)) front within;
           sound = still_sound (with_record bytes shown.end (payload edit)) front within;
           epoch = still_epoch (with_record bytes shown.end (payload edit)) front within;
-          journal = subst (λ (n : ℕ). Ends (with_record bytes shown.end (payload edit)) 24 opening_state (edited shown.state edit) n) end_is longer_journal;
+          journal = subst (λ (n : ℕ). Ends (with_record bytes shown.end (payload edit)) 24 opening_state (state_after shown.state edit) n) end_is longer_journal;
         }
 
 -- appending, from what commits
@@ -173,11 +173,11 @@ module _ (built : Framed) (shown : Store) (edit : Edit) (is_record : IsRecordOf 
 
   pub append_done : Commits Zero built x y → Appends (edited_store shown edit) x y
   append_done commits =
-      let zero : y.disks.zero ≡ settled (with_record x.disks.zero.reads built.end built.payload) = ap (λ (d : Disks). d.zero) commits in
+      let zero : y.disks.zero ≡ settled_disk (with_record x.disks.zero.reads built.end built.payload) = ap (λ (d : Disks). d.zero) commits in
       let one : y.disks.one ≡ x.disks.one = ap (λ (d : Disks). d.one) commits in
-      let old : x.disks.one ≡ settled x.disks.one.reads = ap (λ (d : Disks). d.one) stored.settled in
-      let zero_settled : y.disks.zero ≡ settled y.disks.zero.reads = zero ∙ ap (λ (d : Disk). settled d.reads) (sym zero) in
-      let one_settled : y.disks.one ≡ settled y.disks.one.reads = one ∙ old ∙ ap (λ (d : Disk). settled d.reads) (sym one) in
+      let old : x.disks.one ≡ settled_disk x.disks.one.reads = ap (λ (d : Disks). d.one) stored.settled in
+      let zero_settled : y.disks.zero ≡ settled_disk y.disks.zero.reads = zero ∙ ap (λ (d : Disk). settled_disk d.reads) (sym zero) in
+      let one_settled : y.disks.one ≡ settled_disk y.disks.one.reads = one ∙ old ∙ ap (λ (d : Disk). settled_disk d.reads) (sym one) in
       record {
         shows = subst (λ (d : Disk). ShowsBase Zero d.reads (edited_store shown edit)) (sym zero) recorded_shows;
         settled = λ i. record { zero = zero_settled i; one = one_settled i };

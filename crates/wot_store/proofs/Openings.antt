@@ -3,7 +3,7 @@ use Rattle.std.proofs.Common.{◌≡◌, ◌⊎◌, inl, inr, ⊎_elim, ℕ, ◌
 use Rattle.std.proofs.lemmas.List.{get_or-take}
 use Rattle.std.proofs.lemmas.Bool.Decides.{nat_tests}
 use Rattle.wot_types.specs.State.{opening_state}
-use Rattle.wot_site.specs.Disk.{Disk, Disks, Image, IsImage, IsImageOf, Leaves, disk_of, with_disk, settled, after_sync, reads_of}
+use Rattle.wot_site.specs.Disk.{Disk, Disks, Image, IsImage, IsImageOf, Leaves, disk_of, with_disk, settled_disk, after_sync, reads_of}
 use Rattle.wot_site.specs.Seen.{Honestly, IfHonest, Seen}
 use Rattle.wot_site.specs.Site.{Syncs, Stays}
 use Rattle.wot_site.specs.declared.site.Side.{Side}
@@ -95,10 +95,10 @@ module _ (is_closed : Bool) (x y : Seen) (ready : IsReady is_closed x.disks) whe
   pub create_opens : Becomes Zero (base_bytes 1) x y → Opens fresh x y
   create_opens becomes =
       let r = x.disks.zero.reads in
-      let zero : y.disks.zero ≡ settled (base_bytes 1 r) = ap (λ (d : Disks). d.zero) becomes in
+      let zero : y.disks.zero ≡ settled_disk (base_bytes 1 r) = ap (λ (d : Disks). d.zero) becomes in
       let one : y.disks.one ≡ x.disks.one = ap (λ (d : Disks). d.one) becomes in
-      let zero_settled : y.disks.zero ≡ settled y.disks.zero.reads = zero ∙ ap (λ (d : Disk). settled d.reads) (sym zero) in
-      let one_settled : y.disks.one ≡ settled y.disks.one.reads = one ∙ ready.one ∙ ap (λ (d : Disk). settled d.reads) (sym one) in
+      let zero_settled : y.disks.zero ≡ settled_disk y.disks.zero.reads = zero ∙ ap (λ (d : Disk). settled_disk d.reads) (sym zero) in
+      let one_settled : y.disks.one ≡ settled_disk y.disks.one.reads = one ∙ ready.one ∙ ap (λ (d : Disk). settled_disk d.reads) (sym one) in
       record {
         before = blank_shows (reads_of x.disks) ready.blank;
         stored = record { shows = subst (λ (d : Disk). ShowsBase Zero d.reads fresh) (sym zero) (base_shows r); settled = λ i. record { zero = zero_settled i; one = one_settled i } };
@@ -122,8 +122,8 @@ opening_then x y z works disks keeps = inr (y, works, disks, keeps)
 
 pub ready_then : (is_closed : Bool) (n : ℕ) (x y : Seen) → Settles n x y → IsBlank y.disks.zero.reads → (is_closed ≡ true → 24 ≤ n) → (is_closed ≡ false → n < 24) → IsReady is_closed y.disks
 ready_then is_closed n x y settles blank high low =
-    let zero : y.disks.zero ≡ settled y.disks.zero.reads = ap (λ (d : Disks). d.zero) settles.disks ∙ ap (λ (d : Disks). settled d.zero.reads) (sym settles.disks) in
-    let one : y.disks.one ≡ settled y.disks.one.reads = ap (λ (d : Disks). d.one) settles.disks ∙ ap (λ (d : Disks). settled d.one.reads) (sym settles.disks) in
+    let zero : y.disks.zero ≡ settled_disk y.disks.zero.reads = ap (λ (d : Disks). d.zero) settles.disks ∙ ap (λ (d : Disks). settled_disk d.zero.reads) (sym settles.disks) in
+    let one : y.disks.one ≡ settled_disk y.disks.one.reads = ap (λ (d : Disks). d.one) settles.disks ∙ ap (λ (d : Disks). settled_disk d.one.reads) (sym settles.disks) in
     let long : length y.disks.zero.reads ≡ n = ap (λ (d : Disks). length d.zero.reads) settles.disks ∙ sym settles.size in
     record {
       known = record {

@@ -1,6 +1,6 @@
 -- Where one side alone is other than it was.
 use Rattle.std.proofs.Common.{◌≡◌, List, ℕ, sym, ◌∙◌, ap, subst}
-use Rattle.wot_site.specs.Disk.{Disk, Disks, IsImage, disk_of, with_disk, settled}
+use Rattle.wot_site.specs.Disk.{Disk, Disks, IsImage, disk_of, with_disk, settled_disk}
 use Rattle.wot_site.specs.declared.site.Side.{Side}
 use Rattle.wot_site.proofs.Sides.{disk_with, with_same, with_with}
 use Rattle.wot_site.proofs.Images.{settled_image}
@@ -16,8 +16,8 @@ pub side_here : (side : Side) (P : List ℕ → Type 0) (old : Disks) → ((c : 
 side_here side P old images = record { other = sym (with_same side old); images = images }
 
 -- a side with these bytes and nothing pending
-pub side_settled : (side : Side) (P : List ℕ → Type 0) (old : Disks) (bytes : List ℕ) → P bytes → OnSide side P old (with_disk side (settled bytes) old)
-side_settled side P old bytes here = side_at side P old (settled bytes) (λ c image. subst P (sym (settled_image bytes c image)) here)
+pub side_settled : (side : Side) (P : List ℕ → Type 0) (old : Disks) (bytes : List ℕ) → P bytes → OnSide side P old (with_disk side (settled_disk bytes) old)
+side_settled side P old bytes here = side_at side P old (settled_disk bytes) (λ c image. subst P (sym (settled_image bytes c image)) here)
 
 pub side_weaker : (side : Side) (P Q : List ℕ → Type 0) (old new : Disks) → ((c : List ℕ) → P c → Q c) → OnSide side P old new → OnSide side Q old new
 side_weaker side P Q old new weaker on = record { other = on.other; images = λ c image. weaker c (on.images c image) }

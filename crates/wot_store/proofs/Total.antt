@@ -8,7 +8,7 @@ use Rattle.std.proofs.lemmas.List.Elements.{All-drop, All-get_or, All-take}
 use Rattle.wot_types.specs.declared.edit.Edit.{Edit}
 use Rattle.wot_types.specs.declared.refusal.Refusal.{Refusal}
 use Rattle.wot_types.specs.State.{State, opening_state}
-use Rattle.wot_types.specs.Outcome.{refusal_of, edited}
+use Rattle.wot_types.specs.Outcome.{refusal_of, state_after}
 use Rattle.wot_types.specs.Payload.{IsPayload}
 use Rattle.wot_types.specs.Store.{Store}
 use Rattle.wot_spelling.specs.Edits.{edit_of}
@@ -85,7 +85,7 @@ bad_or_made : (s : State) (spelling : List ℕ) (number : ℕ) → AreBytes spel
 bad_or_made s spelling number each = spelled (edit_of spelling) refl
   where
     tried : (edit : Edit) → IsPayload spelling edit → (refused : Option Refusal) → refusal_of s edit ≡ refused → BadOrMade s spelling number
-    tried edit spells None is = inr (edited s edit, record { edit = edit; spells = spells; accepted = ap (λ (r : Option Refusal). if is_none r then Some (edited s edit) else None) is })
+    tried edit spells None is = inr (state_after s edit, record { edit = edit; spells = spells; accepted = ap (λ (r : Option Refusal). if is_none r then Some (state_after s edit) else None) is })
     tried edit spells (Some refusal) is = inl (BadEdit number, (refl, edit, spells, rw is refl))
 
     spelled : (read : Option Edit) → edit_of spelling ≡ read → BadOrMade s spelling number

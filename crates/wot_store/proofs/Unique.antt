@@ -10,7 +10,7 @@ use Rattle.wot_types.specs.declared.edit.Edit.{Edit}
 use Rattle.wot_types.specs.declared.refusal.Refusal.{Refusal}
 use Rattle.wot_types.specs.State.{State}
 use Rattle.wot_types.specs.State.{opening_state}
-use Rattle.wot_types.specs.Outcome.{refusal_of, edited}
+use Rattle.wot_types.specs.Outcome.{refusal_of, state_after}
 use Rattle.wot_types.specs.Payload.{IsPayload, payload}
 use Rattle.wot_spelling.proofs.Payloads.{one_payload}
 use Rattle.wot_site.specs.Disk.{Image}
@@ -164,7 +164,7 @@ module _ (side : Side) (bytes : List ℕ) (at far number : ℕ) (t : State) (ahe
       spells : IsPayload spelling ahead.edit
       spells = subst (λ (l : List ℕ). IsPayload l ahead.edit) (sym same) ahead.spelled
 
-      refused : (edit : Edit) (r : Option Refusal) → IsSome r → (if is_none r then Some (edited t edit) else None) ≡ Some ahead.next → ⊥
+      refused : (edit : Edit) (r : Option Refusal) → IsSome r → (if is_none r then Some (state_after t edit) else None) ≡ Some ahead.next → ⊥
       refused edit None is e = cc is
       refused edit (Some r) is e = cc e
 

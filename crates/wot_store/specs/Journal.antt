@@ -2,7 +2,7 @@
 use Rattle.std.specs.Prelude.{ℕ, ◌≡◌, ◌+◌, ◌<◌, List, [], ◌∷◌, ◌++◌, length, drop, flat_map, All, if◌then◌else◌, is_none, Option, Some, None, IsSome, option_and_then}
 use Rattle.wot_types.specs.declared.edit.Edit.{Edit}
 use Rattle.wot_types.specs.State.{State}
-use Rattle.wot_types.specs.Outcome.{refusal_of, edited}
+use Rattle.wot_types.specs.Outcome.{refusal_of, state_after}
 use Rattle.wot_types.specs.Payload.{IsPayload, payload}
 use Rattle.wot_site.specs.Disk.{disk_of}
 use Rattle.wot_site.specs.Seen.{Seen}
@@ -22,7 +22,7 @@ records edits = flat_map (λ edit. record_of (payload edit)) edits
 
 -- the state after an edit, where it is accepted
 abbrev pub after_edit : State → Edit → Option State
-after_edit s edit = if is_none (refusal_of s edit) then Some (edited s edit) else None
+after_edit s edit = if is_none (refusal_of s edit) then Some (state_after s edit) else None
 
 -- the state after these edits, where each is accepted in the state reached
 abbrev pub after_edits : State → List Edit → Option State

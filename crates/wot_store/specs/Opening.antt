@@ -1,6 +1,6 @@
 -- What opening a store does.
 use Rattle.std.specs.Prelude.{ℕ, Bool, ◌≡◌, ◌≢◌, ◌⊎◌, ◌<◌, List, length, slice_index, Some, None}
-use Rattle.wot_site.specs.Disk.{Disks, IsImageOf, Leaves, settled, disk_of, reads_of}
+use Rattle.wot_site.specs.Disk.{Disks, IsImageOf, Leaves, settled_disk, disk_of, reads_of}
 use Rattle.wot_site.specs.Seen.{Seen}
 use Rattle.wot_site.specs.Work.{Works}
 use Rattle.wot_site.specs.declared.site.Side.{Side}
@@ -66,7 +66,7 @@ pub record Inspects (side : Side) (look : Look) (old new : Seen) : Type 0 where
 -- nothing is pending, side Zero is blank, and it is known whether its gate must be closed
 pub record IsReady (is_closed : Bool) (d : Disks) : Type 0 where
   pub known : IsKnown is_closed d.zero
-  pub one : d.one ≡ settled d.one.reads
+  pub one : d.one ≡ settled_disk d.one.reads
   pub blank : IsBlank d.zero.reads
 
 -- what the store shows that was opened

@@ -6,7 +6,7 @@ ghost use Rattle.wot_site.specs.Seen.{Honestly, IfHonest};
 ghost use Rattle.wot_site.specs.Site.{HasCause, disk_faults};
 ghost use Rattle.wot_journal.specs.Commit.{IsEnd};
 ghost use Rattle.wot_store.specs.Base.{header_tail};
-ghost use Rattle.wot_store.specs.Writing.{Becomes, IsKnown, ClosingGate, Filling, OpeningGate, Writing, closed_bytes, filled, opened, base_bytes};
+ghost use Rattle.wot_store.specs.Writing.{Becomes, IsKnown, ClosingGate, Filling, OpeningGate, Writing, closed_bytes, with_epoch, with_open_gate, base_bytes};
 
 use wot_journal::{OPEN, put};
 use wot_site::{DiskFault, Failed, Side, Site};
@@ -41,7 +41,7 @@ fn close_side<S: Site>(site: &mut S, side: Side, is_closed: bool) -> Result<(), 
 // Writes the header and the first gate of a side whose gate is closed.
 fn fill_side<S: Site>(site: &mut S, side: Side, epoch: u64) -> Result<(), DiskFault>
     requires closed { IfHonest (S.seen site.old) (λ s. IsEnd 0 (disk_of side s.disks)) }
-    ensures filled { OnOk result (Honestly (S.seen site.old) (S.seen site.new) (Becomes side (filled epoch))) }
+    ensures filled { OnOk result (Honestly (S.seen site.old) (S.seen site.new) (Becomes side (with_epoch epoch))) }
     ensures any_moment { Honestly (S.seen site.old) (S.seen site.new) (Filling side) }
     ensures cause { HasCause disk_faults (S.faults site.old) (S.faults site.new) result }
 {
@@ -62,7 +62,7 @@ fn fill_side<S: Site>(site: &mut S, side: Side, epoch: u64) -> Result<(), DiskFa
 // Opens the gate of a side.
 fn open_side<S: Site>(site: &mut S, side: Side) -> Result<(), DiskFault>
     requires closed { IfHonest (S.seen site.old) (λ s. IsEnd 0 (disk_of side s.disks)) }
-    ensures opened { OnOk result (Honestly (S.seen site.old) (S.seen site.new) (Becomes side opened)) }
+    ensures opened { OnOk result (Honestly (S.seen site.old) (S.seen site.new) (Becomes side with_open_gate)) }
     ensures any_moment { Honestly (S.seen site.old) (S.seen site.new) (OpeningGate side) }
     ensures cause { HasCause disk_faults (S.faults site.old) (S.faults site.new) result }
 {

@@ -116,7 +116,7 @@ fn resume<S: Site>(alloc: Global, site: &mut S, size: u64) -> Result<(Engine, u6
         Ok(replayed) => replayed,
         Err(e) => return Err(e),
     };
-    match parts.counted() {
+    match parts.into_engine() {
         Ok(engine) => Ok((engine, end)),
         Err(Mem::Memory) => Err(StoreError::Memory),
     }

@@ -6,41 +6,41 @@ use Rattle.std.proofs.lemmas.List.Sorted.{IsPermutation-map, sum_by-IsPermutatio
 use Rattle.std.proofs.lemmas.List.Sums.{sum_by-cons}
 use Rattle.wot_types.specs.declared.placed.Placed.{Placed}
 use Rattle.wot_types.specs.Selection.{Spot}
-use Rattle.wot_types.specs.NextCheck.{sooner, soonest, user_expiries, soonest_after}
+use Rattle.wot_types.specs.NextCheck.{sooner_of, soonest, user_expiries, soonest_after}
 use Rattle.wot_types.specs.Soonest.{if_after}
 
-pub sooner_none : (a : ℕ) → sooner a 0 ≡ a
+pub sooner_none : (a : ℕ) → sooner_of a 0 ≡ a
 sooner_none a = grind (arith, nat_tests)
 
-pub sooner_assoc : (a b c : ℕ) → sooner (sooner a b) c ≡ sooner a (sooner b c)
+pub sooner_assoc : (a b c : ℕ) → sooner_of (sooner_of a b) c ≡ sooner_of a (sooner_of b c)
 sooner_assoc a b c = grind (arith, nat_tests)
 
 -- the first expiry, if it comes after the date, and the others
-pub soonest_after-cons : (date e : ℕ) (es : List ℕ) → soonest_after date (e ∷ es) ≡ sooner (if_after date e) (soonest_after date es)
+pub soonest_after-cons : (date e : ℕ) (es : List ℕ) → soonest_after date (e ∷ es) ≡ sooner_of (if_after date e) (soonest_after date es)
 soonest_after-cons date e es =
-    elim (nat_lt date e) as (λ b. soonest (cond b (e ∷ filter (λ x. nat_lt date x) es) (filter (λ x. nat_lt date x) es)) ≡ sooner (cond b e 0) (soonest_after date es)) [ true ↦ refl | false ↦ refl ]
+    elim (nat_lt date e) as (λ b. soonest (cond b (e ∷ filter (λ x. nat_lt date x) es) (filter (λ x. nat_lt date x) es)) ≡ sooner_of (cond b e 0) (soonest_after date es)) [ true ↦ refl | false ↦ refl ]
 
-pub soonest_after-append : (date : ℕ) (xs ys : List ℕ) → soonest_after date (xs ++ ys) ≡ sooner (soonest_after date xs) (soonest_after date ys)
+pub soonest_after-append : (date : ℕ) (xs ys : List ℕ) → soonest_after date (xs ++ ys) ≡ sooner_of (soonest_after date xs) (soonest_after date ys)
 soonest_after-append date [] ys = refl
 soonest_after-append date (x ∷ xs) ys =
-    soonest_after-cons date x (xs ++ ys) ∙ ap (sooner (if_after date x)) (soonest_after-append date xs ys)
-    ∙ sym (sooner_assoc (if_after date x) (soonest_after date xs) (soonest_after date ys)) ∙ ap (λ a. sooner a (soonest_after date ys)) (sym (soonest_after-cons date x xs))
+    soonest_after-cons date x (xs ++ ys) ∙ ap (sooner_of (if_after date x)) (soonest_after-append date xs ys)
+    ∙ sym (sooner_assoc (if_after date x) (soonest_after date xs) (soonest_after date ys)) ∙ ap (λ a. sooner_of a (soonest_after date ys)) (sym (soonest_after-cons date x xs))
 
 -- one thing more with some expiries on it
 pub more_expiries : {X : Type 0} (f : X → List ℕ) (date next part : ℕ) (x : X) (xs : List X) → part ≡ soonest_after date (f x)
-    → sooner (sooner next part) (soonest_after date (flat_map f xs)) ≡ sooner next (soonest_after date (flat_map f (x ∷ xs)))
+    → sooner_of (sooner_of next part) (soonest_after date (flat_map f xs)) ≡ sooner_of next (soonest_after date (flat_map f (x ∷ xs)))
 more_expiries f date next part x xs is =
     sooner_assoc next part (soonest_after date (flat_map f xs))
-    ∙ ap (λ n. sooner next (sooner n (soonest_after date (flat_map f xs)))) is
-    ∙ ap (sooner next) (sym (soonest_after-append date (f x) (flat_map f xs)))
+    ∙ ap (λ n. sooner_of next (sooner_of n (soonest_after date (flat_map f xs)))) is
+    ∙ ap (sooner_of next) (sym (soonest_after-append date (f x) (flat_map f xs)))
 
 -- one part more, of one expiry
 pub more_expiry : {X : Type 0} (f : X → ℕ) (date next part : ℕ) (x : X) (xs : List X) → part ≡ if_after date (f x)
-    → sooner (sooner next part) (soonest_after date (map f xs)) ≡ sooner next (soonest_after date (map f (x ∷ xs)))
+    → sooner_of (sooner_of next part) (soonest_after date (map f xs)) ≡ sooner_of next (soonest_after date (map f (x ∷ xs)))
 more_expiry f date next part x xs is =
     sooner_assoc next part (soonest_after date (map f xs))
-    ∙ ap (λ n. sooner next (sooner n (soonest_after date (map f xs)))) is
-    ∙ ap (sooner next) (sym (soonest_after-cons date (f x) (map f xs)))
+    ∙ ap (λ n. sooner_of next (sooner_of n (soonest_after date (map f xs)))) is
+    ∙ ap (sooner_of next) (sym (soonest_after-cons date (f x) (map f xs)))
 
 -- an expiry after one date and not after another
 abbrev hit : ℕ → ℕ → ℕ → ℕ
@@ -54,7 +54,7 @@ reached date limit (e ∷ es) =
     ∙ ap (nat_lt 0) (sym (sum_by-cons (hit date limit) e es))
   where
     step : (d l e s n : ℕ) → (nat_lt 0 s && nat_le s l) ≡ nat_lt 0 n
-        → (nat_lt 0 (sooner (if_after d e) s) && nat_le (sooner (if_after d e) s) l) ≡ nat_lt 0 (hit d l e + n)
+        → (nat_lt 0 (sooner_of (if_after d e) s) && nat_le (sooner_of (if_after d e) s) l) ≡ nat_lt 0 (hit d l e + n)
     step d l e s n h = grind (arith, nat_tests)
 
 same_reach : (s t : ℕ) → ((l : ℕ) → (nat_lt 0 s && nat_le s l) ≡ (nat_lt 0 t && nat_le t l)) → s ≡ t

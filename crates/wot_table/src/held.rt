@@ -10,7 +10,6 @@ ghost use Rattle.wot_types.specs.Limits.{most_certs, most_users};
 ghost use Rattle.wot_types.specs.NextCheck.{key_expiries, user_expiries, soonest_after};
 ghost use Rattle.wot_types.specs.Selection.{placed_from, spots_from};
 ghost use Rattle.wot_table.specs.Heads.{IsKeyHead, IsUserHead};
-
 ghost use Rattle.wot_table.specs.Weights.{weight_of};
 
 use crate::head::{KeyHead, UserHead};

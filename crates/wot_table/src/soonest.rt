@@ -1,7 +1,7 @@
 //! The soonest of some expiries after a date; 0 is none.
 
 ghost use Rattle.std.specs.Prelude.{◌≡◌, map};
-ghost use Rattle.wot_types.specs.NextCheck.{sooner, soonest_after};
+ghost use Rattle.wot_types.specs.NextCheck.{sooner_of, soonest_after};
 ghost use Rattle.wot_types.specs.Soonest.{if_after, none_at_0};
 
 use wot_types::Placed;
@@ -26,7 +26,7 @@ pub fn if_after(date: u32, expires: u32) -> u32
 
 /// The lesser of two dates, where 0 is none.
 pub fn sooner(a: u32, b: u32) -> u32
-    ensures { result ≡ sooner a b }
+    ensures { result ≡ sooner_of a b }
 {
     if a == 0 {
         b

@@ -17,7 +17,7 @@ use Rattle.wot_types.specs.Grammar.{command_of}
 use Rattle.wot_types.specs.Keyring.{has_fpr}
 use Rattle.wot_types.specs.Levels.{rows_of}
 use Rattle.wot_types.specs.Listing.{fault_at_end, kept_of, listed_keys, passed_of}
-use Rattle.wot_types.specs.Outcome.{Accepts, Outcome, block_outcome, edit_outcome, edit_reply, edited, entries_line, entries_outcome, has_long_line, head_outcome, import_line, is_past, keys_line, listing_outcome, ok_line, outcome, query_refusal, answer_to, refusal_of, refuse, unless_refused, unless_unanswered, words_outcome}
+use Rattle.wot_types.specs.Outcome.{Accepts, Outcome, block_outcome, edit_outcome, edit_reply, state_after, entries_line, entries_outcome, has_long_line, head_outcome, import_line, is_past, keys_line, listing_outcome, ok_line, outcome, query_refusal, answer_to, refusal_of, refuse, unless_refused, unless_unanswered, words_outcome}
 use Rattle.wot_types.specs.OwnertrustText.{listed_entries, ownertrust_fault}
 use Rattle.wot_types.specs.State.{State}
 use Rattle.wot_types.specs.Store.{Change, Store}
@@ -64,7 +64,7 @@ some_reply s (Flag fpr disabled) = some_ok
 some_reply s (Delete id) = some_ok
 some_reply s (Date date) = some_ok
 some_reply s (Options options) = some_ok
-some_reply s (Sample seed count) = omega (arith, length-append (tally_line (edited s (Sample seed count)) (rows_of (edited s (Sample seed count)))) (keys_line count), some_end (codes "ok keys " ++ decimal count))
+some_reply s (Sample seed count) = omega (arith, length-append (tally_line (state_after s (Sample seed count)) (rows_of (state_after s (Sample seed count)))) (keys_line count), some_end (codes "ok keys " ++ decimal count))
 
 legal_listing : (fault : Option ListingFault) (s : Store) (lines : List (List ℕ)) → IsLegal s (listing_outcome fault s lines)
 legal_listing (Some fault) s lines = tt

@@ -14,12 +14,12 @@ abbrev pub key_expiries : Key → List ℕ
 key_expiries key = key.expires ∷ flat_map user_expiries key.users
 
 -- the lesser of two dates, where 0 is none
-abbrev pub sooner : ℕ → ℕ → ℕ
-sooner a b = if a == 0 then b else if b == 0 then a else min a b
+abbrev pub sooner_of : ℕ → ℕ → ℕ
+sooner_of a b = if a == 0 then b else if b == 0 then a else min a b
 
 abbrev pub soonest : List ℕ → ℕ
 soonest [] = 0
-soonest (e ∷ es) = sooner e (soonest es)
+soonest (e ∷ es) = sooner_of e (soonest es)
 
 -- the soonest after a date; 0 where there is none
 abbrev pub soonest_after : ℕ → List ℕ → ℕ

@@ -63,15 +63,15 @@ abbrev pub sample_reply : State → ℕ → List ℕ
 sample_reply s count = tally_line s (rows_of s) ++ keys_line count
 
 -- the state after an edit
-abbrev pub edited : State → Edit → State
-edited s (Import keys) = record s { keys = with_keys s.keys keys }
-edited s (Ownertrust entries) = record s { trusts = with_entries s.trusts entries }
-edited s (Set fpr trust) = record s { trusts = with_trust s.trusts fpr trust }
-edited s (Flag fpr disabled) = record s { trusts = with_flag s.trusts fpr disabled }
-edited s (Delete id) = record s { keys = without_key s.keys id }
-edited s (Date date) = record s { date = date }
-edited s (Options options) = record s { options = options }
-edited s (Sample seed count) = record s { keys = with_keys s.keys (sample_keys seed count); trusts = with_entries s.trusts (sample_entries seed count) }
+abbrev pub state_after : State → Edit → State
+state_after s (Import keys) = record s { keys = with_keys s.keys keys }
+state_after s (Ownertrust entries) = record s { trusts = with_entries s.trusts entries }
+state_after s (Set fpr trust) = record s { trusts = with_trust s.trusts fpr trust }
+state_after s (Flag fpr disabled) = record s { trusts = with_flag s.trusts fpr disabled }
+state_after s (Delete id) = record s { keys = without_key s.keys id }
+state_after s (Date date) = record s { date = date }
+state_after s (Options options) = record s { options = options }
+state_after s (Sample seed count) = record s { keys = with_keys s.keys (sample_keys seed count); trusts = with_entries s.trusts (sample_entries seed count) }
 
 -- the first limit that the state after an edit passes: only more keys or more entries can pass one
 abbrev pub state_limit : State → Edit → Option Limit
@@ -107,18 +107,18 @@ is_past end edit = nat_lt (2 ^ 32 - 1) (end + length (payload edit) + 6)
 
 -- the store after an accepted edit: its record is behind the journal's end
 abbrev pub edited_store : Store → Edit → Store
-edited_store s edit = record { state = edited s.state edit; epoch = s.epoch; end = s.end + 5 + length (payload edit) }
+edited_store s edit = record { state = state_after s.state edit; epoch = s.epoch; end = s.end + 5 + length (payload edit) }
 
-abbrev pub changed : Change → Store → Store
-changed keeps s = s
-changed (makes edit) s = edited_store s edit
+abbrev pub store_after : Change → Store → Store
+store_after keeps s = s
+store_after (makes edit) s = edited_store s edit
 
 -- an edit that no other reason refuses: its record must fit
-abbrev pub fitting : List ℕ → Store → Edit → Outcome
-fitting text s edit = if is_past s.end edit then refuse JournalFull else record { text = text; refused = false; change = makes edit }
+abbrev pub if_it_fits : List ℕ → Store → Edit → Outcome
+if_it_fits text s edit = if is_past s.end edit then refuse JournalFull else record { text = text; refused = false; change = makes edit }
 
 abbrev pub unless_refused : Option Refusal → List ℕ → Store → Edit → Outcome
-unless_refused None text s edit = fitting text s edit
+unless_refused None text s edit = if_it_fits text s edit
 unless_refused (Some refusal) text s edit = refuse refusal
 
 -- an edit, and the reply where it is accepted
@@ -132,7 +132,7 @@ pub record Accepts (s : Store) (edit : Edit) : Type 0 where
 
 -- the reply to an edit that a command's words make
 abbrev pub edit_reply : State → Edit → List ℕ
-edit_reply s (Sample seed count) = sample_reply (edited s (Sample seed count)) count
+edit_reply s (Sample seed count) = sample_reply (state_after s (Sample seed count)) count
 edit_reply s _ = ok_line
 
 -- the key of a fingerprint is taken away

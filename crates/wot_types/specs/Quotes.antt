@@ -65,5 +65,5 @@ abbrev pub printed_byte : ℕ → List ℕ
 printed_byte b = if is_escaped b then backslash ∷ lower_x ∷ slice_index lower_digits (b / 16) ∷ slice_index lower_digits (b % 16) ∷ [] else b ∷ []
 
 -- a text as it is printed in a quoted field
-abbrev pub printed : List ℕ → List ℕ
-printed text = flat_map printed_byte text
+abbrev pub printed_text : List ℕ → List ℕ
+printed_text text = flat_map printed_byte text

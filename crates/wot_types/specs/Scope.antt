@@ -26,21 +26,21 @@ pieces (c ∷ d ∷ rest) =
     if is_plain c then before c (pieces (d ∷ rest)) else
     if (c == backslash) && not (is_alphanumeric d) then before d (pieces rest) else None
 
-abbrev pub middle : List ℕ → List ℕ
-middle scope = take (length scope - 12) (drop 10 scope)
+abbrev pub domain_part : List ℕ → List ℕ
+domain_part scope = take (length scope - 12) (drop 10 scope)
 
 abbrev pub has_domain_form : List ℕ → Bool
 has_domain_form scope = nat_le 13 (length scope) && pointwise nat_eq (take 10 scope) opening && pointwise nat_eq (drop (length scope - 2) scope) closing
 
 -- the domain of a scope, which has at least one piece
 abbrev pub domain_of : List ℕ → Option (List ℕ)
-domain_of scope = if has_domain_form scope then pieces (middle scope) else None
+domain_of scope = if has_domain_form scope then pieces (domain_part scope) else None
 
-abbrev pub lower : ℕ → ℕ
-lower b = if nat_le upper_a b && nat_le b upper_z then b + 32 else b
+abbrev pub lower_case : ℕ → ℕ
+lower_case b = if nat_le upper_a b && nat_le b upper_z then b + 32 else b
 
 abbrev pub is_same_up_to_case : List ℕ → List ℕ → Bool
-is_same_up_to_case xs ys = pointwise nat_eq (map lower xs) (map lower ys)
+is_same_up_to_case xs ys = pointwise nat_eq (map lower_case xs) (map lower_case ys)
 
 -- each way to cut a list in two
 abbrev pub cuts_after : List ℕ → List ℕ → List (List ℕ × List ℕ)

@@ -38,7 +38,7 @@ fn parts_counted_once(rt: HostRuntime) -> Result<(), Fail> {
     let alloc = rt.alloc();
     let parts = Parts::new(alloc)?;
     let parts = parts.put(keys(alloc)?, entries(alloc)?)?;
-    let engine = parts.set_date(1000).set_options(classic()).counted()?;
+    let engine = parts.set_date(1000).set_options(classic()).into_engine()?;
     assert_eq!(rt; engine.letter(OWNER, 0), Some(Letter::U));
     assert_eq!(rt; engine.date(), 1000);
     assert_eq!(rt; engine.options().pgp, false);

@@ -2,7 +2,7 @@
 
 ghost use Rattle.std.specs.Prelude.{◌≡◌, ◌≤◌, length, IfOk, OnOk, OnErr};
 ghost use Rattle.wot_site.specs.Disk.{IsImage};
-ghost use Rattle.wot_site.specs.MemorySide.{IsFilled, disk, at_rest, wrote, synced_now};
+ghost use Rattle.wot_site.specs.MemorySide.{IsFilled, disk, at_rest, after_writing, synced_now};
 
 use crate::bytes::{fill_range, written_over};
 use crate::site::Range;
@@ -53,7 +53,7 @@ impl MemorySide {
     /// Writes; want of memory leaves the side as it was.
     pub fn write(&mut self, alloc: Global, at: usize, bytes: &[u8]) -> Result<(), Mem>
         requires { at ≤ length self.old.reads }
-        ensures ok { OnOk result (self.new ≡ wrote at bytes.now self.old) }
+        ensures ok { OnOk result (self.new ≡ after_writing at bytes.now self.old) }
         ensures err { OnErr result (self.new ≡ self.old) }
     {
         let next = written_over(alloc, &self.reads, at, bytes)?;

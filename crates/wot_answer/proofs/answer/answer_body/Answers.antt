@@ -1,7 +1,7 @@
 use Rattle.std.proofs.Common.{refl, sym, subst, ◌∙◌}
 use Rattle.std.proofs.lemmas.Result.{IfOk-weaker}
 use Rattle.wot_types.specs.declared.edit.Head.TheVariants.{Import, Ownertrust}
-use Rattle.wot_types.specs.Commands.{block_texts, closed}
+use Rattle.wot_types.specs.Commands.{block_texts, closed_command}
 use Rattle.wot_types.specs.Grammar.{command_of}
 use Rattle.wot_answer.specs.Answer.{Ends}
 use Rattle.wot_answer.specs.Block.{HasHad}
@@ -28,7 +28,7 @@ pub returns-in-Refused-clause-ends : goal.returns-in-Refused-clause-ends
 returns-in-Refused-clause-ends c =
     IfOk-weaker c.refuse.result _ _
     (λ answered reply s command same at read.
-    subst (Ends answered s) (sym (refused_is s (closed command) read.words read.given read.opens c.in-Refused.refusal
+    subst (Ends answered s) (sym (refused_is s (closed_command command) read.words read.given read.opens c.in-Refused.refusal
     (subst (λ body. HasHad body (command_of read.words) command.block) c.in-Refused.is read.had))) (reply s same))
     c.refuse.ensures.reply
 
@@ -37,7 +37,7 @@ returns-in-Listing-clause-ends c =
     IfOk-weaker c.import_listing.result _ _
     (λ answered ends s command same at read.
     let had = subst (λ body. HasHad body (command_of read.words) command.block) c.in-Listing.is read.had in
-    subst (Ends answered s) (sym (read_is s (closed command) read.words read.given read.opens Import had.0 had.1 ∙ listing_is s (closed command) refl)) (ends s (block_texts command.block) same at had.2))
+    subst (Ends answered s) (sym (read_is s (closed_command command) read.words read.given read.opens Import had.0 had.1 ∙ listing_is s (closed_command command) refl)) (ends s (block_texts command.block) same at had.2))
     c.import_listing.ensures.ends
 
 pub returns-in-Ownertrust-clause-ends : goal.returns-in-Ownertrust-clause-ends
@@ -45,5 +45,5 @@ returns-in-Ownertrust-clause-ends c =
     IfOk-weaker c.set_entries.result _ _
     (λ answered ends s command same at read.
     let had = subst (λ body. HasHad body (command_of read.words) command.block) c.in-Ownertrust.is read.had in
-    subst (Ends answered s) (sym (read_is s (closed command) read.words read.given read.opens Ownertrust had.0 had.1 ∙ entries_are s (closed command) refl)) (ends s (block_texts command.block) same at had.2))
+    subst (Ends answered s) (sym (read_is s (closed_command command) read.words read.given read.opens Ownertrust had.0 had.1 ∙ entries_are s (closed_command command) refl)) (ends s (block_texts command.block) same at had.2))
     c.set_entries.ensures.ends

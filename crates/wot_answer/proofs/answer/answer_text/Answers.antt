@@ -1,5 +1,5 @@
 use Rattle.std.proofs.Common.{◌≡◌, Some, [], true, false, if◌then◌else◌, refl, sym, ap, subst, ◌∙◌}
-use Rattle.wot_types.specs.Commands.{begun, is_quit, line_words, opened}
+use Rattle.wot_types.specs.Commands.{begun_command, is_quit, line_words, opened_command}
 use Rattle.wot_types.specs.Commands.Cut.{between, over, within}
 use Rattle.wot_types.specs.Grammar.{command_of, has_block}
 use Rattle.wot_types.specs.Lines.{without_return}
@@ -14,14 +14,14 @@ returns-then-has_block c =
     let words = line_words (without_return c.args.line.now) in
     let is : c.in_ok-words.words ≡ words = c.in_ok-words.ensures ∙ ap line_words c.without_return.ensures in
     let opens : has_block words ≡ true = ap has_block (sym is) ∙ sym c.has_block.ensures ∙ c.if-has_block.true in
-    let block : IsBlockOf (record { to_end = false; body = c.in_ok-body.body }) (opened (Some c.args.line.now)) = record {
+    let block : IsBlockOf (record { to_end = false; body = c.in_ok-body.body }) (opened_command (Some c.args.line.now)) = record {
       read = record { words = words; given = refl; opens = opens; had = subst (λ w. HasHad c.in_ok-body.body (command_of w) []) is c.in_ok-body.ensures.begun };
       to_end = refl;
     } in
     record {
       answers = λ p same at here.
           answers_opened c.say_nothing.result p (Some c.args.line.now) c.args.engine same here opens c.say_nothing.ensures.reply
-          (subst (λ cut. IsCut cut (within (opened (Some c.args.line.now)))) (sym c.say_nothing.ensures.cut) block);
+          (subst (λ cut. IsCut cut (within (opened_command (Some c.args.line.now)))) (sym c.say_nothing.ensures.cut) block);
     }
 
 pub returns : goal.returns
@@ -33,6 +33,6 @@ returns c =
       answers = λ p same at here.
           answers_line _ p (Some c.args.line.now) here single
           (recut c.in_ok-engine.field-0 c.cut_after.result p.progress.store _
-          (subst (λ w. Ends c.in_ok-engine.field-0 p.progress.store (outcome p.progress.store (begun w))) is (c.in_ok-engine.ensures.ends p.progress.store same at)))
+          (subst (λ w. Ends c.in_ok-engine.field-0 p.progress.store (outcome p.progress.store (begun_command w))) is (c.in_ok-engine.ensures.ends p.progress.store same at)))
           (subst (λ w. IsCut c.cut_after.result (if is_quit (Some w) then over else between)) is c.cut_after.ensures);
     }

@@ -1,7 +1,7 @@
 use Rattle.std.proofs.Common.{◌≡◌, Ok, inl, [], length, refl, sym, ap, subst, ◌∙◌, arith}
 use Rattle.std.proofs.lemmas.Bool.Decides.{nat_tests}
 use Rattle.std.proofs.lemmas.Result.{IfOk-weaker}
-use Rattle.wot_types.specs.Commands.{begun}
+use Rattle.wot_types.specs.Commands.{begun_command}
 use Rattle.wot_types.specs.Outcome.{edit_outcome}
 use Rattle.wot_commands.specs.Heads.{IsProperHead}
 use Rattle.wot_answer.specs.Answer.{Ends}
@@ -53,7 +53,7 @@ returns-in_ok-new-in-Ok-Import-clause-ends c =
     let some : length c.args.words.now ≡ 0 → ⊥ = λ none. grind (arith, nat_tests) in
     let head = sym c.read_head.ensures.head ∙ c.in-Ok-Import.is ∙ ap Ok c.in-Ok-Import.field-0-is in
     IfOk-weaker c.import_listing.result _ _
-    (λ answered ends s same at. subst (Ends answered s) (sym (by_head s c.args.words.now _ some head ∙ listing_is s (begun c.args.words.now) refl)) (ends s [] (c.engine-in-Ok-Import.view_is ∙ same) at (inl c.in_ok-new-in-Ok-Import.ensures)))
+    (λ answered ends s same at. subst (Ends answered s) (sym (by_head s c.args.words.now _ some head ∙ listing_is s (begun_command c.args.words.now) refl)) (ends s [] (c.engine-in-Ok-Import.view_is ∙ same) at (inl c.in_ok-new-in-Ok-Import.ensures)))
     c.import_listing.ensures.ends
 
 pub returns-in-Ok-Ownertrust-clause-ends : goal.returns-in-Ok-Ownertrust-clause-ends
@@ -61,5 +61,5 @@ returns-in-Ok-Ownertrust-clause-ends c =
     let some : length c.args.words.now ≡ 0 → ⊥ = λ none. grind (arith, nat_tests) in
     let head = sym c.read_head.ensures.head ∙ c.in-Ok-Ownertrust.is ∙ ap Ok c.in-Ok-Ownertrust.field-0-is in
     IfOk-weaker c.set_entries.result _ _
-    (λ answered ends s same at. subst (Ends answered s) (sym (by_head s c.args.words.now _ some head ∙ entries_are s (begun c.args.words.now) refl)) (ends s [] same at c.new-in-Ok-Ownertrust.ensures))
+    (λ answered ends s same at. subst (Ends answered s) (sym (by_head s c.args.words.now _ some head ∙ entries_are s (begun_command c.args.words.now) refl)) (ends s [] same at c.new-in-Ok-Ownertrust.ensures))
     c.set_entries.ensures.ends

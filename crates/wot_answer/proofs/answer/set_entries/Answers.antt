@@ -16,7 +16,7 @@ returns-in_ok-reply-in-Ok-clause-ends c =
     IfOk-weaker c.make_edit.result _ _
     (λ answered ends s lines same at read.
     let are = c.in-Ok.ensures.entries lines read in
-    let none = no_fault (ownertrust_fault lines) c.finish.result entries c.in-Ok.is (λ line what. c.finish.ensures.fault lines read line what) in
+    let none = no_fault (ownertrust_fault lines) c.into_entries.result entries c.in-Ok.is (λ line what. c.into_entries.ensures.fault lines read line what) in
     let is : entries_outcome (ownertrust_fault lines) s lines ≡ edit_outcome (entries_line (length entries)) s (Ownertrust entries) =
     ap (λ f. entries_outcome f s lines) none ∙ ap (λ es. edit_outcome (entries_line (length es)) s (Ownertrust es)) (sym are) in
     subst (Ends answered s) (sym is) (subst (λ t. Ends answered s (edit_outcome t s (Ownertrust entries))) (c.in_ok-reply-in-Ok.ensures ∙ ap entries_line c.len.ensures) (ends s same at)))
@@ -26,5 +26,5 @@ pub returns-in-Err-Fault-clause-ends : goal.returns-in-Err-Fault-clause-ends
 returns-in-Err-Fault-clause-ends c =
     IfOk-weaker c.refuse.result _ _
     (λ answered reply s lines same at read.
-    subst (Ends answered s) (sym (ap (λ f. entries_outcome f s lines) ((c.finish.ensures.fault lines read c.in-Err-Fault.line c.in-Err-Fault.what).0 (c.in-Err-Fault.is ∙ ap Err c.in-Err-Fault.field-0-is)))) (reply s same))
+    subst (Ends answered s) (sym (ap (λ f. entries_outcome f s lines) ((c.into_entries.ensures.fault lines read c.in-Err-Fault.line c.in-Err-Fault.what).0 (c.in-Err-Fault.is ∙ ap Err c.in-Err-Fault.field-0-is)))) (reply s same))
     c.refuse.ensures.reply

@@ -1,6 +1,6 @@
 use Rattle.std.proofs.Common.{sym, ◌∙◌}
 use Rattle.std.proofs.lemmas.Result.{IfOk-weaker}
-use Rattle.wot_types.specs.Outcome.{edited}
+use Rattle.wot_types.specs.Outcome.{state_after}
 use Rattle.wot_answer.specs.EditReply.{reply_text}
 use Rattle.wot_answer.proofs.Making.{edit_refused}
 use Rattle.wot_answer.proofs.edit.make_edit.Goals as goal
@@ -8,5 +8,5 @@ use Rattle.wot_answer.proofs.edit.make_edit.Goals as goal
 pub returns-in-Some-clause-ends : goal.returns-in-Some-clause-ends
 returns-in-Some-clause-ends c =
     IfOk-weaker c.refuse.result _ _
-    (λ answered reply s same at. edit_refused (reply_text c.args.reply (edited s.state c.args.edit)) s c.args.edit c.args.engine c.args.end same at answered c.in-Some.refusal (sym c.refusal.ensures ∙ c.in-Some.is) reply)
+    (λ answered reply s same at. edit_refused (reply_text c.args.reply (state_after s.state c.args.edit)) s c.args.edit c.args.engine c.args.end same at answered c.in-Some.refusal (sym c.refusal.ensures ∙ c.in-Some.is) reply)
     c.refuse.ensures.reply

@@ -31,19 +31,19 @@ loop-n-preserved g c = record {
   quiet = c.in-Ok.ensures.cause.quiet ∙ c.loop-n.invariant.quiet;
 }
 
-pub finish-requires : goal.finish-requires
-finish-requires g c = (_, c.in-Ok.ensures.at _ (c.loop-n.invariant.running c.requires.somewhere.0 c.requires.somewhere.1).at)
+pub answer_rest-requires : goal.answer_rest-requires
+answer_rest-requires g c = (_, c.in-Ok.ensures.at _ (c.loop-n.invariant.running c.requires.somewhere.0 c.requires.somewhere.1).at)
 
-pub returns-in-Ok-finish-clause-ended : goal.returns-in-Ok-finish-clause-ended
-returns-in-Ok-finish-clause-ended g c s here =
+pub returns-in-Ok-answer_rest-clause-ended : goal.returns-in-Ok-answer_rest-clause-ended
+returns-in-Ok-answer_rest-clause-ended g c s here =
     let goes : IsOver c.turn.new.self → ⊥ = search rules in
     ending_ok (running_end (c.loop-n.invariant.running s here) _ c.turn.new.self (take c.in-Ok.n c.turn.new.buf) c.in-Ok.ensures.at c.in-Ok.ensures.turned
     goes c.in-Ok.ensures.line (ap (λ n. take n c.turn.new.buf) c.if-n-eq0.true))
-    _ c.finish.new.self c.is_refused-in-Ok-finish.result c.in-Ok-finish.ensures.at c.in-Ok-finish.ensures.told c.is_refused-in-Ok-finish.ensures
+    _ c.answer_rest.new.self c.is_refused-in-Ok-answer_rest.result c.in-Ok-answer_rest.ensures.at c.in-Ok-answer_rest.ensures.told c.is_refused-in-Ok-answer_rest.ensures
 
-pub returns-in-Err-finish-clause-stopped : goal.returns-in-Err-finish-clause-stopped
-returns-in-Err-finish-clause-stopped g c s here =
+pub returns-in-Err-answer_rest-clause-stopped : goal.returns-in-Err-answer_rest-clause-stopped
+returns-in-Err-answer_rest-clause-stopped g c s here =
     let goes : IsOver c.turn.new.self → ⊥ = search rules in
     ending_stop (running_end (c.loop-n.invariant.running s here) _ c.turn.new.self (take c.in-Ok.n c.turn.new.buf) c.in-Ok.ensures.at c.in-Ok.ensures.turned
     goes c.in-Ok.ensures.line (ap (λ n. take n c.turn.new.buf) c.if-n-eq0.true))
-    _ c.in-Err-finish.stop c.in-Err-finish.ensures.cause.kinds c.in-Err-finish.ensures.prefix
+    _ c.in-Err-answer_rest.stop c.in-Err-answer_rest.ensures.cause.kinds c.in-Err-answer_rest.ensures.prefix

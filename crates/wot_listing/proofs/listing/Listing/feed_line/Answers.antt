@@ -10,10 +10,10 @@ returns-in-Some-clause-read c = λ lines read.
 
 pub returns-in-Ok-clause-read : goal.returns-in-Ok-clause-read
 returns-in-Ok-clause-read c = λ lines read.
-    let after = open_view _ c.self.inside.stop c.feed.new.self refl c.in-None.is in
+    let after = open_view _ c.self.inside.stop c.add_line.new.self refl c.in-None.is in
     let before = open_view _ _ _ c.self.view_is c.in-None.is in
     subst (λ r. HasRead r (lines ++ c.args.line.now ∷ [])) (sym after)
-    (read_line c.args.self.now c.self.inside.progress c.feed.new.self lines c.args.line.now before c.in-Ok.ensures.0 c.in-Ok.ensures.1 read)
+    (read_line c.args.self.now c.self.inside.progress c.add_line.new.self lines c.args.line.now before c.in-Ok.ensures.0 c.in-Ok.ensures.1 read)
 
 pub returns-in-Err-clause-read : goal.returns-in-Err-clause-read
 returns-in-Err-clause-read c = λ lines read.

@@ -2,9 +2,8 @@ use Rattle.std.proofs.Common.{map, sym, ap, ◌∙◌}
 use Rattle.std.specs.FinMap as finmap
 use Rattle.std.specs.Cmp.{nat_cmp_total}
 use Rattle.std.specs.List.{flat_map}
-use Rattle.wot_types.specs.NextCheck.{key_expiries, sooner, soonest_after}
+use Rattle.wot_types.specs.NextCheck.{key_expiries, sooner_of, soonest_after}
 use Rattle.wot_types.proofs.Maps.{entries_are}
-
 use Rattle.wot_table.proofs.Expiries.{more_expiries}
 use Rattle.wot_table.proofs.table.Table.next_expiry.Goals as goal
 
@@ -17,7 +16,7 @@ loop-held-init c =
 pub loop-held-preserved : goal.loop-held-preserved
 loop-held-preserved c =
     let date = c.args.now in
-    ap (λ n. sooner n (soonest_after date (flat_map key_expiries (map (λ e. e.1) c.next.new.self)))) c.sooner-next.ensures
+    ap (λ n. sooner_of n (soonest_after date (flat_map key_expiries (map (λ e. e.1) c.next.new.self)))) c.sooner-next.ensures
     ∙ more_expiries key_expiries date c.loop-held.next c.soonest.result c.in-Some.held.now (map (λ e. e.1) c.next.new.self) c.soonest.ensures
-    ∙ ap (λ es. sooner c.loop-held.next (soonest_after date (flat_map key_expiries (map (λ e. e.1) es)))) (sym c.in-Some.ensures.steps)
+    ∙ ap (λ es. sooner_of c.loop-held.next (soonest_after date (flat_map key_expiries (map (λ e. e.1) es)))) (sym c.in-Some.ensures.steps)
     ∙ c.loop-held.invariant

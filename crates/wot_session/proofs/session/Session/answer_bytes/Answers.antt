@@ -1,7 +1,7 @@
 use Rattle.std.proofs.Common.{◌∙◌, refl, rules}
 use Rattle.wot_session.specs.Here.{IsOver}
 use Rattle.wot_session.proofs.Feeds.{fed_at, feeding_cut, feeding_more, feeding_start, feeding_stop, over_at, over_said}
-use Rattle.wot_session.proofs.session.Session.feed.Goals as goal
+use Rattle.wot_session.proofs.session.Session.answer_bytes.Goals as goal
 
 pub loop-line-init : goal.loop-line-init
 loop-line-init g c = record { feeding = feeding_start _ _ _; quiet = refl }

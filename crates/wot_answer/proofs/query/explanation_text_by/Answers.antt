@@ -5,7 +5,7 @@ use Rattle.wot_types.specs.State.{State}
 use Rattle.wot_types.specs.CutState.{cut}
 use Rattle.wot_types.specs.Explanation.{explanation}
 use Rattle.wot_types.specs.Letters.{letter_at}
-use Rattle.wot_answer.proofs.query.explained_by.Goals as goal
+use Rattle.wot_answer.proofs.query.explanation_text_by.Goals as goal
 
 pub returns : goal.returns
 returns g c =
