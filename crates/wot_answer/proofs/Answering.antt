@@ -1,7 +1,8 @@
 -- Where a session stands after a line was answered.
-use Rattle.std.proofs.Common.{◌≡◌, Bool, true, false, ◌||◌, [], ◌∷◌, if◌then◌else◌, Result, Ok, Err, refl, sym, ap, ◌∙◌, subst}
+use Rattle.std.proofs.Common.{◌≡◌, true, false, ◌||◌, [], ◌∷◌, if◌then◌else◌, Result, Ok, Err, refl, sym, ap, ◌∙◌, subst}
 use Rattle.std.specs.Prelude.{IfOk}
 use Rattle.std.proofs.lemmas.List.{append-nil}
+use Rattle.std.proofs.Math.Bool.{or-false}
 use Rattle.wot_types.specs.State.{State}
 use Rattle.wot_types.specs.Commands as lines
 use Rattle.wot_types.specs.Commands.{Command, ReadLine, closed_command, cut_by, ends, is_quit, made_by, of_line, opened_command, opens_block, with_line, words_in}
@@ -16,10 +17,6 @@ use Rattle.wot_answer.specs.declared.answer.Answered.{Answered}
 use Rattle.wot_answer.specs.declared.answer.Cut.{Cut}
 use Rattle.wot_answer.specs.declared.answer.Cut.TheVariants.{Between, Within, Over}
 use Rattle.wot_answer.specs.Answer.{Answers, Does, Ends, IsCut, IsReply}
-
-or_false : (b : Bool) → b ≡ (b || false)
-or_false true = refl
-or_false false = refl
 
 module _ (answered : Answered) (p : Position) (line : ReadLine) where
   -- a command is whole, and was answered
@@ -38,7 +35,7 @@ module _ (answered : Answered) (p : Position) (line : ReadLine) where
       let nothing = reply p.progress.store same in
       record {
         text = ap (replies p.progress) none ∙ nothing.text;
-        refused = ap (λ cs. (after_all p.progress cs).refused) none ∙ or_false p.progress.refused ∙ ap (λ b. p.progress.refused || b) nothing.refused;
+        refused = ap (λ cs. (after_all p.progress cs).refused) none ∙ sym (or-false p.progress.refused) ∙ ap (λ b. p.progress.refused || b) nothing.refused;
         state = ap (λ cs. (after_all p.progress cs).store.state) none ∙ nothing.state;
         cut = now;
         does = subst (λ cs. Does answered.answer.effect p.progress.store (after_all p.progress cs).store) (sym none) nothing.does;

@@ -1,5 +1,6 @@
 -- A block that is begun, and one that has one more line.
-use Rattle.std.proofs.Common.{◌≡◌, ℕ, Bool, true, false, ◌||◌, List, [], ◌∷◌, ◌++◌, if◌then◌else◌, Option, Some, None, Result, Ok, ◌⊎◌, inl, inr, refl, ap, ◌∙◌}
+use Rattle.std.proofs.Common.{◌≡◌, ℕ, true, ◌||◌, List, [], ◌∷◌, ◌++◌, if◌then◌else◌, Option, Some, None, Result, Ok, ◌⊎◌, inl, inr, refl, ap, ◌∙◌}
+use Rattle.std.proofs.Math.Bool.{or-true}
 use Rattle.std.specs.Prelude.{is_none, unwrap_or}
 use Rattle.std.specs.Result.{result_err}
 use Rattle.wot_types.specs.declared.command_name.CommandName.{CommandName}
@@ -52,13 +53,9 @@ texts_more [] line = refl
 texts_more (x ∷ xs) line = ap (λ ts. without_return (unwrap_or x []) ∷ ts) (texts_more xs line)
 
 -- and one that is
-or_true : (b : Bool) → (b || true) ≡ true
-or_true true = refl
-or_true false = refl
-
 too_long : (lines : List ReadLine) → has_long (lines ++ None ∷ []) ≡ true
 too_long [] = refl
-too_long (x ∷ xs) = ap (λ b. is_none x || b) (too_long xs) ∙ or_true (is_none x)
+too_long (x ∷ xs) = ap (λ b. is_none x || b) (too_long xs) ∙ or-true (is_none x)
 
 pub refused_long : (head : Result Head Refusal) (lines : List ReadLine) → refused_for head (lines ++ None ∷ []) ≡ Some LineTooLong
 refused_long head lines = ap (λ b. if b then Some LineTooLong else result_err head) (too_long lines)

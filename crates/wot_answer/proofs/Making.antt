@@ -13,6 +13,7 @@ use Rattle.wot_types.specs.Limits.{most_record, record_passed}
 use Rattle.wot_types.specs.Payload.{IsPayload, payload}
 use Rattle.wot_types.specs.Store.{Store}
 use Rattle.wot_types.specs.Store.Change.{makes}
+use Rattle.wot_types.proofs.Optionals.{both_none, map_none}
 use Rattle.wot_journal.specs.Record.{Framed}
 use Rattle.wot_answer.specs.Answer.{Does, Ends, IsReply}
 use Rattle.wot_answer.specs.declared.answer.Answered.{Answered}
@@ -51,14 +52,6 @@ module _ (text : List ℕ) (s : Store) (edit : Edit) (old : State) (end : ℕ) (
       })
 
 -- what an edit that isn't refused has: a record within the limit
-first_none : {X : Type 0} (a b : Option X) → option_or a b ≡ None → (a ≡ None) × (b ≡ None)
-first_none None b e = (refl, e)
-first_none (Some x) b e = cc
-
-map_none : {X Y : Type 0} (f : X → Y) (a : Option X) → option_map f a ≡ None → a ≡ None
-map_none f None e = refl
-map_none f (Some x) e = cc
-
 within : (bytes : List ℕ) → record_passed bytes ≡ None → length bytes ≤ most_record
 within bytes none = by_test (nat_lt most_record (length bytes)) refl none
   where
@@ -68,8 +61,8 @@ within bytes none = by_test (nat_lt most_record (length bytes)) refl none
 
 pub has_room : (s : State) (edit : Edit) → refusal_of s edit ≡ None → length (payload edit) ≤ most_record
 has_room s edit allowed =
-    let limits = first_none (option_map Full (option_or (state_limit s edit) (record_passed (payload edit)))) (option_map KeyIdTaken (taken_key s edit)) (first_none (missing_key s edit) _ allowed).1 in
-    within (payload edit) (first_none (state_limit s edit) (record_passed (payload edit)) (map_none Full _ limits.0)).1
+    let limits = both_none (option_map Full (option_or (state_limit s edit) (record_passed (payload edit)))) (option_map KeyIdTaken (taken_key s edit)) (both_none (missing_key s edit) _ allowed).1 in
+    within (payload edit) (both_none (state_limit s edit) (record_passed (payload edit)) (map_none Full _ limits.0)).1
 
 -- its record passes the last place of a side, or it doesn't
 pub past : (end : ℕ) (bytes : List ℕ) (edit : Edit) → bytes ≡ payload edit → 2 ^ 32 - 1 < end + length bytes + 6 → is_past end edit ≡ true

@@ -1,5 +1,5 @@
 -- What is known of a query that has an answer.
-use Rattle.std.proofs.Common.{◌≡◌, ℕ, zero, suc, ◌+◌, ◌-◌, ◌<◌, ◌≤◌, Bool, true, false, List, [], ◌∷◌, length, if◌then◌else◌, Option, Some, None, IsSome, refl, ap, arith}
+use Rattle.std.proofs.Common.{◌≡◌, ℕ, zero, suc, ◌-◌, ◌<◌, ◌≤◌, Bool, true, false, List, [], ◌∷◌, length, if◌then◌else◌, Option, Some, None, IsSome, refl, arith}
 use Rattle.std.specs.Prelude.{nat_lt, slice_get, option_and_then}
 use Rattle.std.specs.FinMap as finmap
 use Rattle.std.specs.Option.{is_some, option_map_or}
@@ -8,16 +8,12 @@ use Rattle.wot_types.specs.declared.edit.Query.TheVariants.{Why}
 use Rattle.wot_types.specs.declared.key.Key.{Key}
 use Rattle.wot_types.specs.declared.refusal.Refusal.TheVariants.{NoSuchKey, NoSuchUser}
 use Rattle.wot_types.specs.State.{State}
-use Rattle.wot_types.specs.declared.user.User.{User}
 use Rattle.wot_types.specs.Arrangement.{spot_at}
 use Rattle.wot_types.specs.Fingerprint.{key_id_of}
 use Rattle.wot_types.specs.Keyring.{is_fpr_of}
 use Rattle.wot_types.specs.Outcome.{query_refusal}
 use Rattle.wot_types.specs.Selection.{spots_from}
-
-length_spots : (n : ℕ) (users : List User) → length (spots_from n users) ≡ length users
-length_spots n [] = refl
-length_spots n (user ∷ users) = ap suc (length_spots (n + length user.certs) users)
+use Rattle.wot_table.proofs.Placement.{length_spots}
 
 got : {X : Type 0} (xs : List X) (i : ℕ) → i < length xs → is_some (slice_get xs i) ≡ true
 got [] i h = absurd (omega arith)

@@ -1,5 +1,6 @@
 -- The candidates for a user ID of a state, as far as it needs them.
 use Rattle.std.proofs.Common.{◌≡◌, ◌&&◌, ℕ, Bool, true, false, cond, List, [], ◌∷◌, map, filter, Some, None, option_map, option_and_then, slice_get, is_some, IsSome, refl, sym, ap, ◌∙◌}
+use Rattle.std.proofs.lemmas.Bool.{false≢true}
 use Rattle.std.specs.FinMap as finmap
 use Rattle.wot_types.specs.declared.key.Key.{Key}
 use Rattle.wot_types.specs.declared.row.Row.{Row}
@@ -21,15 +22,12 @@ pub record IsThere (s : State) (id user : ℕ) : Type 0 where
   pub spot_is : slice_get (spots_from 0 key.users) user ≡ Some spot
   pub at : spot_at s.keys id user ≡ Some spot
 
-never : false ≡ true → ⊥
-never e = cc
-
 pub there : (s : State) (id user : ℕ) → IsSome (spot_at s.keys id user) → IsThere s id user
 there s id user h =
     elim (finmap.get s.keys id) as (λ k. finmap.get s.keys id ≡ k → IsSome (option_and_then (λ key. slice_get (spots_from 0 key.users) user) k) → IsThere s id user) [
-      | None ↦ λ _ none. absurd (never none)
+      | None ↦ λ _ none. absurd (false≢true none)
       | Some key ↦ λ is some. elim (slice_get (spots_from 0 key.users) user) as (λ o. slice_get (spots_from 0 key.users) user ≡ o → IsSome o → IsThere s id user) [
-        | None ↦ λ _ none. absurd (never none)
+        | None ↦ λ _ none. absurd (false≢true none)
         | Some spot ↦ λ at _. record {
           key = key;
           spot = spot;

@@ -1,31 +1,21 @@
 -- A worklist over introducers: each is looked at once, and what is reached is the least closed set.
-use Rattle.std.proofs.Common.{◌≡◌, ◌+◌, ◌<◌, ◌≤◌, ◌==◌, ◌||◌, ℕ, Bool, true, false, cond, inl, inr, List, [], ◌∷◌, ◌++◌, length, Some, None, is_some, refl, sym, ap, ◌∙◌, arith}
+use Rattle.std.proofs.Common.{◌≡◌, ◌+◌, ◌<◌, ◌≤◌, ◌==◌, ◌||◌, ℕ, true, false, cond, inl, inr, List, [], ◌∷◌, ◌++◌, length, Some, None, is_some, refl, sym, ap, ◌∙◌, arith}
 use Rattle.std.specs.FinMap as finmap
 use Rattle.std.specs.FinMap.{get-empty, get-insert, len-entries, len-insert, same_map, nat_cmp-IsAntisymmetric}
 use Rattle.std.specs.Cmp.{nat_cmp_total}
-use Rattle.std.specs.Ordering.{nat_cmp, eq_by_cmp}
-use Rattle.std.proofs.lemmas.Bool.Decides.{nat_tests}
-use Rattle.std.proofs.lemmas.Bool.{or_cases, or_left, or_right}
+use Rattle.std.specs.Ordering.{nat_cmp}
+use Rattle.std.proofs.lemmas.Bool.{or_cases, or_left, or_right, false≢true}
 use Rattle.std.proofs.lemmas.List.Folds.{list_any-append}
+use Rattle.std.proofs.Math.Bool.{or-false, or-true, or_assoc}
 use Rattle.wot_types.specs.declared.row.Row.{Row}
 use Rattle.wot_types.specs.Candidates.{RowMap}
 use Rattle.wot_types.specs.Explanation.{KeySet}
+use Rattle.wot_types.proofs.Tests.{same_key, is_key}
 use Rattle.wot_explain_laws.proofs.MapLemmas.{entries_only, get_only}
 use Rattle.wot_explain_laws.proofs.CutWellFormed.{fewer}
+use Rattle.wot_explain_laws.proofs.CutRows.{itself}
 use Rattle.wot_explain.specs.declared.found.Found.{Found}
 use Rattle.wot_explain.specs.Growth.{Grows, IsPartOf, IsReach, IsSearching, among, has, room, with_introducer}
-
-pub false_true : false ≡ true → ⊥
-false_true e = cc
-
-tied : (a b : ℕ) → eq_by_cmp nat_cmp a b ≡ (b == a)
-tied a b = grind (arith, nat_tests)
-
-is_key : (k y : ℕ) → (k == y) ≡ true → k ≡ y
-is_key k y e = grind (arith, nat_tests)
-
-itself : (k : ℕ) → (k == k) ≡ true
-itself k = grind (arith, nat_tests)
 
 -- a part has no more entries than the whole
 part_len : (rows part : RowMap) → IsPartOf rows part → finmap.len part ≤ finmap.len rows
@@ -43,30 +33,18 @@ part_len rows part h =
 
 contains_insert : (m : RowMap) (k : ℕ) (row : Row) (y : ℕ) → finmap.contains_key (finmap.insert m k row) y ≡ (finmap.contains_key m y || (k == y))
 contains_insert m k row y =
-    ap is_some (get-insert nat_cmp_total m k row y) ∙ ap (λ b. is_some (cond b (Some row) (finmap.get m y))) (tied y k)
-    ∙ elim (k == y) as (λ b. is_some (cond b (Some row) (finmap.get m y)) ≡ (is_some (finmap.get m y) || b)) [ true ↦ or_any (is_some (finmap.get m y)) | false ↦ or_none (is_some (finmap.get m y)) ]
-  where
-    or_any : (b : Bool) → true ≡ (b || true)
-    or_any true = refl
-    or_any false = refl
-
-    or_none : (b : Bool) → b ≡ (b || false)
-    or_none true = refl
-    or_none false = refl
+    ap is_some (get-insert nat_cmp_total m k row y) ∙ ap (λ b. is_some (cond b (Some row) (finmap.get m y))) (same_key y k)
+    ∙ elim (k == y) as (λ b. is_some (cond b (Some row) (finmap.get m y)) ≡ (is_some (finmap.get m y) || b)) [ true ↦ sym (or-true (is_some (finmap.get m y))) | false ↦ sym (or-false (is_some (finmap.get m y))) ]
 
 among_push : (ids : List ℕ) (id y : ℕ) → among (ids ++ id ∷ []) y ≡ (among ids y || ((id == y) || false))
 among_push ids id y = list_any-append (λ x. x == y) ids (id ∷ [])
-
-or_false : (b : Bool) → b ≡ (b || false)
-or_false true = refl
-or_false false = refl
 
 -- ---- one introducer more
 
 pub adds_nothing : (rows : RowMap) (f : Found) → IsPartOf rows f.rows → Grows rows f f []
 adds_nothing rows f part = record {
   part = part;
-  members = λ y. or_false (has f y);
+  members = λ y. sym (or-false (has f y));
   looked = λ y here. inl here;
   stays = λ y here. here;
   known = λ y here. inl here;
@@ -83,7 +61,7 @@ new_one rows f id row part is absent =
     let longer : length (f.todo ++ id ∷ []) ≡ length f.todo + 1 = pushed f.todo in
     record {
       part = new_part;
-      members = λ y. contains_insert f.rows id row y ∙ ap (λ b. has f y || b) (or_false (id == y));
+      members = λ y. contains_insert f.rows id row y ∙ ap (λ b. has f y || b) (sym (or-false (id == y)));
       looked = λ y here. elim (or_cases (has f y) (id == y) (sym (contains_insert f.rows id row y) ∙ here)) [
         | inl before ↦ inl before
         | inr same ↦ inr (among_push f.todo id y ∙ or_right (among f.todo y) _ (ap (λ b. b || false) same))
@@ -91,7 +69,7 @@ new_one rows f id row part is absent =
       stays = λ y here. among_push f.todo id y ∙ or_left (among f.todo y) _ here;
       known = λ y here. elim (or_cases (among f.todo y) ((id == y) || false) (sym (among_push f.todo id y) ∙ here)) [
         | inl before ↦ inl before
-        | inr same ↦ inr (contains_insert f.rows id row y ∙ or_right (has f y) _ (or_false (id == y) ∙ same))
+        | inr same ↦ inr (contains_insert f.rows id row y ∙ or_right (has f y) _ (sym (or-false (id == y)) ∙ same))
       ];
       cost = omega (arith, more, within, longer);
     }
@@ -102,10 +80,10 @@ new_one rows f id row part is absent =
 
     inserted : IsPartOf rows (finmap.insert f.rows id row)
     inserted y here =
-        get-insert nat_cmp_total f.rows id row y ∙ ap (λ b. cond b (Some row) (finmap.get f.rows y)) (tied y id)
+        get-insert nat_cmp_total f.rows id row y ∙ ap (λ b. cond b (Some row) (finmap.get f.rows y)) (same_key y id)
         ∙ elim (id == y) as (λ b. (id == y) ≡ b → cond b (Some row) (finmap.get f.rows y) ≡ finmap.get rows y) [
           | true ↦ λ same. sym is ∙ ap (finmap.get rows) (is_key id y same)
-          | false ↦ λ other. part y (or_false (has f y) ∙ ap (λ b. has f y || b) (sym other) ∙ sym (contains_insert f.rows id row y) ∙ here)
+          | false ↦ λ other. part y (sym (or-false (has f y)) ∙ ap (λ b. has f y || b) (sym other) ∙ sym (contains_insert f.rows id row y) ∙ here)
         ] refl
 
 pub adds_one : (rows : RowMap) (f : Found) (row : Row) → IsPartOf rows f.rows → finmap.get rows row.key ≡ Some row → Grows rows f (with_introducer f row) (row.key ∷ [])
@@ -116,7 +94,7 @@ adds_one rows f row part is =
         part = part;
         members = λ y. elim (id == y) as (λ b. (id == y) ≡ b → has f y ≡ (has f y || (b || false))) [
           | true ↦ λ same. ap (finmap.contains_key f.rows) (sym (is_key id y same)) ∙ there ∙ sym (or_right (has f y) _ refl)
-          | false ↦ λ _. or_false (has f y)
+          | false ↦ λ _. sym (or-false (has f y))
         ] refl;
         looked = λ y here. inl here;
         stays = λ y here. here;
@@ -129,7 +107,7 @@ adds_one rows f row part is =
 pub adds_more : (rows : RowMap) (a b c : Found) (xs ys : List ℕ) → Grows rows a b xs → Grows rows b c ys → Grows rows a c (xs ++ ys)
 adds_more rows a b c xs ys h k = record {
   part = k.part;
-  members = λ y. k.members y ∙ ap (λ t. t || among ys y) (h.members y) ∙ assoc (has a y) (among xs y) (among ys y) ∙ ap (λ t. has a y || t) (sym (list_any-append (λ x. x == y) xs ys));
+  members = λ y. k.members y ∙ ap (λ t. t || among ys y) (h.members y) ∙ or_assoc (has a y) (among xs y) (among ys y) ∙ ap (λ t. has a y || t) (sym (list_any-append (λ x. x == y) xs ys));
   looked = λ y here. elim (k.looked y here) [
     | inl before ↦ elim (h.looked y before) [ inl first ↦ inl first | inr queued ↦ inr (k.stays y queued) ]
     | inr queued ↦ inr queued
@@ -141,22 +119,18 @@ adds_more rows a b c xs ys h k = record {
   ];
   cost = omega (arith, h.cost, k.cost);
 }
-  where
-    assoc : (p q r : Bool) → ((p || q) || r) ≡ (p || (q || r))
-    assoc true q r = refl
-    assoc false q r = refl
 
 -- ---- the search
 
 pub starts_search : (rests : ℕ → KeySet) (start : List ℕ) (rows : RowMap) (f : Found) → Grows rows (record { rows = finmap.empty; todo = [] }) f start → IsSearching rests start rows f
 starts_search rests start rows f h =
     let only = λ (y : ℕ). h.members y ∙ ap (λ o. is_some o || among start y) (get-empty nat_cmp y) in
-    let none = λ (y : ℕ) (e : finmap.contains_key (finmap.empty {X = Row} {R = nat_cmp}) y ≡ true). false_true (sym (ap is_some (get-empty {X = Row} nat_cmp y)) ∙ e) in
+    let none = λ (y : ℕ) (e : finmap.contains_key (finmap.empty {X = Row} {R = nat_cmp}) y ≡ true). false≢true (sym (ap is_some (get-empty {X = Row} nat_cmp y)) ∙ e) in
     record {
       part = h.part;
       starts = λ y here. only y ∙ here;
       looked = λ z y here _. elim (h.looked z here) [ inl e ↦ absurd (none z e) | inr queued ↦ inl queued ];
-      known = λ y here. elim (h.known y here) [ inl e ↦ absurd (false_true e) | inr there ↦ there ];
+      known = λ y here. elim (h.known y here) [ inl e ↦ absurd (false≢true e) | inr there ↦ there ];
       least = λ keep first closed y here. first y (sym (only y) ∙ here);
     }
 
@@ -178,7 +152,7 @@ looks_at rests start rows old mid new id ids is all h inv =
           | inl waiting ↦ elim (or_cases (among mid.todo z) ((id == z) || false) (sym (queue z) ∙ waiting)) [
             | inl still ↦ inl (h.stays z still)
             | inr now ↦
-                let its = is_key id z (or_false (id == z) ∙ now) in
+                let its = is_key id z (sym (or-false (id == z)) ∙ now) in
                 inr (h.members y ∙ or_right (has mid y) _ (all y ∙ ap (λ k. rests k y) its ∙ rest))
           ]
         ]
@@ -208,7 +182,7 @@ ends_search rests start rows f empty inv = record {
   part = inv.part;
   starts = inv.starts;
   closed = λ z y here rest. elim (inv.looked z y here rest) [
-    | inl waiting ↦ absurd (false_true (sym (ap (λ ids. among ids z) empty) ∙ waiting))
+    | inl waiting ↦ absurd (false≢true (sym (ap (λ ids. among ids z) empty) ∙ waiting))
     | inr there ↦ there
   ];
   least = inv.least;

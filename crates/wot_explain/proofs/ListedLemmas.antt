@@ -1,11 +1,10 @@
 -- The candidates' list that the levels make is the one of the explanation.
-use Rattle.std.proofs.Common.{◌≡◌, ◌==◌, ◌||◌, not, ℕ, Bool, true, false, cond, List, [], ◌∷◌, ◌++◌, map, Option, Some, None, option_map, option_and_then, option_to_list, is_some, IfSome, refl, sym, ap, ◌∙◌, append_assoc, arith}
+use Rattle.std.proofs.Common.{◌≡◌, ◌||◌, not, ℕ, Bool, true, false, cond, List, [], ◌∷◌, ◌++◌, map, Option, Some, None, option_map, option_and_then, option_to_list, is_some, IfSome, refl, sym, ap, ◌∙◌, append_assoc}
 use Rattle.std.specs.List.{AllByRecursion, cons_option, filter_map, list_any}
 use Rattle.std.specs.FinMap as finmap
 use Rattle.std.specs.FinMap.{contains_key-keys}
 use Rattle.std.specs.FinMap.Entries.{where_key}
 use Rattle.std.specs.Ordering.{nat_cmp, eq_by_cmp}
-use Rattle.std.proofs.lemmas.Bool.Decides.{nat_tests}
 use Rattle.wot_types.specs.declared.options.Options.{Options}
 use Rattle.wot_types.specs.declared.placed.Placed.{Placed}
 use Rattle.wot_types.specs.declared.row.Row.{Row}
@@ -14,6 +13,7 @@ use Rattle.wot_types.specs.Candidates.{RowMap, candidacy}
 use Rattle.wot_types.specs.Explanation.{KeySet, are_candidates, candidate_rows, explained_rows}
 use Rattle.wot_types.specs.Scope.{admits}
 use Rattle.wot_types.specs.Selection.{Spot, usable}
+use Rattle.wot_types.proofs.Tests.{same_key}
 use Rattle.wot_levels.specs.Candidates.{bare, candidate_at, candidate_list, candidate_of}
 use Rattle.wot_levels.specs.Runs.{IsBehind}
 use Rattle.wot_levels.proofs.CandidateLemmas.{candidates_run}
@@ -65,10 +65,7 @@ key_of c = c.key
 
 among_entries : (y : ℕ) (es : List (ℕ × Row)) → among (map key_of (map counted_entry es)) y ≡ list_any (eq_by_cmp nat_cmp y) (map (λ (e : ℕ × Row). e.0) es)
 among_entries y [] = refl
-among_entries y (e ∷ es) = λ i. tied e.0 y i || among_entries y es i
-  where
-    tied : (a b : ℕ) → (a == b) ≡ eq_by_cmp nat_cmp b a
-    tied a b = grind (arith, nat_tests)
+among_entries y (e ∷ es) = λ i. sym (same_key y e.0) i || among_entries y es i
 
 -- the keys of a part of a map
 pub among_part : (rows : RowMap) (keep : ℕ → Bool) → ((y : ℕ) → keep y ≡ true → is_some (finmap.get rows y) ≡ true) → (y : ℕ)

@@ -1,5 +1,6 @@
 -- What the search reaches is the explanation, with its rows.
 use Rattle.std.proofs.Common.{◌≡◌, ℕ, true, false, cond, List, Some, None, is_some, refl, sym, ap, ◌∙◌}
+use Rattle.std.proofs.lemmas.Bool.{false≢true}
 use Rattle.std.specs.FinMap as finmap
 use Rattle.std.specs.FinMap.{same_map, nat_cmp-IsAntisymmetric}
 use Rattle.std.specs.Cmp.{nat_cmp_total}
@@ -11,7 +12,6 @@ use Rattle.wot_explain_laws.proofs.MapLemmas.{get_only}
 use Rattle.wot_explain_laws.proofs.ExplanationLemmas.{closed, includes}
 use Rattle.wot_explain_laws.proofs.ListedLemmas.{least}
 use Rattle.wot_explain.specs.Growth.{IsReach, among}
-use Rattle.wot_explain.proofs.GrowthLemmas.{false_true}
 
 pub reached_is : (s : State) (id place : ℕ) (start : List ℕ) (reached : RowMap) → ((y : ℕ) → among start y ≡ direct s id place y) → IsReach (rests_on s) start (rows_of s) reached
     → reached ≡ explained_rows s (explanation s id place)
@@ -23,7 +23,7 @@ reached_is s id place start reached first h =
     same_map nat_cmp_total nat_cmp-IsAntisymmetric reached (explained_rows s whole) (λ q.
     elim (finmap.get reached q) as (λ o. finmap.get reached q ≡ o → o ≡ cond (whole q) (finmap.get (rows_of s) q) None) [
       | None ↦ λ none. elim (whole q) as (λ b. whole q ≡ b → None ≡ cond b (finmap.get (rows_of s) q) None) [
-        | true ↦ λ there. absurd (false_true (ap is_some (sym none) ∙ outside q there))
+        | true ↦ λ there. absurd (false≢true (ap is_some (sym none) ∙ outside q there))
         | false ↦ λ _. refl
       ] refl
       | Some row ↦ λ is.

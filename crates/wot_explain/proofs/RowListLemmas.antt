@@ -7,19 +7,16 @@ use Rattle.std.specs.FinMap.Entries.{below_all, same_entries}
 use Rattle.std.specs.Cmp.{nat_cmp_total}
 use Rattle.std.specs.Ordering.{nat_cmp, eq_by_cmp, is_lt}
 use Rattle.std.proofs.lemmas.Bool.Decides.{nat_tests}
-use Rattle.std.proofs.lemmas.Bool.{cases_order}
+use Rattle.std.proofs.lemmas.Bool.{cases_order, false≢true}
 use Rattle.wot_types.specs.declared.row.Row.{Row}
 use Rattle.wot_types.specs.Candidates.{RowMap}
 use Rattle.wot_types.specs.Explanation.{KeySet}
 use Rattle.wot_types.specs.Next.{IsAfter, IsNext}
+use Rattle.wot_types.proofs.Tests.{both_parts}
+use Rattle.wot_types.proofs.Nexts.{after_more}
 use Rattle.wot_explain_laws.proofs.MapLemmas.{IsAt, entries_at, entries_only, get_only}
 use Rattle.wot_explain_laws.proofs.LevelLemmas.{some_none}
-use Rattle.wot_explain_laws.proofs.CutRows.{false_true}
 use Rattle.wot_explain.proofs.DirectLemmas.{none_kept}
-
-both_T : (a b : Bool) → T a → T b → T (a && b)
-both_T true b h j = j
-both_T false b h j = h
 
 -- ---- a set whose least key is this one
 
@@ -33,7 +30,7 @@ module _ {X : Type 0} (m : FinMap nat_cmp X) (k : ℕ) (p q : KeySet) (behind : 
 
   below : (es : List (ℕ × X)) → AllByRecursion (IsAt (finmap.retain_keys m q)) es → T (below_all nat_cmp k es)
   below [] h = tt
-  below (e ∷ es) h = both_T (is_lt (nat_cmp k e.0)) (below_all nat_cmp k es) (less k e.0 (behind e.0 (in_part (q e.0) (finmap.get m e.0) e.1 (sym (get_only m q e.0) ∙ h.0)))) (below es h.1)
+  below (e ∷ es) h = both_parts (is_lt (nat_cmp k e.0)) (below_all nat_cmp k es) (less k e.0 (behind e.0 (in_part (q e.0) (finmap.get m e.0) e.1 (sym (get_only m q e.0) ∙ h.0)))) (below es h.1)
     where
       less : (a b : ℕ) → a < b → T (is_lt (nat_cmp a b))
       less a b h = grind (arith, nat_tests)
@@ -49,7 +46,7 @@ module _ {X : Type 0} (m : FinMap nat_cmp X) (k : ℕ) (p q : KeySet) (behind : 
 
   sorted : (o : Option X) → T (is_sorted nat_cmp (cons_option (option_map (λ v. (k, v)) o) rest))
   sorted None = entries_sorted (finmap.retain_keys m q)
-  sorted (Some v) = both_T (below_all nat_cmp k rest) (is_sorted nat_cmp rest) (below rest (entries_at (finmap.retain_keys m q))) (entries_sorted (finmap.retain_keys m q))
+  sorted (Some v) = both_parts (below_all nat_cmp k rest) (is_sorted nat_cmp rest) (below rest (entries_at (finmap.retain_keys m q))) (entries_sorted (finmap.retain_keys m q))
 
   found : (o : Option X) (y : ℕ) → find nat_cmp y (cons_option (option_map (λ v. (k, v)) o) rest) ≡ cond (y == k) o (cond (q y) (finmap.get m y) None)
   found None y =
@@ -100,10 +97,6 @@ is_after (Some a) y h = less a y h
   where
     less : (a b : ℕ) → a < b → nat_lt a b ≡ true
     less a b h = grind (arith, nat_tests)
-
-after_more : (after : Option ℕ) (id y : ℕ) → IsAfter after id → id < y → IsAfter after y
-after_more None id y h less = tt
-after_more (Some a) id y h less = omega (arith, h, less)
 
 not_both : (b : Bool) → b ≡ false → b ≡ true → ⊥
 not_both b f t = cc
@@ -170,5 +163,5 @@ shorter rows after id h =
     omega (arith, many)
   where
     one : (o : Option Row) → is_some o ≡ true → length (option_to_list o ++ rows_left rows (Some id)) ≡ length (rows_left rows (Some id)) + 1
-    one None none = absurd (false_true none)
+    one None none = absurd (false≢true none)
     one (Some row) some = omega arith

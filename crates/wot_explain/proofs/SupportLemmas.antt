@@ -1,9 +1,11 @@
 -- On whom an introducer rests, from the candidates for its first full user ID and from what it is given at its level.
-use Rattle.std.proofs.Common.{◌≡◌, ◌-◌, ◌<◌, ◌==◌, ◌&&◌, ◌||◌, ℕ, suc, Bool, true, false, cond, List, ◌∷◌, ◌++◌, filter, Option, Some, None, option_map, option_and_then, option_to_list, is_some, IsSome, refl, sym, ap, subst, ◌∙◌, arith}
+use Rattle.std.proofs.Common.{◌≡◌, ◌-◌, ◌<◌, ◌==◌, ◌&&◌, ◌||◌, ℕ, suc, Bool, true, false, cond, List, ◌∷◌, ◌++◌, filter, Option, Some, None, option_map, option_and_then, option_to_list, IsSome, refl, sym, ap, subst, ◌∙◌, arith}
 use Rattle.std.specs.List.{find}
 use Rattle.std.specs.FinMap as finmap
 use Rattle.std.proofs.lemmas.Bool.Decides.{nat_tests}
 use Rattle.std.proofs.lemmas.List.Folds.{list_any-append}
+use Rattle.std.proofs.lemmas.Option.{same_Some}
+use Rattle.std.proofs.Math.Bool.{or-false}
 use Rattle.wot_types.specs.declared.key.Key.{Key}
 use Rattle.wot_types.specs.declared.options.Options.{Options}
 use Rattle.wot_types.specs.declared.placed.Placed.{Placed}
@@ -20,20 +22,6 @@ use Rattle.wot_explain_laws.proofs.ListedLemmas as listed
 use Rattle.wot_explain.specs.Growth.{among}
 use Rattle.wot_explain.specs.Standing.{StandsAt}
 
-pub some_of : {A : Type 0} (o : Option A) → is_some o ≡ true → (x : A) × (o ≡ Some x)
-some_of None h = absurd (never h)
-  where
-    never : false ≡ true → ⊥
-    never e = cc
-some_of (Some x) h = (x, refl)
-
-same_some : {A : Type 0} (x y : A) → Some x ≡ Some y → x ≡ y
-same_some x y e = cc
-
-or_false : (b : Bool) → (b || false) ≡ b
-or_false true = refl
-or_false false = refl
-
 -- the two parts together
 pub supported : (o : Options) (now : ℕ) (rows : RowMap) (key : Key) (ids : List ℕ) → ((y : ℕ) → among ids y ≡ from_some (are_candidates o now rows) (first_full o now rows key) y) → (y : ℕ)
     → among (ids ++ option_to_list (option_map (λ p. p.cert.issuer) (delegation o now rows key))) y ≡ new_row_rests_on o now rows key y
@@ -43,7 +31,7 @@ supported o now rows key ids h y =
   where
     second : (d : Option Placed) → among (option_to_list (option_map (λ p. p.cert.issuer) d)) y ≡ from_some is_issuer d y
     second None = refl
-    second (Some p) = or_false (p.cert.issuer == y)
+    second (Some p) = or-false (p.cert.issuer == y)
 
 -- ---- what is given at its level
 
@@ -86,7 +74,7 @@ given_stands s id level high at =
     too_low : (r : Row) → finmap.get (rows_upto s (level - 1)) id ≡ Some r → Some r ≡ Some at.0 → ⊥
     too_low r before e =
         let low = level_le s (level - 1) id r before in
-        let level_is = ap (λ (x : Row). x.level) (same_some r at.0 e) in
+        let level_is = ap (λ (x : Row). x.level) (same_Some r at.0 e) in
         let same = at.2 in
         omega (arith, low, level_is, same, high)
 

@@ -1,5 +1,5 @@
 -- Candidates and delegations in a cut state are those by keys of the set.
-use Rattle.std.proofs.Common.{◌≡◌, ◌+◌, ◌≤◌, ◌==◌, ◌&&◌, ◌||◌, not, ℕ, Bool, true, false, cond, List, [], ◌∷◌, ◌++◌, map, filter, count_by, nat_le, nat_lt, Option, Some, None, option_map, option_and_then, is_some, IfSome, refl, sym, ap, subst, ◌∙◌, arith}
+use Rattle.std.proofs.Common.{◌≡◌, ◌+◌, ◌≤◌, ◌&&◌, ◌||◌, not, ℕ, Bool, true, false, cond, List, [], ◌∷◌, ◌++◌, map, filter, count_by, nat_le, Option, Some, None, option_map, option_and_then, is_some, IfSome, refl, sym, ap, subst, ◌∙◌, arith}
 use Rattle.std.specs.List.{AllByRecursion, cons_option, filter_map, flat_map}
 use Rattle.std.specs.FinMap as finmap
 use Rattle.std.specs.FinMap.{same_map, nat_cmp-IsAntisymmetric}
@@ -10,6 +10,7 @@ use Rattle.std.proofs.lemmas.Bool.Decides.{nat_tests}
 use Rattle.std.proofs.lemmas.List.{map-append}
 use Rattle.std.proofs.lemmas.List.Elements.{filter-append}
 use Rattle.std.proofs.lemmas.List.Sums.{sum_by-cons}
+use Rattle.std.proofs.lemmas.Bool.{and_parts}
 use Rattle.wot_types.specs.declared.key.Key.{Key}
 use Rattle.wot_types.specs.declared.options.Options.{Options}
 use Rattle.wot_types.specs.declared.count.Count.{Count}
@@ -85,16 +86,9 @@ count_by_set keep o now spot rows within =
       other = each is_below_marginal i;
     }
   where
-    second : (a b : Bool) → (a && b) ≡ true → b ≡ true
-    second true b h = h
-    second false b h = absurd (never h)
-      where
-        never : false ≡ true → ⊥
-        never e = cc
-
     each : (test : Trust → Bool) → candidates test o now spot rows ≡ candidates test o now spot (only keep rows)
     each test = count_only (is_candidate test o now spot) keep rows (λ y row at passed.
-        within y (ap (λ r. is_some (option_and_then (candidacy o now spot y) r)) at ∙ second (test row.trust) _ passed))
+        within y (ap (λ r. is_some (option_and_then (candidacy o now spot y) r)) at ∙ (and_parts (test row.trust) _ passed).1))
 
 module _ (keep : KeySet) (kept_at : ℕ → Bool) (o : Options) (now : ℕ) (rows rows' : RowMap) (same : AgreeOn keep rows rows') where
   abbrev mv : Placed → Placed

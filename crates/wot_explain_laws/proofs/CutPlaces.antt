@@ -2,7 +2,7 @@
 use Rattle.std.proofs.Common.{◌≡◌, ◌+◌, ◌-◌, ◌<◌, ◌≤◌, ◌==◌, ◌&&◌, ◌||◌, ℕ, zero, suc, Bool, true, false, cond, inl, inr, List, [], ◌∷◌, ◌++◌, map, filter, length, nat_lt, Option, Some, None, option_map, option_and_then, unwrap_or, slice_get, IfSome, refl, sym, ap, subst, ◌∙◌, arith}
 use Rattle.std.specs.List.{AllByRecursion, flat_map}
 use Rattle.std.proofs.lemmas.Bool.Decides.{nat_tests}
-use Rattle.std.proofs.lemmas.Bool.{cases_order}
+use Rattle.std.proofs.lemmas.Bool.{cases_order, false≢true}
 use Rattle.wot_types.specs.declared.cert.Cert.{Cert}
 use Rattle.wot_types.specs.declared.key.Key.{Key}
 use Rattle.wot_types.specs.declared.placed.Placed.{Placed}
@@ -12,6 +12,7 @@ use Rattle.wot_types.specs.Levels.{live_spots}
 use Rattle.wot_types.specs.Selection.{Spot, counts_for, deciding_cert, in_force, is_earlier, is_in_force, later_cert, latest_cert, placed_from, spots_from, usable}
 use Rattle.wot_types.specs.Explanation.{KeySet}
 use Rattle.wot_types.specs.CutState.{cut_key, cut_user}
+use Rattle.wot_types.proofs.Earlier.{earlier_trans, later_trans}
 
 -- ---- the latest of a list
 
@@ -22,12 +23,6 @@ All-filter P f (x ∷ xs) h = elim (f x) as (λ b. AllByRecursion P (cond b (x �
 pub filter_passes : {X : Type 0} (f : X → Bool) (xs : List X) → AllByRecursion (λ x. f x ≡ true) (filter f xs)
 filter_passes f [] = tt
 filter_passes f (x ∷ xs) = elim (f x) as (λ b. f x ≡ b → AllByRecursion (λ y. f y ≡ true) (cond b (x ∷ filter f xs) (filter f xs))) [ true ↦ λ here. (here, filter_passes f xs) | false ↦ λ _. filter_passes f xs ] refl
-
-earlier_trans : (x q p : Placed) → is_earlier x q ≡ true → is_earlier q p ≡ true → is_earlier x p ≡ true
-earlier_trans x q p a b = grind (arith, nat_tests)
-
-later_trans : (x q p : Placed) → is_earlier x q ≡ false → is_earlier q p ≡ false → is_earlier x p ≡ false
-later_trans x q p a b = grind (arith, nat_tests)
 
 -- what isn't earlier than the later of two is earlier than neither
 not_first : (p r q : Placed) → is_earlier r q ≡ true → is_earlier p q ≡ false → is_earlier p r ≡ false
@@ -170,9 +165,6 @@ module _ (keep : KeySet) (kept_at : ℕ → Bool) where
 
   -- ---- the certification that decides
 
-  false_true : false ≡ true → ⊥
-  false_true e = cc
-
   is_by : (level y : ℕ) (p : Placed) → counts_for level y p ≡ true → p.cert.issuer ≡ y
   is_by level y p h = grind (arith, nat_tests)
 
@@ -189,7 +181,7 @@ module _ (keep : KeySet) (kept_at : ℕ → Bool) where
             ≡ map moved (cond b (p ∷ filter (counts_for level y) ps) (filter (counts_for level y) ps))) [ true ↦ ap (λ xs. moved p ∷ xs) rest | false ↦ rest ]
         | false ↦ λ gone. elim (counts_for level y p) as (λ b. counts_for level y p ≡ b → filter (counts_for level y) (cut_certs ps)
             ≡ map moved (cond b (p ∷ filter (counts_for level y) ps) (filter (counts_for level y) ps))) [
-              | true ↦ λ counts. absurd (false_true (sym gone ∙ counted_kept level y p kept counts))
+              | true ↦ λ counts. absurd (false≢true (sym gone ∙ counted_kept level y p kept counts))
               | false ↦ λ _. rest
             ] refl
       ] refl
@@ -200,7 +192,7 @@ module _ (keep : KeySet) (kept_at : ℕ → Bool) where
       let rest = counts_gone level y gone ps in
       elim (is_kept p) as (λ b. is_kept p ≡ b → filter (counts_for level y) (map moved (cond b (p ∷ filter is_kept ps) (filter is_kept ps))) ≡ []) [
         | true ↦ λ kept. elim (counts_for level y p) as (λ b. counts_for level y p ≡ b → cond b (moved p ∷ filter (counts_for level y) (cut_certs ps)) (filter (counts_for level y) (cut_certs ps)) ≡ []) [
-          | true ↦ λ counts. absurd (false_true (sym gone ∙ sym (ap keep (is_by level y p counts)) ∙ kept))
+          | true ↦ λ counts. absurd (false≢true (sym gone ∙ sym (ap keep (is_by level y p counts)) ∙ kept))
           | false ↦ λ _. rest
         ] refl
         | false ↦ λ _. rest

@@ -3,7 +3,7 @@ use Rattle.std.proofs.Common.{◌≡◌, ◌-◌, ◌≤◌, ◌==◌, ◌&&◌,
 use Rattle.std.specs.List.{AllByRecursion, find, list_any}
 use Rattle.std.specs.FinMap as finmap
 use Rattle.std.proofs.lemmas.Bool.Decides.{nat_tests}
-use Rattle.std.proofs.lemmas.Bool.{or_right}
+use Rattle.std.proofs.lemmas.Bool.{or_right, false≢true}
 use Rattle.wot_types.specs.declared.key.Key.{Key}
 use Rattle.wot_types.specs.declared.options.Options.{Options}
 use Rattle.wot_types.specs.declared.placed.Placed.{Placed}
@@ -17,7 +17,7 @@ use Rattle.wot_types.specs.Levels.{allowed_depth, delegation, first_row, greater
 use Rattle.wot_types.specs.Selection.{Spot, spots_from}
 use Rattle.wot_types.specs.Explanation.{KeySet, are_candidates, first_full, from_some, is_issuer, level_rests_on, new_row_rests_on, rests_on, row_rests_on}
 use Rattle.wot_types.specs.CutState.{cut, cut_key}
-use Rattle.wot_explain_laws.proofs.MapLemmas.{get-map_by}
+use Rattle.wot_types.proofs.MapBy.{get-map_by}
 use Rattle.wot_explain_laws.proofs.LevelLemmas.{get_first, get_next, level_0_first, stays_to_the_end, row_by_level}
 use Rattle.wot_explain_laws.proofs.CutPlaces.{All-filter, SpotTells, cut_spot, key_tells, kept_places, live_spots_cut, moved}
 use Rattle.wot_explain_laws.proofs.CutCounts.{AgreeOn, count_by_set, count_cut, delegation_cut, full_by_more}
@@ -25,9 +25,6 @@ use Rattle.wot_explain_laws.proofs.CutCounts.{AgreeOn, count_by_set, count_cut, 
 -- with each introducer the set has those on whom it rests
 abbrev pub IsClosed : State → KeySet → Type 0
 IsClosed s keep = (z y : ℕ) → keep z ≡ true → rests_on s z y ≡ true → keep y ≡ true
-
-pub false_true : false ≡ true → ⊥
-false_true e = cc
 
 pub itself : (n : ℕ) → (n == n) ≡ true
 itself n = grind (arith, nat_tests)
@@ -149,7 +146,7 @@ module _ (s : State) (keep : KeySet) (x : ℕ) where
                 | false ↦ λ empty.
                     ap (λ b. cond b (Some (row_by rows' y (suc n) own d')) None)
                     (elim (has_full_user o now rows' (cut_key keep key)) as (λ b. has_full_user o now rows' (cut_key keep key) ≡ b → b ≡ false) [
-                      | true ↦ λ full. absurd (false_true (sym empty
+                      | true ↦ λ full. absurd (false≢true (sym empty
                           ∙ no_more_full keep kept_at o now rows rows' same spots live_tells (ap (list_any (fills keep kept_at o now rows rows' same rows')) (sym same_spots) ∙ full)))
                       | false ↦ λ _. refl
                     ] refl)

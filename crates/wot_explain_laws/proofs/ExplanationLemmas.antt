@@ -1,9 +1,8 @@
 -- An explanation has all on whom its introducers rest.
-use Rattle.std.proofs.Common.{◌≡◌, ◌+◌, ◌-◌, ◌<◌, ◌≤◌, ◌==◌, ◌&&◌, ◌||◌, ℕ, zero, suc, true, false, cond, inl, inr, List, [], ◌∷◌, ◌++◌, Option, Some, None, option_and_then, is_some, IfSome, refl, sym, ap, subst, ◌∙◌, arith}
+use Rattle.std.proofs.Common.{◌≡◌, ◌+◌, ◌-◌, ◌<◌, ◌≤◌, ◌&&◌, ◌||◌, ℕ, zero, suc, true, false, cond, inl, inr, List, [], ◌∷◌, ◌++◌, Option, Some, None, option_and_then, is_some, IfSome, refl, sym, ap, subst, ◌∙◌, arith}
 use Rattle.std.specs.List.{AllByRecursion, cons_option, filter_map, flat_map, list_any}
 use Rattle.std.specs.FinMap as finmap
-use Rattle.std.proofs.lemmas.Bool.Decides.{nat_tests}
-use Rattle.std.proofs.lemmas.Bool.{and_parts, cases_lt, or_cases, or_left, or_right}
+use Rattle.std.proofs.lemmas.Bool.{and_parts, cases_lt, or_cases, or_left, or_right, false≢true}
 use Rattle.wot_types.specs.declared.key.Key.{Key}
 use Rattle.wot_types.specs.declared.options.Options.{Options}
 use Rattle.wot_types.specs.declared.placed.Placed.{Placed}
@@ -13,16 +12,13 @@ use Rattle.wot_types.specs.Candidates.{RowMap, candidacy}
 use Rattle.wot_types.specs.Levels.{delegating_cert, delegation, delegations_on, live_spots, rows_of, rows_upto}
 use Rattle.wot_types.specs.Selection.{Spot, latest_cert}
 use Rattle.wot_types.specs.Explanation.{KeySet, are_candidates, first_full, from_some, is_issuer, level_rests_on, new_row_rests_on, rests_on, row_rests_on, with_support, with_support_times}
+use Rattle.wot_types.proofs.Optionals.{there_is}
+use Rattle.wot_types.proofs.Tests.{is_key}
 use Rattle.wot_explain_laws.proofs.MapLemmas.{IsAt, any_key, entries_at, some_key}
 use Rattle.wot_explain_laws.proofs.LevelLemmas.{level_le, stays_to_the_end}
 use Rattle.wot_explain_laws.proofs.CutPlaces.{latest_has}
 use Rattle.wot_explain_laws.proofs.CutCounts.{by_its_key}
-use Rattle.wot_explain_laws.proofs.CutRows.{IsClosed, false_true}
-
--- what is_some says
-some_of : {A : Type 0} (o : Option A) → is_some o ≡ true → (x : A) × (o ≡ Some x)
-some_of None h = absurd (false_true h)
-some_of (Some x) h = (x, refl)
+use Rattle.wot_explain_laws.proofs.CutRows.{IsClosed}
 
 -- ---- who makes an introducer has a row
 
@@ -67,15 +63,12 @@ delegator_has_row o now rows key =
       | false ↦ tt
     ]
 
-is_key : (k y : ℕ) → (k == y) ≡ true → k ≡ y
-is_key k y e = grind (arith, nat_tests)
-
 issuer_has_row : (rows : RowMap) (d : Option Placed) (y : ℕ) → IfSome d (IssuerHasRow rows) → from_some is_issuer d y ≡ true → HasRow rows y
-issuer_has_row rows None y h is = absurd (false_true is)
+issuer_has_row rows None y h is = absurd (false≢true is)
 issuer_has_row rows (Some p) y h is = subst (HasRow rows) (is_key p.cert.issuer y is) h
 
 candidates_have_rows : (o : Options) (now : ℕ) (rows : RowMap) (spot : Option Spot) (y : ℕ) → from_some (are_candidates o now rows) spot y ≡ true → HasRow rows y
-candidates_have_rows o now rows None y h = absurd (false_true h)
+candidates_have_rows o now rows None y h = absurd (false≢true h)
 candidates_have_rows o now rows (Some spot) y h = candidate_has_row o now rows spot y h
 
 maker_has_row : (o : Options) (now : ℕ) (rows : RowMap) (key : Key) (y : ℕ) → new_row_rests_on o now rows key y ≡ true → HasRow rows y
@@ -96,10 +89,10 @@ record Step (s : State) (w z : ℕ) : Type 0 where
   falls : lower.level < upper.level
 
 at_level : (s : State) (key : Key) (w z : ℕ) (row : Row) (level : ℕ) → finmap.get (rows_of s) w ≡ Some row → row.level ≡ level → level_rests_on s key level z ≡ true → Step s w z
-at_level s key w z row zero at is h = absurd (false_true h)
+at_level s key w z row zero at is h = absurd (false≢true h)
 at_level s key w z row (suc n) at is h =
     let low = level_le s (s.options.depth - 1) w row at in
-    let maker = some_of (finmap.get (rows_upto s n) z) (maker_has_row s.options s.date (rows_upto s n) key z h) in
+    let maker = there_is (finmap.get (rows_upto s n) z) (maker_has_row s.options s.date (rows_upto s n) key z h) in
     let lower_low = level_le s n z maker.0 maker.1 in
     record {
       upper = row;
@@ -112,9 +105,9 @@ at_level s key w z row (suc n) at is h =
 step : (s : State) (w z : ℕ) → rests_on s w z ≡ true → Step s w z
 step s w z h =
     elim (finmap.get (rows_of s) w) as (λ o. finmap.get (rows_of s) w ≡ o → from_some (row_rests_on s w) o z ≡ true → Step s w z) [
-      | None ↦ λ _ none. absurd (false_true none)
+      | None ↦ λ _ none. absurd (false≢true none)
       | Some row ↦ λ at. elim (finmap.get s.keys w) as (λ o. from_some (λ key. level_rests_on s key row.level) o z ≡ true → Step s w z) [
-        | None ↦ λ none. absurd (false_true none)
+        | None ↦ λ none. absurd (false≢true none)
         | Some key ↦ λ rests. at_level s key w z row row.level at refl rests
       ]
     ] refl h
@@ -157,7 +150,7 @@ module _ (s : State) (start : KeySet) where
             let same = one_row row down.lower (finmap.get (rows_of s) z) at down.lower_at in
             elim (cases_lt (down.upper.level + n) s.options.depth) [
               | inl below ↦ absurd (omega (arith, below, down.falls, same, high))
-              | inr above ↦ absurd (false_true (sym absent ∙ closed_at n w.0 z down.upper parts.0 down.upper_at above parts.1))
+              | inr above ↦ absurd (false≢true (sym absent ∙ closed_at n w.0 z down.upper parts.0 down.upper_at above parts.1))
             ]
       ] refl (sym (next n z) ∙ here)
 

@@ -20,10 +20,12 @@ use Rattle.wot_types.specs.Levels.{delegation, first_row, has_full_user, kept_or
 use Rattle.wot_types.specs.Selection.{Spot}
 use Rattle.wot_types.specs.Trust.{is_ultimate, is_below_marginal, is_fully_trusted, is_marginal}
 use Rattle.wot_types.specs.Explanation.{KeySet, are_candidates, candidate_rows, explained_rows, from_some, level_rests_on, issuers_of_rows, new_row_rests_on, rests_on, row_rests_on, count_by_trust, with_support_times}
-use Rattle.wot_explain_laws.proofs.MapLemmas.{IsAt, any_key, count_only, entries_at, get-map_by, get_only}
+use Rattle.wot_types.proofs.MapBy.{get-map_by}
+use Rattle.wot_types.proofs.Tests.{same_key}
+use Rattle.wot_explain_laws.proofs.MapLemmas.{IsAt, any_key, count_only, entries_at, get_only}
 use Rattle.wot_explain_laws.proofs.LevelLemmas.{get_first, get_next, level_le, row_by_level, some_none, stays_one, stays_to_the_end}
 use Rattle.wot_explain_laws.proofs.CutCounts.{same_count}
-use Rattle.wot_explain_laws.proofs.CutRows.{IsClosed, false_true}
+use Rattle.wot_explain_laws.proofs.CutRows.{IsClosed}
 use Rattle.wot_explain_laws.proofs.ExplanationLemmas.{lower_row}
 
 -- ---- a row names its key
@@ -61,10 +63,7 @@ row_key s n q row is = subst (Names q) is (names s n q)
 named_in : (y : ℕ) (es : List (ℕ × Row)) → AllByRecursion (λ (e : ℕ × Row). e.1.key ≡ e.0) es
     → list_any (λ (row : Row). row.key == y) (map (λ (e : ℕ × Row). e.1) es) ≡ list_any (eq_by_cmp nat_cmp y) (map (λ (e : ℕ × Row). e.0) es)
 named_in y [] h = refl
-named_in y (e ∷ es) h = λ i. (ap (λ k. k == y) h.0 ∙ tied e.0 y) i || named_in y es h.1 i
-  where
-    tied : (a b : ℕ) → (a == b) ≡ eq_by_cmp nat_cmp b a
-    tied a b = grind (arith, nat_tests)
+named_in y (e ∷ es) h = λ i. (ap (λ k. k == y) h.0 ∙ sym (same_key y e.0)) i || named_in y es h.1 i
 
 all_name : (s : State) (keep : KeySet) (es : List (ℕ × Row)) → AllByRecursion (IsAt (explained_rows s keep)) es → AllByRecursion (λ (e : ℕ × Row). e.1.key ≡ e.0) es
 all_name s keep [] h = tt
@@ -199,10 +198,6 @@ counted o now rows spot =
       other = each is_below_marginal i;
     }
   where
-    second : (a b : Bool) → (a && b) ≡ true → b ≡ true
-    second true b h = h
-    second false b h = absurd (false_true h)
-
     candidate : (y : ℕ) (row : Row) → finmap.get rows y ≡ Some row → are_candidates o now rows spot y ≡ is_some (candidacy o now spot y row)
     candidate y row at = ap (λ r. is_some (option_and_then (candidacy o now spot y) r)) at
 
@@ -230,7 +225,7 @@ counted o now rows spot =
 
     each : (test : Trust → Bool) → candidates test o now spot rows ≡ count_by (λ (row : Row). test row.trust) (finmap.values (candidate_rows o now rows spot))
     each test =
-        count_only (is_candidate test o now spot) (are_candidates o now rows spot) rows (λ y row at passed. candidate y row at ∙ second (test row.trust) _ passed)
+        count_only (is_candidate test o now spot) (are_candidates o now rows spot) rows (λ y row at passed. candidate y row at ∙ (and_parts (test row.trust) _ passed).1)
         ∙ same_count (is_candidate test o now spot) (λ (e : ℕ × Row). test e.1.trust) (finmap.entries (candidate_rows o now rows spot))
         (tests test (finmap.entries (candidate_rows o now rows spot)) (entries_at (candidate_rows o now rows spot)))
         ∙ over_values test (finmap.entries (candidate_rows o now rows spot))

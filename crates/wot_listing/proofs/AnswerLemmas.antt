@@ -17,15 +17,6 @@ pub fails_more : (xs ys : List Check) (what : ListingWhat) → first_failing xs 
 fails_more [] ys what e = cc
 fails_more (x ∷ xs) ys what e = fails_at x.0 x.1 (first_failing xs) (first_failing (xs ++ ys)) what (fails_more xs ys what) e
 
-passes_at : (b : Bool) (w : ListingWhat) (a c d : Option ListingWhat) → (a ≡ None → c ≡ d) → cond b (Some w) a ≡ None → cond b (Some w) c ≡ d
-passes_at true w a c d h e = cc
-passes_at false w a c d h e = h e
-
--- checks that pass leave those that follow
-pub passes_more : (xs ys : List Check) → first_failing xs ≡ None → first_failing (xs ++ ys) ≡ first_failing ys
-passes_more [] ys e = refl
-passes_more (x ∷ xs) ys e = passes_at x.0 x.1 (first_failing xs) (first_failing (xs ++ ys)) (first_failing ys) (passes_more xs ys) e
-
 -- a part's error is the line's, where further checks follow
 pub error_more : {X Y : Type 0} (e : LineError) (xs ys : List Check) (P : X → Type 0) (Q : Y → Type 0) → Answers (Err e) (first_failing xs) P → Answers (Err e) (first_failing (xs ++ ys)) Q
 error_more (Failed what) xs ys P Q h = fails_more xs ys what h

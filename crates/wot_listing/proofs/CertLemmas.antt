@@ -9,10 +9,11 @@ use Rattle.wot_types.specs.Fields.{field, has_fewer}
 use Rattle.wot_types.specs.Listing.{Line, cert_checks, certifies, first_failing, sig_checks}
 use Rattle.wot_types.specs.Limits.{most_certs}
 use Rattle.wot_types.specs.Records.{class_at, class_of, is_good, is_kept_class, key_id, key_id_at}
+use Rattle.wot_types.proofs.LineChecks.{passes_more}
 use Rattle.wot_listing.specs.declared.error.LineError.{LineError}
 use Rattle.wot_listing.specs.declared.key_block.KeyBlock.{KeyBlock}
 use Rattle.wot_listing.specs.Answer.{Answers}
-use Rattle.wot_listing.proofs.AnswerLemmas.{error_at, error_more, passes_more}
+use Rattle.wot_listing.proofs.AnswerLemmas.{error_at, error_more}
 
 -- a signature that is kept, where what comes before its values passes
 module _ (id certs : ℕ) (line : Line) (class issuer : ℕ) (long : has_fewer 11 line ≡ false) (classed : class_of (field 11 line) ≡ Some class) (kept : is_kept_class class ≡ true) (issued : key_id (field 5 line) ≡ Some issuer) (other : (issuer == id) ≡ false) where

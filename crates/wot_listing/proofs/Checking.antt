@@ -7,6 +7,7 @@ use Rattle.std.specs.FinMap as finmap
 use Rattle.std.specs.Ordering.{eq_by_cmp, nat_cmp}
 use Rattle.std.proofs.lemmas.Cmp.{nat_cmp_total}
 use Rattle.std.proofs.lemmas.List.{length-map}
+use Rattle.std.proofs.Math.Bool.{or-false}
 use Rattle.wot_types.specs.declared.key.Key.{Key}
 use Rattle.wot_types.specs.declared.user.UserKind.{UserKind}
 use Rattle.wot_types.specs.declared.limit.Limit.TheVariants.{Users as UsersLimit}
@@ -18,11 +19,12 @@ use Rattle.wot_types.specs.Listing.{Line, begins_keyblock, block_id, blocks, cer
 use Rattle.wot_types.specs.Limits.{most_users}
 use Rattle.wot_types.specs.Records.{fingerprint_at, is_good, is_revoked_at, key_id_at, kind_of}
 use Rattle.wot_types.specs.Runs.{Run, alone}
+use Rattle.wot_types.proofs.RunEnds.{block_ends}
 use Rattle.wot_listing.specs.EndedRuns.{ended_runs}
 use Rattle.wot_listing.specs.Machine.{keyblock_of, checks_in, failing_in, in_open, is_unnamed, repeats_user, progress_of, users_of, with_block}
-use Rattle.wot_listing.proofs.RunsLemmas.{or_false, runs_split}
+use Rattle.wot_listing.proofs.RunsLemmas.{runs_split}
 use Rattle.wot_listing.proofs.Growing.{some_of_map}
-use Rattle.wot_listing.proofs.Stepping.{block_ends, users_are, with_block_is}
+use Rattle.wot_listing.proofs.Stepping.{users_are, with_block_is}
 
 or_turned : (a b c : Bool) → ((a || b) || c) ≡ (b || (a || c))
 or_turned true true c = refl
@@ -38,7 +40,7 @@ contains_insert m k v q = ap is_some (finmap.get-insert nat_cmp_total m k v q) �
 
 -- a key ID is among the keys where a block has it
 has_keys : (bs : List (Run Line)) (m : Keyring) (q : ℕ) → finmap.contains_key (fold with_keyblock m bs) q ≡ (finmap.contains_key m q || list_any (λ block. q == block_id block) bs)
-has_keys [] m q = sym (or_false (finmap.contains_key m q))
+has_keys [] m q = sym (or-false (finmap.contains_key m q))
 has_keys (block ∷ bs) m q = has_keys bs (with_keyblock m block) q
     ∙ ap (λ b. b || list_any (λ block. q == block_id block) bs) (contains_insert m (block_id block) _ q)
     ∙ or_turned (q == block_id block) (finmap.contains_key m q) (list_any (λ block. q == block_id block) bs)

@@ -1,5 +1,5 @@
 -- The first fault of a list of lines that grows at its end.
-use Rattle.std.proofs.Common.{◌≡◌, ℕ, true, false, cond, ◌+◌, ◌-◌, count_by, List, [], ◌∷◌, ◌++◌, length, Option, Some, None, Ok, Err, refl, sym, ap, ◌∙◌, arith, append_assoc}
+use Rattle.std.proofs.Common.{◌≡◌, true, false, cond, ◌+◌, ◌-◌, count_by, List, [], ◌∷◌, ◌++◌, length, Option, Some, None, Ok, Err, refl, sym, ap, ◌∙◌, append_assoc}
 use Rattle.std.specs.Prelude.{option_map}
 use Rattle.std.specs.Option.{option_or}
 use Rattle.std.specs.FinMap as finmap
@@ -9,6 +9,8 @@ use Rattle.wot_types.specs.declared.fault.ListingWhat.{ListingWhat}
 use Rattle.wot_types.specs.declared.fault.ListingWhat.TheVariants.{NoFingerprint}
 use Rattle.wot_types.specs.Listing.{Line, Spells, failing, fault, fault_after, fault_at, fault_at_end, is_sig, kept_count, lacks_fingerprint, open_block}
 use Rattle.wot_types.specs.Numbers.{capped}
+use Rattle.wot_types.proofs.Optionals.{or_none, or_assoc}
+use Rattle.wot_types.proofs.Capped.{capped_add}
 use Rattle.wot_listing.specs.declared.error.ListingError.{ListingError}
 use Rattle.wot_listing.specs.declared.error.ListingError.TheVariants.{Fault}
 use Rattle.wot_listing.specs.declared.progress.Progress.{Progress}
@@ -16,14 +18,6 @@ use Rattle.wot_listing.specs.Machine.{after_block, failing_in, is_unnamed, after
 use Rattle.wot_listing.specs.Reading.{reading, unless_fault}
 use Rattle.wot_listing.proofs.Checking.{all_keys_are, failing_is, unnamed_is}
 use Rattle.wot_listing.proofs.Stepping.{progress_next}
-
-or_none : {A : Type 0} (o : Option A) → option_or o None ≡ o
-or_none None = refl
-or_none (Some x) = refl
-
-or_assoc : {A : Type 0} (a b c : Option A) → option_or a (option_or b c) ≡ option_or (option_or a b) c
-or_assoc None b c = refl
-or_assoc (Some x) b c = refl
 
 -- the fault of a line after these
 abbrev fault_of : List Line → Line → Option ListingFault
@@ -41,12 +35,9 @@ fault_after_more before (first ∷ lines) line =
 pub fault_more : (lines : List Line) (line : Line) → fault (lines ++ line ∷ []) ≡ option_or (fault lines) (fault_of lines line)
 fault_more lines line = fault_after_more [] lines line
 
-capped_line : (n : ℕ) → capped (n + 1) ≡ capped (capped n + 1)
-capped_line n = omega arith
-
 line_number : (lines : List Line) → capped (length lines + 1) ≡ capped ((progress_of lines).lines + 1)
 unfolding progress_of
-line_number lines = capped_line (length lines)
+line_number lines = sym (capped_add (length lines) 1)
 
 -- a reader that has read these lines without a fault
 pub record Reads (lines : List Line) (s : Progress) : Type 0 where

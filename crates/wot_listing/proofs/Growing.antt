@@ -15,22 +15,11 @@ use Rattle.wot_types.specs.Listing.{Line, begins_user, cert_count, certifies, ce
 use Rattle.wot_types.specs.Records as record_of
 use Rattle.wot_types.specs.Records.{cert_of, class_at, fingerprint_at, is_fingerprint_record, is_good, is_kept_class, is_signature, is_subkey, is_user_id, key_id_at, kind_of}
 use Rattle.wot_types.specs.Runs.{Run, alone, up_to}
+use Rattle.wot_types.proofs.RunEnds.{user_ends}
 use Rattle.wot_listing.specs.declared.key_block.KeyBlock.{KeyBlock}
 use Rattle.wot_listing.specs.EndedRuns.{ended_runs}
 use Rattle.wot_listing.specs.Machine.{and_cert, at_sub, keyblock_of, users_of, with_cert, with_fpr, with_user}
-use Rattle.wot_listing.proofs.RunsLemmas.{Ends, any_more, ended_more, longer, open_more, runs_split, up_to_more}
-
-user_ends_kind : (k : RecordKind) → is_user_id k ≡ true → record_of.ends_user k ≡ true
-user_ends_kind Primary h = h
-user_ends_kind Fingerprint h = h
-user_ends_kind (UserId kind) h = h
-user_ends_kind Signature h = h
-user_ends_kind Subkey h = refl
-user_ends_kind Foreign h = h
-user_ends_kind Other h = h
-
-pub user_ends : Ends begins_user ends_user
-user_ends line h = user_ends_kind (kind_of line) h
+use Rattle.wot_listing.proofs.RunsLemmas.{any_more, ended_more, longer, open_more, runs_split, up_to_more}
 
 -- the fingerprint's record of a longer block
 found_more : (X : Option Line) (line : Line) (f : Bool) → option_or X (cond f (Some line) None) ≡ cond (is_none X && f) (Some line) X

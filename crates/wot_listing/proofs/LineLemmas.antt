@@ -6,12 +6,13 @@ use Rattle.wot_types.specs.declared.fault.ListingWhat.TheVariants.{NoFingerprint
 use Rattle.wot_types.specs.declared.record.RecordKind.TheVariants.{Primary}
 use Rattle.wot_types.specs.Listing.{Check, Line, first_failing, pub_checks}
 use Rattle.wot_types.specs.Records.{key_id_at}
+use Rattle.wot_types.proofs.LineChecks.{passes_more}
 use Rattle.wot_listing.specs.declared.error.LineError.{LineError}
 use Rattle.wot_listing.specs.declared.primary.Primary.{Primary as PrimaryRecord}
 use Rattle.wot_listing.specs.declared.progress.Progress.{Progress}
 use Rattle.wot_listing.specs.Answer.{Answers}
 use Rattle.wot_listing.specs.Machine.{after_block, checks_in, is_unnamed, primary_of}
-use Rattle.wot_listing.proofs.AnswerLemmas.{error_after, error_more, passes_more}
+use Rattle.wot_listing.proofs.AnswerLemmas.{error_after, error_more}
 
 pub passed_one : (b : Bool) (w : ListingWhat) → cond b (Some w) None ≡ None → b ≡ false
 passed_one true w e = cc

@@ -3,20 +3,11 @@ use Rattle.std.proofs.Common.{◌≡◌, Bool, true, false, cond, ◌||◌, ◌&
 use Rattle.std.specs.Prelude.{option_map, option_to_list}
 use Rattle.std.specs.List.{list_any}
 use Rattle.std.proofs.lemmas.List.Folds.{list_any-append}
+use Rattle.std.proofs.lemmas.Bool.{or_parts}
+use Rattle.std.proofs.Math.Bool.{or-false}
 use Rattle.wot_types.specs.Runs.{Run, alone, open_run, runs, up_to}
+use Rattle.wot_types.proofs.RunEnds.{Ends, begins_not}
 use Rattle.wot_listing.specs.EndedRuns.{ended_runs}
-
-pub or_false : (b : Bool) → (b || false) ≡ b
-or_false true = refl
-or_false false = refl
-
-pub left_false : (a b : Bool) → (a || b) ≡ false → a ≡ false
-left_false true b h = h
-left_false false b h = refl
-
-pub right_false : (a b : Bool) → (a || b) ≡ false → b ≡ false
-right_false true b h = cc
-right_false false b h = h
 
 module _ {X : Type 0} where
   -- a run with one more element
@@ -24,7 +15,7 @@ module _ {X : Type 0} where
   longer x run = record run { rest = run.rest ++ x ∷ [] }
 
   pub any_more : (p : X → Bool) (xs : List X) (y : X) → list_any p (xs ++ y ∷ []) ≡ (list_any p xs || p y)
-  any_more p xs y = list_any-append p xs (y ∷ []) ∙ ap (λ b. list_any p xs || b) (or_false (p y))
+  any_more p xs y = list_any-append p xs (y ∷ []) ∙ ap (λ b. list_any p xs || b) (or-false (p y))
 
   cons_cond : (x : X) (b : Bool) (l m : List X) → x ∷ cond b l m ≡ cond b (x ∷ l) (x ∷ m)
   cons_cond x true l m = refl
@@ -38,32 +29,22 @@ module _ {X : Type 0} where
     | false ↦ ap (λ l. x ∷ l) (up_to_more ends xs y) ∙ cons_cond x (list_any ends xs || ends y) (up_to ends xs) (up_to ends xs ++ y ∷ [])
   ]
 
-  -- what begins a run ends the one before
-  abbrev pub Ends : (X → Bool) → (X → Bool) → Type 0
-  Ends begins ends = (x : X) → begins x ≡ true → ends x ≡ true
-
-  begins_not : (begins ends : X → Bool) → Ends begins ends → (x : X) → ends x ≡ false → begins x ≡ false
-  begins_not begins ends h x e = elim (begins x) as (λ b. begins x ≡ b → b ≡ false) [
-    | true ↦ λ p. absurd (let t = h x p in let f : true ≡ false = sym t ∙ e in cc)
-    | false ↦ λ p. refl
-  ] refl
-
   -- where nothing ends a run, the elements are one
   up_to_none : (ends : X → Bool) (xs : List X) → list_any ends xs ≡ false → up_to ends xs ≡ xs
   up_to_none ends [] h = refl
-  up_to_none ends (x ∷ xs) h = rw (left_false (ends x) (list_any ends xs) h) (ap (λ l. x ∷ l) (up_to_none ends xs (right_false (ends x) (list_any ends xs) h)))
+  up_to_none ends (x ∷ xs) h = rw (or_parts (ends x) (list_any ends xs) h).0 (ap (λ l. x ∷ l) (up_to_none ends xs (or_parts (ends x) (list_any ends xs) h).1))
 
   runs_none : (begins ends : X → Bool) → Ends begins ends → (xs : List X) → list_any ends xs ≡ false → runs begins ends xs ≡ []
   runs_none begins ends e [] h = refl
-  runs_none begins ends e (x ∷ xs) h = rw (begins_not begins ends e x (left_false (ends x) (list_any ends xs) h)) (runs_none begins ends e xs (right_false (ends x) (list_any ends xs) h))
+  runs_none begins ends e (x ∷ xs) h = rw (begins_not begins ends e x (or_parts (ends x) (list_any ends xs) h).0) (runs_none begins ends e xs (or_parts (ends x) (list_any ends xs) h).1)
 
   ended_none : (begins ends : X → Bool) → Ends begins ends → (xs : List X) → list_any ends xs ≡ false → ended_runs begins ends xs ≡ []
   ended_none begins ends e [] h = refl
-  ended_none begins ends e (x ∷ xs) h = rw (begins_not begins ends e x (left_false (ends x) (list_any ends xs) h)) (ended_none begins ends e xs (right_false (ends x) (list_any ends xs) h))
+  ended_none begins ends e (x ∷ xs) h = rw (begins_not begins ends e x (or_parts (ends x) (list_any ends xs) h).0) (ended_none begins ends e xs (or_parts (ends x) (list_any ends xs) h).1)
 
   open_none : (begins ends : X → Bool) → Ends begins ends → (xs : List X) → list_any ends xs ≡ false → open_run begins ends xs ≡ None
   open_none begins ends e [] h = refl
-  open_none begins ends e (x ∷ xs) h = rw (begins_not begins ends e x (left_false (ends x) (list_any ends xs) h)) (open_none begins ends e xs (right_false (ends x) (list_any ends xs) h))
+  open_none begins ends e (x ∷ xs) h = rw (begins_not begins ends e x (or_parts (ends x) (list_any ends xs) h).0) (open_none begins ends e xs (or_parts (ends x) (list_any ends xs) h).1)
 
   module _ (begins ends : X → Bool) (e : Ends begins ends) where
     split_at : (x : X) (xs : List X) → runs begins ends xs ≡ ended_runs begins ends xs ++ option_to_list (open_run begins ends xs)

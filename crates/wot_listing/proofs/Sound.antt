@@ -3,7 +3,7 @@ use Rattle.std.proofs.Common.{◌≡◌, ℕ, Bool, true, false, cond, not, ◌+
 use Rattle.std.specs.Prelude.{◌==◌, All, nat_le, nat_lt, option_map, option_to_list, unwrap_or, if◌then◌else◌}
 use Rattle.std.specs.List.{list_all, list_any}
 use Rattle.std.specs.Result.{result_ok}
-use Rattle.std.proofs.lemmas.Bool.{false≢true}
+use Rattle.std.proofs.lemmas.Bool.{false≢true, and_parts, not-true, or_parts}
 use Rattle.std.proofs.lemmas.Bool.Decides.{Decides-eqb, nat_tests}
 use Rattle.std.proofs.lemmas.List.{append-nil, length-append}
 use Rattle.std.proofs.lemmas.List.Elements.{All-cons, All-head, All-nil, All-push, All-tail}
@@ -26,7 +26,6 @@ use Rattle.wot_types.specs.Records.{cert_of, class_at, class_of, fingerprint_at,
 use Rattle.wot_types.specs.WellFormed.{AreDistinctUsers, IsCert, IsScope, IsUser}
 use Rattle.wot_listing.specs.declared.key_block.KeyBlock.{KeyBlock}
 use Rattle.wot_listing.specs.Machine.{and_cert, at_sub, at_primary, primary_of, repeats_user, users_of, with_cert, with_fpr, with_user}
-use Rattle.wot_listing.proofs.RunsLemmas.{left_false, right_false}
 
 -- the fingerprint of a block, where it has come
 abbrev pub IsFpr : ℕ → Option (List ℕ) → Type 0
@@ -54,10 +53,6 @@ pub record IsSoundBlock (b : KeyBlock) : Type 0 where
 not_false : (b : Bool) → not b ≡ false → b ≡ true
 not_false true h = refl
 not_false false h = cc
-
-not_true : (b : Bool) → not b ≡ true → b ≡ false
-not_true true h = cc
-not_true false h = refl
 
 -- the tests of a check that passes, and of those after it
 pub holds : (b : Bool) (w : ListingWhat) (rest : Option ListingWhat) → cond b (Some w) rest ≡ None → (b ≡ false) × (rest ≡ None)
@@ -119,8 +114,8 @@ with_fpr_sound line b h passes =
 distinct_push : (users : List User) (new : User) → AreDistinctUsers users → list_any (λ earlier. is_same_user earlier new) users ≡ false → AreDistinctUsers (users ++ new ∷ [])
 distinct_push [] new h e = (All-nil _, tt)
 distinct_push (user ∷ users) new h e = (
-  All-push (λ other. is_same_user user other ≡ false) users new h.0 (left_false (is_same_user user new) (list_any (λ earlier. is_same_user earlier new) users) e),
-  distinct_push users new h.1 (right_false (is_same_user user new) (list_any (λ earlier. is_same_user earlier new) users) e),
+  All-push (λ other. is_same_user user other ≡ false) users new h.0 (or_parts (is_same_user user new) (list_any (λ earlier. is_same_user earlier new) users) e).0,
+  distinct_push users new h.1 (or_parts (is_same_user user new) (list_any (λ earlier. is_same_user earlier new) users) e).1,
 )
 
 below : (a b : ℕ) → nat_le a b ≡ false → b < a
@@ -196,10 +191,6 @@ cert_added b cert there c room h = record {
   few_certs = omega (arith, room);
 }
 
-pub both_true : (a b : Bool) → (a && b) ≡ true → (a ≡ true) × (b ≡ true)
-both_true true b e = (refl, e)
-both_true false b e = cc
-
 scope_at : (text : List ℕ) (t : Bool) → (length text == 0) ≡ t → length text ≤ longest_scope → IsScope (if t then None else Some text)
 scope_at text true e h = tt
 scope_at text false e h = (grind (arith, nat_tests), h)
@@ -207,9 +198,9 @@ scope_at text false e h = (grind (arith, nat_tests), h)
 -- a signature that is kept, and whose checks pass
 pub cert_sound : (line : Line) (id certs : ℕ) → certifies id line ≡ true → first_failing (sig_checks id certs line) ≡ None → IsCert id (cert_of line) × (certs < most_certs)
 cert_sound line id certs certified passes =
-    let outer = both_true (is_good line && is_kept_class (class_at line)) (not (key_id_at line == id)) certified in
-    let kept = (both_true (is_good line) (is_kept_class (class_at line)) outer.0).1 in
-    let other : (key_id_at line == id) ≡ false = not_true (key_id_at line == id) outer.1 in
+    let outer = and_parts (is_good line && is_kept_class (class_at line)) (not (key_id_at line == id)) certified in
+    let kept = (and_parts (is_good line) (is_kept_class (class_at line)) outer.0).1 in
+    let other : (key_id_at line == id) ≡ false = not-true (key_id_at line == id) outer.1 in
     let long = holds (has_fewer 11 line) _ _ passes in
     let classed = holds (is_none (class_of (field 11 line))) _ _ long.1 in
     let issued = holds (is_none (key_id (field 5 line))) _ _ (subst (λ t. first_failing (if t then (is_none (key_id (field 5 line)), BadHex) ∷ issued_checks id certs line else []) ≡ None) kept classed.1) in

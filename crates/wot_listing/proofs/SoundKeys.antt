@@ -1,7 +1,6 @@
 -- The keys of a listing without a fault are well formed, each under the key ID of its fingerprint.
 use Rattle.std.proofs.Common.{◌≡◌, ℕ, Bool, true, false, cond, not, ◌+◌, ◌&&◌, List, [], ◌∷◌, ◌++◌, map, length, Option, Some, None, is_some, is_none, refl, sym, ap, ◌∙◌, subst, arith}
-use Rattle.std.specs.Prelude.{◌==◌, All, T, nat_le, option_map, unwrap_or, if◌then◌else◌}
-use Rattle.std.specs.Option.{option_or}
+use Rattle.std.specs.Prelude.{◌==◌, All, nat_le, option_map, unwrap_or, if◌then◌else◌}
 use Rattle.std.specs.Cmp.{unsigned_tied}
 use Rattle.std.specs.FinMap as finmap
 use Rattle.std.specs.FinMap.Entries.{below_all, find, is_sorted}
@@ -14,6 +13,7 @@ use Rattle.std.proofs.lemmas.Bool.Decides.{Decides-eqb}
 use Rattle.std.proofs.lemmas.Cmp.{nat_cmp_total}
 use Rattle.std.proofs.lemmas.List.Elements.{All-cons, All-head, All-map, All-nil, All-tail}
 use Rattle.std.proofs.lemmas.Map.Keys.{IsStrictlyIncreasing-from_sorted}
+use Rattle.std.proofs.lemmas.Bool.{and_parts}
 use Rattle.wot_types.specs.declared.key.Key.{Key}
 use Rattle.wot_types.specs.declared.user.UserKind.{UserKind}
 use Rattle.wot_types.specs.declared.fault.ListingFault.{ListingFault}
@@ -29,12 +29,14 @@ use Rattle.wot_types.specs.Limits.{most_users}
 use Rattle.wot_types.specs.Records.{cert_of, class_at, is_good, is_kept_class, key_id_at, kind_of}
 use Rattle.wot_types.specs.Accepted.{AreImportable}
 use Rattle.wot_types.specs.WellFormed.{IsUser, IsWellFormed}
+use Rattle.wot_types.proofs.Optionals.{both_none, map_none}
+use Rattle.wot_types.proofs.Tests.{true_from_T}
 use Rattle.wot_listing.specs.declared.key_block.KeyBlock.{KeyBlock}
 use Rattle.wot_listing.specs.declared.progress.Progress.{Progress}
 use Rattle.wot_listing.specs.Machine.{at_sub, checks_in, after_kind, key_at_end, in_open, is_kept_in, is_unnamed, after_line, repeats_user, progress_of, users_of, with_block, with_cert, with_fpr, with_sig, with_user}
 use Rattle.wot_listing.proofs.Checking.{all_keys_are, failing_is, unnamed_is}
 use Rattle.wot_listing.proofs.Failing.{fault_more}
-use Rattle.wot_listing.proofs.Sound.{IsFpr, IsSoundBlock, both_true, cert_added, cert_sound, fresh_sound, holds, sub_sound, user_sound, with_fpr_sound}
+use Rattle.wot_listing.proofs.Sound.{IsFpr, IsSoundBlock, cert_added, cert_sound, fresh_sound, holds, sub_sound, user_sound, with_fpr_sound}
 use Rattle.wot_listing.proofs.Stepping.{by_lines, progress_next}
 
 -- a key in its place
@@ -112,8 +114,8 @@ sig_fed : (s : Progress) (line : Line) (o : Option KeyBlock) (t : Bool) → s.bl
 sig_fed s line o false e k h passes = record { keys = h.keys; block = h.block }
 sig_fed s line None true e k h passes = cc
 sig_fed s line (Some b) true e k h passes =
-    let kept = both_true (is_some b.user) (certifies b.primary.id line) k in
-    let good = (both_true (is_good line) (is_kept_class (class_at line)) (both_true (is_good line && is_kept_class (class_at line)) (not (key_id_at line == b.primary.id)) kept.1).0).0 in
+    let kept = and_parts (is_some b.user) (certifies b.primary.id line) k in
+    let good = (and_parts (is_good line) (is_kept_class (class_at line)) (and_parts (is_good line && is_kept_class (class_at line)) (not (key_id_at line == b.primary.id)) kept.1).0).0 in
     let checks : first_failing (if is_some b.user && is_good line then sig_checks b.primary.id b.certs line else []) ≡ first_failing (sig_checks b.primary.id b.certs line) = (λ i. first_failing (if kept.0 i && good i then sig_checks b.primary.id b.certs line else [])) in
     let cert = cert_sound line b.primary.id b.certs kept.1 (sym checks ∙ passes) in
     record {
@@ -130,21 +132,13 @@ fed_sound Subkey s line h passes = record { keys = h.keys; block = sub_fed s.blo
 fed_sound Signature s line h passes = sig_fed s line s.block (is_kept_in s.block line) refl refl h passes
 fed_sound Other s line h passes = h
 
-pub or_both : {A : Type 0} (a b : Option A) → option_or a b ≡ None → (a ≡ None) × (b ≡ None)
-or_both None b e = (refl, e)
-or_both (Some x) b e = cc
-
-map_none : {A B : Type 0} (f : A → B) (o : Option A) → option_map f o ≡ None → o ≡ None
-map_none f None e = refl
-map_none f (Some x) e = cc
-
 nothing_kept : IsSound (progress_of [])
 unfolding progress_of
 nothing_kept = record { keys = λ q key e. absurd (let f : ◌≡◌ {A = Option Key} None (Some key) = sym (finmap.get-empty nat_cmp q) ∙ e in cc); block = tt }
 
 line_sound : (lines : List Line) (line : Line) → (fault lines ≡ None → IsSound (progress_of lines)) → fault (lines ++ line ∷ []) ≡ None → IsSound (progress_of (lines ++ line ∷ []))
 line_sound lines line ih e =
-    let parts = or_both (fault lines) (option_map (fault_at (length lines + 1)) (failing lines line)) (sym (fault_more lines line) ∙ e) in
+    let parts = both_none (fault lines) (option_map (fault_at (length lines + 1)) (failing lines line)) (sym (fault_more lines line) ∙ e) in
     let passes = sym (failing_is lines line) ∙ map_none (fault_at (length lines + 1)) (failing lines line) parts.1 in
     let after_kind = fed_sound (kind_of line) (progress_of lines) line (ih parts.0) passes in
     let after : IsSound (after_line (progress_of lines) line) = record { keys = after_kind.keys; block = after_kind.block } in
@@ -160,7 +154,7 @@ at_end false f e = refl
 
 all_sound : (lines : List Line) → fault_at_end lines ≡ None → AreSoundKeys (keys_of (blocks lines))
 all_sound lines e =
-    let parts = or_both (fault lines) (if lacks_fingerprint (open_block lines) then Some (fault_at (length lines + 1) NoFingerprint) else None) e in
+    let parts = both_none (fault lines) (if lacks_fingerprint (open_block lines) then Some (fault_at (length lines + 1) NoFingerprint) else None) e in
     let named = sym (unnamed_is lines) ∙ (holds (lacks_fingerprint (open_block lines)) NoFingerprint None (at_end (lacks_fingerprint (open_block lines)) (fault_at (length lines + 1) NoFingerprint) parts.1)).0 in
     let s = sound lines parts.0 in
     subst AreSoundKeys (sym (all_keys_are lines)) (closed_sound (progress_of lines).keys (progress_of lines).block s.keys s.block named)
@@ -177,7 +171,7 @@ differs x y e = ap is_eq (less_at (nat_cmp x y) e)
 not_below : (x : ℕ) (es : List (ℕ × Key)) → below_all nat_cmp x es ≡ true → find nat_cmp x es ≡ None
 not_below x [] h = refl
 not_below x (e ∷ es) h =
-    let parts = both_true (is_lt (nat_cmp x e.0)) (below_all nat_cmp x es) h in
+    let parts = and_parts (is_lt (nat_cmp x e.0)) (below_all nat_cmp x es) h in
     ap (λ t. cond t (Some e.1) (find nat_cmp x es)) (differs x e.0 parts.0) ∙ not_below x es parts.1
 
 later : (t : Bool) (q x : ℕ) (v key : Key) (o p : Option Key) → eq_by_cmp nat_cmp q x ≡ t → (q ≡ x → o ≡ p) → p ≡ None → o ≡ Some key → cond t (Some v) o ≡ Some key
@@ -187,7 +181,7 @@ later false q x v key o p e same none found = found
 each_sound : (es : List (ℕ × Key)) → is_sorted nat_cmp es ≡ true → ((q : ℕ) (key : Key) → find nat_cmp q es ≡ Some key → IsSoundKey q key) → All (λ e. IsSoundKey e.0 e.1) es
 each_sound [] h f = All-nil _
 each_sound (e ∷ es) h f =
-    let parts = both_true (below_all nat_cmp e.0 es) (is_sorted nat_cmp es) h in
+    let parts = and_parts (below_all nat_cmp e.0 es) (is_sorted nat_cmp es) h in
     let self = unsigned_tied e.0 e.0 ∙ (Decides-eqb e.0 e.0).1 refl in
     All-cons (λ e. IsSoundKey e.0 e.1) e es
     (f e.0 e.1 (ap (λ t. cond t (Some e.1) (find nat_cmp e.0 es)) self))
@@ -195,16 +189,12 @@ each_sound (e ∷ es) h f =
 
 all_less : (x : ℕ) (es : List (ℕ × Key)) → below_all nat_cmp x es ≡ true → AllByRecursion (λ y. nat_cmp x y ≡ Less) (map (λ e. e.0) es)
 all_less x [] h = tt
-all_less x (e ∷ es) h = let parts = both_true (is_lt (nat_cmp x e.0)) (below_all nat_cmp x es) h in (less_at (nat_cmp x e.0) parts.0, all_less x es parts.1)
+all_less x (e ∷ es) h = let parts = and_parts (is_lt (nat_cmp x e.0)) (below_all nat_cmp x es) h in (less_at (nat_cmp x e.0) parts.0, all_less x es parts.1)
 
 strictly : (es : List (ℕ × Key)) → is_sorted nat_cmp es ≡ true → IsStrictlySortedBy nat_cmp (map (λ e. e.0) es)
 unfolding IsStrictlySortedBy
 strictly [] h = tt
-strictly (e ∷ es) h = let parts = both_true (below_all nat_cmp e.0 es) (is_sorted nat_cmp es) h in (all_less e.0 es parts.0, strictly es parts.1)
-
-when_true : (b : Bool) → T b → b ≡ true
-when_true true h = refl
-when_true false h = absurd h
+strictly (e ∷ es) h = let parts = and_parts (below_all nat_cmp e.0 es) (is_sorted nat_cmp es) h in (all_less e.0 es parts.0, strictly es parts.1)
 
 ids_are : (es : List (ℕ × Key)) → All (λ e. IsSoundKey e.0 e.1) es → map (λ key. key_id_of key.fpr) (map (λ e. e.1) es) ≡ map (λ e. e.0) es
 ids_are [] h = refl
@@ -216,7 +206,7 @@ ids_are (e ∷ es) h =
 good_values : (m : Keyring) → AreSoundKeys m → AreImportable (finmap.values m)
 good_values m h =
     let es = finmap.entries m in
-    let sorted = when_true (is_sorted nat_cmp es) (finmap.entries_sorted m) in
+    let sorted = true_from_T (is_sorted nat_cmp es) (finmap.entries_sorted m) in
     let each = each_sound es sorted (λ q key found. h q key (finmap.get-entries m q ∙ found)) in
     record {
       each = All-map IsWellFormed (λ e. e.1) es (λ k d below. (each k d below).0);

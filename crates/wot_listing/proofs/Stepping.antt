@@ -12,24 +12,14 @@ use Rattle.wot_types.specs.Numbers.{capped}
 use Rattle.wot_types.specs.Records as record_of
 use Rattle.wot_types.specs.Records.{cert_of, fingerprint_at, is_primary, is_signature, kind_of}
 use Rattle.wot_types.specs.Runs.{Run, alone}
+use Rattle.wot_types.proofs.RunEnds.{block_ends, user_ends}
+use Rattle.wot_types.proofs.Capped.{capped_add}
 use Rattle.wot_listing.specs.declared.key_block.KeyBlock.{KeyBlock}
 use Rattle.wot_listing.specs.declared.progress.Progress.{Progress}
 use Rattle.wot_listing.specs.EndedRuns.{ended_runs}
 use Rattle.wot_listing.specs.Machine.{keyblock_of, after_kind, key_at_end, at_primary, primary_of, is_kept_in, after_line, progress_of, users_of, with_block, with_cert, with_sig}
-use Rattle.wot_listing.proofs.RunsLemmas.{Ends, ended_more, longer, open_more, runs_split}
-use Rattle.wot_listing.proofs.Growing.{block_fed, block_more, cert_count_more, map_cond, map_to_list, some_of_map, user_ends}
-
-block_ends_kind : (k : RecordKind) → is_primary k ≡ true → record_of.ends_keyblock k ≡ true
-block_ends_kind Primary h = refl
-block_ends_kind Fingerprint h = h
-block_ends_kind (UserId kind) h = h
-block_ends_kind Signature h = h
-block_ends_kind Subkey h = h
-block_ends_kind Foreign h = refl
-block_ends_kind Other h = h
-
-pub block_ends : Ends begins_keyblock ends_keyblock
-block_ends line h = block_ends_kind (kind_of line) h
+use Rattle.wot_listing.proofs.RunsLemmas.{ended_more, longer, open_more, runs_split}
+use Rattle.wot_listing.proofs.Growing.{block_fed, block_more, cert_count_more, map_cond, map_to_list, some_of_map}
 
 -- an induction over lists that grow at their end
 from_front : (P : List Line → Type 0) → ((lines : List Line) (line : Line) → P lines → P (lines ++ line ∷ []))
@@ -158,12 +148,6 @@ kept_le_more lines line h = rw (kept_more lines line _ refl, sigs_more lines lin
 pub kept_le : (lines : List Line) → kept_count lines ≤ count_by is_sig lines
 kept_le = by_lines (λ lines. kept_count lines ≤ count_by is_sig lines) (omega arith) kept_le_more
 
-capped_one : (n : ℕ) → capped (n + 1) ≡ capped (capped n + 1)
-capped_one n = omega arith
-
-capped_add : (n m : ℕ) → capped (n + m) ≡ capped (capped n + m)
-capped_add n m = omega arith
-
 stands : (n : ℕ) → capped n ≡ n → capped (n + 0) ≡ n
 stands n h = ap capped (add-zero n) ∙ h
 
@@ -186,10 +170,10 @@ progress_by : (lines : List Line) (line : Line) (k : RecordKind) → kind_of lin
 unfolding progress_of
 progress_by lines line k e =
     let o = option_map keyblock_of (open_block lines) in
-    let count = ap capped (length-append lines (line ∷ [])) ∙ capped_one (length lines) in
+    let count = ap capped (length-append lines (line ∷ [])) ∙ sym (capped_add (length lines) 1) in
     let keys = keys_more lines line ∙ ap (λ t. cond (record_of.ends_keyblock t) (with_block (keys_of (ended_runs begins_keyblock ends_keyblock lines)) o) (keys_of (ended_runs begins_keyblock ends_keyblock lines))) e in
     let block = block_at lines line k e in
-    let kept = ap capped (kept_more lines line k e) ∙ capped_add (kept_count lines) (cond (is_signature k && is_kept_in o line) 1 0) in
+    let kept = ap capped (kept_more lines line k e) ∙ sym (capped_add (kept_count lines) (cond (is_signature k && is_kept_in o line) 1 0)) in
     let passed = (λ i. capped (sigs_more lines line k e i - kept_more lines line k e i)) ∙ passed_add (is_signature k) (is_kept_in o line) (kept_count lines) (count_by is_sig lines) (kept_le lines) in
     λ i. record { lines = count i; keys = keys i; block = block i; kept = kept i; passed = passed i }
 

@@ -7,9 +7,9 @@ use Rattle.wot_types.specs.declared.limit.Limit.TheVariants.{Users as UsersLimit
 use Rattle.wot_types.specs.declared.fault.ListingWhat.TheVariants.{LimitReached, RepeatedUser}
 use Rattle.wot_types.specs.Listing.{Check, Line, first_failing, user_at, user_checks}
 use Rattle.wot_types.specs.Limits.{most_users}
+use Rattle.wot_types.proofs.LineChecks.{passes_more}
 use Rattle.wot_listing.specs.declared.key_block.KeyBlock.{KeyBlock}
 use Rattle.wot_listing.specs.Machine.{repeats_user, users_of}
-use Rattle.wot_listing.proofs.AnswerLemmas.{passes_more}
 
 -- the checks of a user ID in its block
 abbrev pub block_checks : KeyBlock → UserKind → Line → List Check

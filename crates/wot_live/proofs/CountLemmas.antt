@@ -9,7 +9,7 @@ use Rattle.wot_types.specs.Candidates.{RowMap}
 use Rattle.wot_types.specs.Keyring.{Keyring}
 use Rattle.wot_types.specs.Levels.{rows_of}
 use Rattle.wot_types.specs.Selection.{spots_from}
-use Rattle.wot_levels.proofs.Walks.{get-map_by}
+use Rattle.wot_types.proofs.MapBy.{get-map_by}
 use Rattle.wot_live.specs.Counts.{count_at, count_in, counts_of, counts_over, key_counts, spot_count}
 
 pub append_more : {X : Type 0} (xs : List X) (y : X) (ys : List X) → (xs ++ y ∷ []) ++ ys ≡ xs ++ y ∷ ys

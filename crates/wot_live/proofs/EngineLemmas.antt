@@ -11,7 +11,7 @@ use Rattle.wot_types.specs.Candidates.{RowMap}
 use Rattle.wot_types.specs.Levels.{map_by, rows_of, rows_upto}
 use Rattle.wot_types.specs.State.{opening_options, opening_state}
 use Rattle.wot_types.specs.Soonest.{none_at_0}
-use Rattle.wot_levels.proofs.Walks.{get-map_by}
+use Rattle.wot_types.proofs.MapBy.{get-map_by}
 use Rattle.wot_live.specs.Counts.{CountMap, key_counts}
 use Rattle.wot_live.specs.Follows.{Follows}
 

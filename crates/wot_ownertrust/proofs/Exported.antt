@@ -28,13 +28,14 @@ use Rattle.wot_types.specs.Lines.{is_blank, is_comment, is_newline, is_space, li
 use Rattle.wot_types.specs.Numbers.{capped, number}
 use Rattle.wot_types.specs.Ownertrust.{OwnertrustMap, is_unset, ownertrust_line, ownertrust_number, ownertrust_text, with_entries, with_ownertrust}
 use Rattle.wot_types.specs.OwnertrustText.{entry_by, entry_of_fields, entry_of_line, entry_with, fault_of, listed_entries, ownertrust_fault, ownertrust_fault_after, ownertrust_of_number, text_entries, with_line_entry}
+use Rattle.wot_types.proofs.Optionals.{or_none}
+use Rattle.wot_types.proofs.Tests.{first_part, second_part}
 use Rattle.wot_types.proofs.FinMaps.{All-insert, no_entries}
 use Rattle.wot_types.proofs.Fingerprints.{fpr_cmp_total, fpr_cmp-IsAntisymmetric}
 use Rattle.wot_types.proofs.ListEnds.{front_of_more, last_of_more}
 use Rattle.wot_types.proofs.Removals.{All-without}
 use Rattle.wot_ownertrust.specs.Kept.{IsKept}
 use Rattle.wot_ownertrust.specs.Reading.{entry_of}
-use Rattle.wot_ownertrust.proofs.Texts.{first, or_none, second}
 
 -- ---- the bytes of a field
 
@@ -216,14 +217,14 @@ get_inserted : (q : List ℕ) (es : Entries) (m : OwnertrustMap) → T (is_sorte
     → finmap.get (inserted m es) q ≡ option_or (finmap.find fpr_cmp q es) (finmap.get m q)
 get_inserted q [] m h = refl
 get_inserted q (e ∷ es) m h =
-    get_inserted q es (finmap.insert m e.0 e.1) (second (below_all fpr_cmp e.0 es) (is_sorted fpr_cmp es) h)
+    get_inserted q es (finmap.insert m e.0 e.1) (second_part (below_all fpr_cmp e.0 es) (is_sorted fpr_cmp es) h)
     ∙ ap (option_or (finmap.find fpr_cmp q es)) (finmap.get-insert fpr_cmp_total m e.0 e.1 q)
     ∙ at (fpr_cmp q e.0) refl
   where
     at : (r : Ordering) → fpr_cmp q e.0 ≡ r → option_or (finmap.find fpr_cmp q es) (cond (is_eq r) (Some e.1) (finmap.get m q)) ≡ option_or (cond (is_eq r) (Some e.1) (finmap.find fpr_cmp q es)) (finmap.get m q)
     at Less is = refl
     at Equal is =
-        let below = subst (λ k. T (below_all fpr_cmp k es)) (sym (fpr_cmp-IsAntisymmetric q e.0 is)) (first (below_all fpr_cmp e.0 es) (is_sorted fpr_cmp es) h) in
+        let below = subst (λ k. T (below_all fpr_cmp k es)) (sym (fpr_cmp-IsAntisymmetric q e.0 is)) (first_part (below_all fpr_cmp e.0 es) (is_sorted fpr_cmp es) h) in
         ap (λ found. option_or found (Some e.1)) (absent q es below)
     at Greater is = refl
 

@@ -1,7 +1,8 @@
 -- The fields of a line of an ownertrust text, and what an entry of it sets.
-use Rattle.std.proofs.Common.{◌≡◌, ℕ, zero, suc, ◌≤◌, ◌-◌, Bool, true, false, cond, List, [], ◌∷◌, length, Option, Some, None, Result, Ok, Err, refl, sym, ap, ◌∙◌, arith}
-use Rattle.std.specs.Prelude.{◌==◌, ◌||◌, ◌&&◌, nat_lt, unwrap_or, slice_get}
+use Rattle.std.proofs.Common.{◌≡◌, ℕ, zero, suc, ◌-◌, Bool, true, false, cond, List, [], ◌∷◌, length, Option, Some, None, Result, Ok, Err, refl, sym, ap, ◌∙◌, arith}
+use Rattle.std.specs.Prelude.{◌==◌, ◌||◌, nat_lt, unwrap_or, slice_get}
 use Rattle.std.proofs.lemmas.Bool.Decides.{nat_tests}
+use Rattle.std.proofs.Math.Bool.{and-false}
 use Rattle.wot_types.specs.declared.fault.OwnertrustFault.{OwnertrustFault}
 use Rattle.wot_types.specs.declared.fault.OwnertrustFault.TheVariants.{BadShape}
 use Rattle.wot_types.specs.declared.ownertrust.Entry.{Entry}
@@ -15,6 +16,7 @@ use Rattle.wot_types.specs.Numbers.{number}
 use Rattle.wot_types.specs.Ownertrust.{is_unset, kept_of}
 use Rattle.wot_types.specs.OwnertrustText.{entry_by, entry_of_fields, entry_of_line, entry_with, of_trust, ownertrust_of_number}
 use Rattle.wot_types.specs.Trust.{is_unknown, trust_of_number}
+use Rattle.wot_types.proofs.TrustNumbers.{no_trust, flagged}
 
 -- the field at a place from 0; a missing one is empty
 abbrev pub nth : List (List ℕ) → ℕ → List ℕ
@@ -54,9 +56,6 @@ not_at_end (a ∷ b ∷ (x ∷ c) ∷ d ∷ fs) last = refl
 
 -- ---- what an entry sets
 
-above : (n : ℕ) → 7 ≤ n → trust_of_number n ≡ None
-above n le = grind (arith, nat_tests)
-
 not_unknown : (n : ℕ) → (n == 0) ≡ false → trust_of_number n ≡ Some Unknown → ⊥
 not_unknown zero other e = absurd cc
 not_unknown (suc zero) other e = cc
@@ -65,7 +64,7 @@ not_unknown (suc (suc (suc zero))) other e = cc
 not_unknown (suc (suc (suc (suc zero)))) other e = cc
 not_unknown (suc (suc (suc (suc (suc zero))))) other e = cc
 not_unknown (suc (suc (suc (suc (suc (suc zero)))))) other e = cc
-not_unknown (suc (suc (suc (suc (suc (suc (suc n))))))) other e = (let none = above (suc (suc (suc (suc (suc (suc (suc n))))))) (omega arith) in cc)
+not_unknown (suc (suc (suc (suc (suc (suc (suc n))))))) other e = (let none = no_trust (suc (suc (suc (suc (suc (suc (suc n))))))) (omega arith) in cc)
 
 known : (n : ℕ) (t : Trust) → (n == 0) ≡ false → trust_of_number n ≡ Some t → is_unknown t ≡ false
 known n Unknown other e = absurd (not_unknown n other e)
@@ -75,22 +74,12 @@ known n Marginal other e = refl
 known n Full other e = refl
 known n Ultimate other e = refl
 
-flagged : (b : Bool) (o : Option Trust) (kept : Ownertrust) → of_trust b o ≡ Some kept → (o ≡ Some kept.trust) × (kept.disabled ≡ b)
-flagged b None kept e = absurd cc
-flagged b (Some t) kept e =
-    let same : record { trust = t; disabled = b } ≡ kept = cc in
-    (ap (λ (k : Ownertrust). Some k.trust) same, sym (ap (λ (k : Ownertrust). k.disabled) same))
-
-and_false : (a : Bool) → (a && false) ≡ false
-and_false true = refl
-and_false false = refl
-
 number_sets : (n : ℕ) (kept : Ownertrust) → (n == 0) ≡ false → ownertrust_of_number n ≡ Some kept → is_unset kept ≡ false
 number_sets n kept other e = go (nat_lt n 128) e
   where
     go : (b : Bool) → cond {A = Option Ownertrust} b (of_trust false (trust_of_number n)) (of_trust true (trust_of_number (n - 128))) ≡ Some kept → is_unset kept ≡ false
     go true e = let f = flagged false (trust_of_number n) kept e in rw (known n kept.trust other f.0) refl
-    go false e = let f = flagged true (trust_of_number (n - 128)) kept e in rw f.1 (and_false (is_unknown kept.trust))
+    go false e = let f = flagged true (trust_of_number (n - 128)) kept e in rw f.1 (and-false (is_unknown kept.trust))
 
 by_sets : (fpr : Option (List ℕ)) (n : Option ℕ) (e : Entry) → entry_by fpr n ≡ Ok (Some e) → is_unset (kept_of e) ≡ false
 by_sets None n e h = absurd cc

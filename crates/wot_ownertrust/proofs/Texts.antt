@@ -1,14 +1,10 @@
 -- A text with one more line, and the entries of a whole text.
-use Rattle.std.proofs.Common.{◌≡◌, ℕ, suc, ◌+◌, ◌-◌, ◌^◌, Bool, true, false, List, [], ◌∷◌, ◌++◌, map, length, T, All, Option, Some, None, Result, Ok, Err, refl, sym, ap, subst, ◌∙◌, arith, inl, inr}
-use Rattle.std.specs.Prelude.{fold, option_map, ◌&&◌}
+use Rattle.std.proofs.Common.{◌≡◌, ℕ, suc, ◌+◌, false, List, [], ◌∷◌, ◌++◌, map, length, T, All, Option, Some, None, Result, Ok, Err, refl, sym, ap, subst, ◌∙◌, arith}
+use Rattle.std.specs.Prelude.{fold, option_map}
 use Rattle.std.specs.Option.{option_or}
 use Rattle.std.specs.Ordering.{is_lt}
 use Rattle.std.specs.FinMap as finmap
 use Rattle.std.specs.FinMap.Entries.{is_sorted, below_all}
-use Rattle.std.specs.declared.cmp.Ordering.{Ordering}
-use Rattle.std.specs.declared.cmp.Ordering.TheVariants.{Less, Equal, Greater}
-use Rattle.std.proofs.lemmas.Bool.{cases_lt}
-use Rattle.std.proofs.Math.Nat.{min-eq_left, min-eq_right}
 use Rattle.std.proofs.lemmas.List.{length-append, nil_from_length}
 use Rattle.std.proofs.lemmas.List.Sums.{fold-append}
 use Rattle.std.proofs.lemmas.List.Elements.{All-map, All-nil}
@@ -22,18 +18,13 @@ use Rattle.wot_types.specs.Payload.{AreSettable, IsRisingBy}
 use Rattle.wot_types.specs.Numbers.{capped}
 use Rattle.wot_types.proofs.FinMaps.{All-insert}
 use Rattle.wot_types.proofs.Fingerprints.{fpr_cmp_total, fpr_cmp-IsAntisymmetric}
+use Rattle.wot_types.proofs.Optionals.{or_none, or_assoc}
+use Rattle.wot_types.proofs.Tests.{first_part, second_part, less_from}
+use Rattle.wot_types.proofs.Capped.{capped_add}
 use Rattle.wot_ownertrust.specs.Reading.{SoFar, so_far_after, by_line, reading, so_far}
 use Rattle.wot_ownertrust.proofs.Lines.{line_sets}
 
 -- ---- one more line
-
-pub or_none : {A : Type 0} (o : Option A) → option_or o None ≡ o
-or_none None = refl
-or_none (Some x) = refl
-
-or_assoc : {A : Type 0} (o p q : Option A) → option_or o (option_or p q) ≡ option_or (option_or o p) q
-or_assoc None p q = refl
-or_assoc (Some x) p q = refl
 
 -- the fault of the line of this number
 abbrev fault_at : ℕ → List ℕ → Option (ℕ × OwnertrustFault)
@@ -46,15 +37,6 @@ fault_append n (first ∷ lines) line =
     let number : n + 1 + length lines + 1 ≡ n + suc (length lines) + 1 = omega arith in
     ap (option_or (fault_at (n + 1) first)) (fault_append (n + 1) lines line ∙ ap (λ (k : ℕ). option_or (ownertrust_fault_after (n + 1) lines) (fault_at k line)) number)
     ∙ or_assoc (fault_at (n + 1) first) (ownertrust_fault_after (n + 1) lines) (fault_at (n + suc (length lines) + 1) line)
-
-pub capped_more : (n : ℕ) → capped (capped n + 1) ≡ capped (n + 1)
-capped_more n = elim (cases_lt n most) [
-  | inl lt ↦ ap (λ (k : ℕ). capped (k + 1)) (min-eq_left {n = n} {m = most} (omega (arith, lt)))
-  | inr le ↦ ap (λ (k : ℕ). capped (k + 1)) (min-eq_right {n = most} {m = n} le) ∙ min-eq_right {n = most} {m = most + 1} (omega arith) ∙ sym (min-eq_right {n = most} {m = n + 1} (omega (arith, le)))
-]
-  where
-    most : ℕ
-    most = 2 ^ 64 - 1
 
 -- what is kept with one more line, which gives r and has this number
 abbrev step : Option (ℕ × OwnertrustFault) → Result (Option Entry) OwnertrustFault → OwnertrustMap → ℕ → SoFar
@@ -70,7 +52,7 @@ one_more None (Ok (Some entry)) m number = refl
 
 step_after : (o : Option (ℕ × OwnertrustFault)) (line : List ℕ) (m : OwnertrustMap) (k : ℕ) → step o (entry_of_line line) m (capped (k + 1)) ≡ so_far_after (so_far o m (capped k)) line
 step_after (Some fault) line m k = refl
-step_after None line m k = ap (λ (number : ℕ). by_line (entry_of_line line) m number) (sym (capped_more k))
+step_after None line m k = ap (λ (number : ℕ). by_line (entry_of_line line) m number) (sym (capped_add k 1))
 
 pub after_one : (lines : List (List ℕ)) (line : List ℕ) → reading (lines ++ line ∷ []) ≡ so_far_after (reading lines) line
 after_one lines line =
@@ -122,26 +104,13 @@ lines_set : (m : OwnertrustMap) (lines : List (List ℕ)) → All IsSet (finmap.
 lines_set m [] h = h
 lines_set m (line ∷ lines) h = lines_set (with_line_entry m (entry_of_line line)) lines (line_set m line h)
 
-less : (o : Ordering) → T (is_lt o) → o ≡ Less
-less Less h = refl
-less Equal h = absurd h
-less Greater h = absurd h
-
-pub first : (a b : Bool) → T (a && b) → T a
-first true b h = tt
-first false b h = absurd h
-
-pub second : (a b : Bool) → T (a && b) → T b
-second true b h = h
-second false b h = absurd h
-
 rising : (es : List (List ℕ × Ownertrust)) → T (is_sorted fpr_cmp es) → IsRisingBy (λ a b. fpr_cmp a.fpr b.fpr) (map entry_of es)
 rising [] h = tt
 rising (e ∷ []) h = tt
 rising (e ∷ f ∷ es) h =
-    let rest = second (below_all fpr_cmp e.0 (f ∷ es)) (is_sorted fpr_cmp (f ∷ es)) h in
-    let below = first (is_lt (fpr_cmp e.0 f.0)) (below_all fpr_cmp e.0 es) (first (below_all fpr_cmp e.0 (f ∷ es)) (is_sorted fpr_cmp (f ∷ es)) h) in
-    (less (fpr_cmp e.0 f.0) below, rising (f ∷ es) rest)
+    let rest = second_part (below_all fpr_cmp e.0 (f ∷ es)) (is_sorted fpr_cmp (f ∷ es)) h in
+    let below = first_part (is_lt (fpr_cmp e.0 f.0)) (below_all fpr_cmp e.0 es) (first_part (below_all fpr_cmp e.0 (f ∷ es)) (is_sorted fpr_cmp (f ∷ es)) h) in
+    (less_from (fpr_cmp e.0 f.0) below, rising (f ∷ es) rest)
 
 none_unset : All IsSet (finmap.entries (finmap.empty {R = fpr_cmp}))
 none_unset =

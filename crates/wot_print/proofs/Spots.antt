@@ -1,23 +1,18 @@
 -- The user IDs of a key and their certifications, with the places that they stand at.
-use Rattle.std.proofs.Common.{◌≡◌, ℕ, zero, suc, ◌+◌, List, [], ◌∷◌, ◌++◌, All, Some, None, slice_get, length, refl, ap, subst}
+use Rattle.std.proofs.Common.{◌≡◌, ℕ, zero, suc, ◌+◌, List, [], ◌∷◌, ◌++◌, All, Some, slice_get, length, refl, ap, subst}
 use Rattle.std.specs.List.{flat_map}
 use Rattle.std.proofs.lemmas.List.Elements.{All-cons, All-head, All-nil, All-tail}
+use Rattle.std.proofs.lemmas.Option.{none-some, same_Some}
 use Rattle.wot_types.specs.declared.cert.Cert.{Cert}
 use Rattle.wot_types.specs.declared.placed.Placed.{Placed}
 use Rattle.wot_types.specs.declared.user.User.{User}
 use Rattle.wot_types.specs.Selection.{Spot, placed_from, spots_from}
 
-none_some : (x : Spot) → None ≡ Some x → ⊥
-none_some x e = cc
-
-some_same : (x y : Spot) → Some x ≡ Some y → x ≡ y
-some_same x y e = cc
-
 -- a user ID's certifications stand at places in a row
 pub placed_at : (n : ℕ) (users : List User) (i : ℕ) (spot : Spot) → slice_get (spots_from n users) i ≡ Some spot → (m : ℕ) × (placed_from m spot.user.certs ≡ spot.certs)
-placed_at n [] i spot is = absurd (none_some spot is)
+placed_at n [] i spot is = absurd (none-some spot is)
 placed_at n (user ∷ users) zero spot is =
-    (n, subst (λ (s : Spot). placed_from n s.user.certs ≡ s.certs) (some_same (record { user = user; certs = placed_from n user.certs }) spot is) refl)
+    (n, subst (λ (s : Spot). placed_from n s.user.certs ≡ s.certs) (same_Some (record { user = user; certs = placed_from n user.certs }) spot is) refl)
 placed_at n (user ∷ users) (suc i) spot is = placed_at (n + length user.certs) users i spot is
 
 pub placed_lines : (f : Cert → List ℕ) (n : ℕ) (certs : List Cert) → flat_map (λ (placed : Placed). f placed.cert) (placed_from n certs) ≡ flat_map f certs

@@ -1,15 +1,16 @@
 -- A walk over the keys of a map in rising order, and the entries that are left of it.
-use Rattle.std.proofs.Common.{◌≡◌, ℕ, ◌<◌, T, Bool, true, false, ◌&&◌, nat_lt, List, [], ◌∷◌, filter, Option, Some, None, is_some, refl, sym, ap, ◌∙◌, arith}
+use Rattle.std.proofs.Common.{◌≡◌, ℕ, ◌<◌, T, Bool, true, false, nat_lt, List, [], ◌∷◌, filter, Option, Some, None, is_some, refl, sym, ap, ◌∙◌, arith}
 use Rattle.std.specs.FinMap as finmap
 use Rattle.std.specs.FinMap.{FinMap, contains_key, entries_sorted, find, get-entries, is_sorted}
 use Rattle.std.specs.FinMap.Entries.{below_all}
-use Rattle.std.specs.Ordering.{nat_cmp, eq_by_cmp, is_lt}
-use Rattle.std.specs.declared.cmp.Ordering.{Ordering}
-use Rattle.std.specs.declared.cmp.Ordering.TheVariants.{Less, Equal, Greater}
+use Rattle.std.specs.Ordering.{nat_cmp, eq_by_cmp}
+use Rattle.std.specs.declared.cmp.Ordering.TheVariants.{Less}
 use Rattle.std.proofs.lemmas.Bool.{cond-false, cond-true}
 use Rattle.std.proofs.lemmas.Bool.Decides.{nat_tests}
 use Rattle.std.proofs.lemmas.Cmp.{ranked}
+use Rattle.std.proofs.lemmas.Option.{none-some, same_Some}
 use Rattle.wot_types.specs.Next.{IsAfter, IsNext}
+use Rattle.wot_types.proofs.Tests.{first_part, second_part, less_from, key_itself}
 
 abbrev pub is_after : Option ℕ → ℕ → Bool
 is_after None k = true
@@ -36,9 +37,6 @@ differs a b h = grind (arith, nat_tests)
 differs_above : (a b : ℕ) → b < a → eq_by_cmp nat_cmp a b ≡ false
 differs_above a b h = grind (arith, nat_tests)
 
-itself : (a : ℕ) → eq_by_cmp nat_cmp a a ≡ true
-itself a = grind (arith, nat_tests)
-
 below : (a b : ℕ) → nat_lt a b ≡ true → a < b
 below a b h = grind (arith, nat_tests)
 
@@ -47,19 +45,6 @@ same a b h k = grind (arith, nat_tests)
 
 not_below : (a b : ℕ) → a < b → nat_lt b a ≡ false
 not_below a b h = grind (arith, nat_tests)
-
-less_from : (o : Ordering) → T (is_lt o) → o ≡ Less
-less_from Less p = refl
-less_from Equal p = absurd p
-less_from Greater p = absurd p
-
-first_of : (a b : Bool) → T (a && b) → T a
-first_of true b h = tt
-first_of false b h = h
-
-second_of : (a b : Bool) → T (a && b) → T b
-second_of true b h = h
-second_of false b h = absurd h
 
 true_or_false : (b : Bool) → b ≡ true → b ≡ false → ⊥
 true_or_false b p q = cc
@@ -79,11 +64,11 @@ module _ {X : Type 0} where
 
   above_from : (k : ℕ) (es : List (ℕ × X)) → T (below_all nat_cmp k es) → Above k es
   above_from k [] h = tt
-  above_from k (e ∷ es) h = (ranked k e.0 Less (sym (less_from (nat_cmp k e.0) (first_of _ _ h))), above_from k es (second_of _ _ h))
+  above_from k (e ∷ es) h = (ranked k e.0 Less (sym (less_from (nat_cmp k e.0) (first_part _ _ h))), above_from k es (second_part _ _ h))
 
   rising_from : (es : List (ℕ × X)) → T (is_sorted nat_cmp es) → Rising es
   rising_from [] h = tt
-  rising_from (e ∷ es) h = (above_from e.0 es (first_of _ _ h), rising_from es (second_of _ _ h))
+  rising_from (e ∷ es) h = (above_from e.0 es (first_part _ _ h), rising_from es (second_part _ _ h))
 
   above_less : (k id : ℕ) → k < id → (es : List (ℕ × X)) → Above id es → Above k es
   above_less k id l [] h = tt
@@ -93,14 +78,8 @@ module _ {X : Type 0} where
   none_at k [] h = refl
   none_at k (e ∷ es) h = cond-false (eq_by_cmp nat_cmp k e.0) (Some e.1) (find nat_cmp k es) (differs k e.0 h.0) ∙ none_at k es h.1
 
-  none_some : (x : X) → None ≡ Some x → ⊥
-  none_some x e = cc
-
-  some_same : (x y : X) → Some x ≡ Some y → x ≡ y
-  some_same x y e = cc
-
   found_first : (e : ℕ × X) (es : List (ℕ × X)) → find nat_cmp e.0 (e ∷ es) ≡ Some e.1
-  found_first e es = cond-true (eq_by_cmp nat_cmp e.0 e.0) (Some e.1) (find nat_cmp e.0 es) (itself e.0)
+  found_first e es = cond-true (eq_by_cmp nat_cmp e.0 e.0) (Some e.1) (find nat_cmp e.0 es) (key_itself e.0)
 
   found_later : (k : ℕ) (e : ℕ × X) (es : List (ℕ × X)) → eq_by_cmp nat_cmp k e.0 ≡ false → find nat_cmp k (e ∷ es) ≡ find nat_cmp k es
   found_later k e es h = cond-false (eq_by_cmp nat_cmp k e.0) (Some e.1) (find nat_cmp k es) h
@@ -110,7 +89,7 @@ module _ {X : Type 0} where
   none_later k e es h = at (eq_by_cmp nat_cmp k e.0) refl
     where
       at : (b : Bool) → eq_by_cmp nat_cmp k e.0 ≡ b → find nat_cmp k es ≡ None
-      at true p = absurd (none_some e.1 (sym h ∙ cond-true (eq_by_cmp nat_cmp k e.0) (Some e.1) (find nat_cmp k es) p))
+      at true p = absurd (none-some e.1 (sym h ∙ cond-true (eq_by_cmp nat_cmp k e.0) (Some e.1) (find nat_cmp k es) p))
       at false p = sym (found_later k e es p) ∙ h
 
   passed : (after : Option ℕ) (e : ℕ × X) (es : List (ℕ × X)) → is_after after e.0 ≡ false → left after (e ∷ es) ≡ left after es
@@ -129,15 +108,15 @@ module _ {X : Type 0} where
 
   next_left : (after : Option ℕ) (id : ℕ) (x : X) → is_after after id ≡ true → (es : List (ℕ × X)) → Rising es → find nat_cmp id es ≡ Some x
       → ((k : ℕ) → is_after after k ≡ true → k < id → find nat_cmp k es ≡ None) → left after es ≡ (id, x) ∷ left (Some id) es
-  next_left after id x h [] r found between = absurd (none_some x found)
+  next_left after id x h [] r found between = absurd (none-some x found)
   next_left after id x h (e ∷ es) r found between = at (next_left after id x h es r.1) (nat_lt e.0 id) (nat_lt id e.0) refl refl
     where
       unmet : e.0 < id → (b : Bool) → is_after after e.0 ≡ b → is_after after e.0 ≡ false
-      unmet l true p = absurd (none_some e.1 (sym (between e.0 p l) ∙ found_first e es))
+      unmet l true p = absurd (none-some e.1 (sym (between e.0 p l) ∙ found_first e es))
       unmet l false p = p
 
       this : e.0 ≡ id → e ≡ (id, x)
-      this is = λ i. (is i, some_same e.1 x (sym (found_first e es) ∙ ap (λ k. find nat_cmp k (e ∷ es)) is ∙ found) i)
+      this is = λ i. (is i, same_Some e.1 x (sym (found_first e es) ∙ ap (λ k. find nat_cmp k (e ∷ es)) is ∙ found) i)
 
       at : (find nat_cmp id es ≡ Some x → ((k : ℕ) → is_after after k ≡ true → k < id → find nat_cmp k es ≡ None) → left after es ≡ (id, x) ∷ left (Some id) es)
           → (a b : Bool) → nat_lt e.0 id ≡ a → nat_lt id e.0 ≡ b → left after (e ∷ es) ≡ (id, x) ∷ left (Some id) (e ∷ es)
@@ -147,7 +126,7 @@ module _ {X : Type 0} where
           passed after e es (unmet l (is_after after e.0) refl) ∙ rest ∙ ap (λ l. (id, x) ∷ l) (sym (passed (Some id) e es (not_below e.0 id l)))
       at deeper false true p q =
           let l = below id e.0 q in
-          absurd (none_some x (sym (none_at id (e ∷ es) (l, above_less id e.0 l es r.0)) ∙ found))
+          absurd (none-some x (sym (none_at id (e ∷ es) (l, above_less id e.0 l es r.0)) ∙ found))
       at deeper false false p q =
           let is = same e.0 id p q in
           stays after e es (ap (is_after after) is ∙ h) ∙ ap (λ l. e ∷ l) (all_left after e.0 (ap (is_after after) is ∙ h) es r.0)
@@ -158,7 +137,7 @@ module _ {X : Type 0} where
   none_left after (e ∷ es) none = at (none_left after es (λ k h. none_later k e es (none k h))) (is_after after e.0) refl
     where
       at : left after es ≡ [] → (b : Bool) → is_after after e.0 ≡ b → left after (e ∷ es) ≡ []
-      at rest true p = absurd (none_some e.1 (sym (none e.0 p) ∙ found_first e es))
+      at rest true p = absurd (none-some e.1 (sym (none e.0 p) ∙ found_first e es))
       at rest false p = passed after e es p ∙ rest
 
   all_are : (es : List (ℕ × X)) → left None es ≡ es

@@ -11,14 +11,15 @@ use Rattle.wot_types.specs.declared.key.Key.{Key}
 use Rattle.wot_types.specs.declared.user.User.{User}
 use Rattle.wot_types.specs.declared.user.UserKind.{UserKind}
 use Rattle.wot_types.specs.declared.record.RecordKind.{RecordKind}
-use Rattle.wot_types.specs.declared.record.RecordKind.TheVariants.{Primary, Fingerprint, UserId, Signature, Subkey, Foreign, Other}
-use Rattle.wot_types.specs.Listing.{Line, begins_keyblock, begins_user, ends_keyblock, ends_user, fpr_line, is_certification, is_fpr, is_sub, key_of, user_kind, user_of, user_runs}
+use Rattle.wot_types.specs.declared.record.RecordKind.TheVariants.{Fingerprint, UserId, Signature}
+use Rattle.wot_types.specs.Listing.{Line, begins_user, ends_user, fpr_line, is_certification, is_fpr, is_sub, key_of, user_kind, user_of, user_runs}
 use Rattle.wot_types.specs.Records as record_of
 use Rattle.wot_types.specs.Records.{cert_of, class_at, is_fingerprint_record, is_kept_class, is_primary, is_signature, is_subkey, is_user_id, key_id_at, kind_of, fingerprint_at}
 use Rattle.wot_types.specs.Runs.{Run, up_to}
 use Rattle.wot_types.specs.WellFormed.{IsCert, IsUser}
+use Rattle.wot_types.proofs.RunEnds.{user_ends}
 use Rattle.wot_print_laws.proofs.PrintedLines.{IsFpr, IsPub, IsSig, IsUid}
-use Rattle.wot_print_laws.proofs.RunLemmas.{AreRuns, Ends, pieces, runs_pieces}
+use Rattle.wot_print_laws.proofs.RunLemmas.{AreRuns, pieces, runs_pieces}
 
 -- ---- the lines of user IDs and certifications, one by one
 
@@ -58,30 +59,6 @@ module _ (t : RecordKind → Bool) where
       ∙ or_from (list_any (λ line. t (kind_of line)) r.rest) (list_any (λ line. t (kind_of line)) (pieces rs)) (sigs_free h user.certs r.rest p.1) (users_free h u marked users rs p.2))
 
 -- ---- runs
-
-kind_ends_user : (k : RecordKind) → is_user_id k ≡ true → record_of.ends_user k ≡ true
-kind_ends_user Primary h = h
-kind_ends_user Fingerprint h = h
-kind_ends_user (UserId kind) h = refl
-kind_ends_user Signature h = h
-kind_ends_user Subkey h = refl
-kind_ends_user Foreign h = h
-kind_ends_user Other h = h
-
-pub user_ends : Ends begins_user ends_user
-user_ends line h = kind_ends_user (kind_of line) h
-
-kind_ends_block : (k : RecordKind) → is_primary k ≡ true → record_of.ends_keyblock k ≡ true
-kind_ends_block Primary h = refl
-kind_ends_block Fingerprint h = h
-kind_ends_block (UserId kind) h = h
-kind_ends_block Signature h = h
-kind_ends_block Subkey h = h
-kind_ends_block Foreign h = refl
-kind_ends_block Other h = h
-
-pub block_ends : Ends begins_keyblock ends_keyblock
-block_ends line h = kind_ends_block (kind_of line) h
 
 pub users_are_runs : (marked : Bool) (users : List User) (rs : List (Run Line)) → AreUsers marked users rs → AreRuns begins_user ends_user rs
 users_are_runs marked [] [] p = tt

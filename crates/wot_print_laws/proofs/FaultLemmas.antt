@@ -1,10 +1,10 @@
 -- No line of a block that is written as a key is printed has a fault.
-use Rattle.std.proofs.Common.{◌≡◌, ℕ, ◌+◌, ◌<◌, ◌≤◌, ◌==◌, Bool, true, false, cond, ◌||◌, ◌&&◌, nat_le, List, [], ◌∷◌, ◌++◌, append_assoc, append-nil, length, length-append, All, Some, None, if◌then◌else◌, filter, sum_by, is_some, is_none, refl, sym, ap, ◌∙◌, arith}
+use Rattle.std.proofs.Common.{◌≡◌, ℕ, ◌+◌, ◌<◌, ◌≤◌, ◌==◌, Bool, true, false, ◌||◌, ◌&&◌, nat_le, List, [], ◌∷◌, ◌++◌, append_assoc, append-nil, length, length-append, All, Some, None, if◌then◌else◌, filter, sum_by, is_some, is_none, refl, sym, ap, ◌∙◌, arith}
 use Rattle.std.specs.Prelude.{unwrap_or, option_map, nat_eq}
 use Rattle.std.specs.List.{list_any}
 use Rattle.std.specs.Option.{option_or}
 use Rattle.std.specs.Cmp.Lexicographic.{pointwise}
-use Rattle.std.proofs.lemmas.Bool.{cond-false, cond_both, or_from, lt-leb, ne_eqb}
+use Rattle.std.proofs.lemmas.Bool.{cond_both, or_from, lt-leb, ne_eqb}
 use Rattle.std.proofs.lemmas.Grind.{flat_map-append}
 use Rattle.std.proofs.lemmas.List.Elements.{All-head, All-tail}
 use Rattle.std.proofs.lemmas.List.Sums.{sum_by-append, sum_by-cons}
@@ -14,25 +14,20 @@ use Rattle.wot_types.specs.declared.user.User.{User}
 use Rattle.wot_types.specs.declared.limit.Limit.TheVariants.{Users as UsersLimit, Certs as CertsLimit}
 use Rattle.wot_types.specs.declared.fault.ListingWhat.TheVariants.{ShortRecord, BadHex, RepeatedUser, LimitReached}
 use Rattle.wot_types.specs.Fingerprint.{key_id_of}
-use Rattle.wot_types.specs.Listing.{Check, Line, begins_keyblock, begins_user, block_id, cert_checks, cert_count, certifications, checks_of, ends_keyblock, ends_user, fault_at, first_failing, fpr_checks, in_block, is_certification, is_repeated_user, is_same_user, open_block, open_user, same_kind, sig_checks, user_checks, user_kind, user_of, user_runs, wants_fpr}
+use Rattle.wot_types.specs.Listing.{Line, begins_keyblock, begins_user, block_id, cert_checks, cert_count, certifications, checks_of, ends_keyblock, ends_user, fault_at, first_failing, fpr_checks, in_block, is_certification, is_repeated_user, is_same_user, open_block, open_user, same_kind, sig_checks, user_checks, user_kind, user_of, user_runs, wants_fpr}
 use Rattle.wot_types.specs.Limits.{most_certs, most_users}
 use Rattle.wot_types.specs.Records as record_of
 use Rattle.wot_types.specs.Records.{class_at, is_good, is_kept_class, is_primary, is_user_id, key_id_at, kind_of}
 use Rattle.wot_types.specs.Runs.{Run, alone}
 use Rattle.wot_types.specs.WellFormed.{AreDistinctUsers, IsCert, IsUser}
 use Rattle.wot_types.specs.Listing.{failing, fault_after}
-use Rattle.wot_print_laws.proofs.BlockLemmas.{AreSigs, AreUsers, block_ends, block_of, of_kind, sigs_free, user_ends, user_runs_are, users_free}
+use Rattle.wot_types.proofs.RunEnds.{block_ends, user_ends}
+use Rattle.wot_types.proofs.LineChecks.{passes_more}
+use Rattle.wot_print_laws.proofs.BlockLemmas.{AreSigs, AreUsers, block_of, of_kind, sigs_free, user_runs_are, users_free}
 use Rattle.wot_print_laws.proofs.PrintedLines.{IsFpr, IsPub, IsSig, IsUid}
 use Rattle.wot_print_laws.proofs.RunLemmas.{open_last, pieces}
 
 -- ---- checks one after the other
-
-pub passes_more : (xs ys : List Check) → first_failing xs ≡ None → first_failing (xs ++ ys) ≡ first_failing ys
-passes_more [] ys h = refl
-passes_more (x ∷ xs) ys h =
-    cond_both x.0 (Some x.1) (first_failing xs) (λ o. o ≡ None → cond x.0 (Some x.1) (first_failing (xs ++ ys)) ≡ first_failing ys)
-    (λ e q. absurd (let w : Some x.1 ≡ None = q in cc))
-    (λ e q. cond-false x.0 (Some x.1) (first_failing (xs ++ ys)) e ∙ passes_more xs ys q) h
 
 -- a line without a fault
 pub fault_step : (before : List Line) (line : Line) (rest : List Line) → failing before line ≡ None → fault_after (before ++ line ∷ []) rest ≡ None → fault_after before (line ∷ rest) ≡ None

@@ -2,7 +2,7 @@
 use Rattle.std.proofs.Common.{◌≡◌, ℕ, Bool, true, false, not, ◌||◌, ◌&&◌, nat_le, nat_lt, List, [], ◌∷◌, ◌++◌, map, filter, if◌then◌else◌, codes, refl, sym, ap, ◌∙◌}
 use Rattle.std.specs.List.{list_all}
 use Rattle.std.specs.FinMap as finmap
-use Rattle.std.proofs.lemmas.Bool.{and_parts, cond-false, cond-true, cond_both}
+use Rattle.std.proofs.lemmas.Bool.{and_parts, cond-false, cond-true, cond_both, not-true}
 use Rattle.wot_types.specs.declared.key.Key.{Key}
 use Rattle.wot_types.specs.declared.letter.Letter.{Letter}
 use Rattle.wot_types.specs.declared.letter.Letter.TheVariants.{Dash, Q, M, F, U, R, E}
@@ -78,12 +78,8 @@ better_not a b p q = cond_both (nat_lt (letter_rank a) (letter_rank b)) b a (λ 
 
 live_mark : (s : State) (rows : RowMap) (id : ℕ) (key : Key) (spot : Spot) → key.revoked ≡ false → user_is_live s.date key spot.user ≡ true → is_r (user_letter s rows id key spot) ≡ false
 live_mark s rows id key spot k live =
-    let user : spot.user.revoked ≡ false = unmarked spot.user.revoked (and_parts (key_is_live s.date key) (not spot.user.revoked) (and_parts (key_is_live s.date key && not spot.user.revoked) _ live).0).1 in
+    let user : spot.user.revoked ≡ false = not-true spot.user.revoked (and_parts (key_is_live s.date key) (not spot.user.revoked) (and_parts (key_is_live s.date key && not spot.user.revoked) _ live).0).1 in
     sym (letter_begins (user_letter s rows id key spot)) ∙ user_mark s rows id key spot ∙ (λ i. k i || user i)
-  where
-    unmarked : (b : Bool) → not b ≡ true → b ≡ false
-    unmarked true e = sym e
-    unmarked false e = refl
 
 best_not : (s : State) (rows : RowMap) (id : ℕ) (key : Key) → key.revoked ≡ false → (spots : List Spot)
     → is_r (best_letter (map (user_letter s rows id key) (filter (λ spot. user_is_live s.date key spot.user) spots))) ≡ false

@@ -2,11 +2,12 @@
 use Rattle.std.proofs.Common.{◌≡◌, ℕ, ◌-◌, ◌==◌, Bool, true, false, not, ◌&&◌, nat_le, List, [], ◌∷◌, ◌++◌, length, append_assoc, append-nil, refl, sym, ap, subst, ◌∙◌, arith, None, slice_get}
 use Rattle.std.specs.Prelude.{if◌then◌else◌, unwrap_or, All, map}
 use Rattle.std.specs.List.{flat_map, list_all, slice_split}
-use Rattle.std.proofs.lemmas.Bool.{and_parts, and_from, cond-false, leb-true, ne_eqb}
+use Rattle.std.proofs.lemmas.Bool.{and_parts, and_from, cond-false, leb-true, ne_eqb, not-true}
 use Rattle.std.proofs.lemmas.List.Elements.{All-cons, All-nil}
 use Rattle.std.proofs.lemmas.List.Splits.{slice_split_at}
 use Rattle.wot_types.specs.Fields.{field, fields, is_colon}
 use Rattle.wot_types.specs.Lines.{front_of, is_newline, last_of, lines, open_line, whole_lines, without_return}
+use Rattle.wot_types.proofs.ListEnds.{front_of_more, last_of_more}
 use Rattle.wot_print_laws.specs.ListingLines.{listing_lines}
 
 -- each part, and the byte c after it
@@ -34,15 +35,11 @@ abbrev pub AllInner : List (List ℕ) → Type 0
 AllInner [] = Unit {0}
 AllInner (part ∷ parts) = IsInner part × AllInner parts
 
-pub not_true : (b : Bool) → not b ≡ true → b ≡ false
-not_true true e = sym e
-not_true false e = refl
-
 pub inner_parts : (b : ℕ) (part : List ℕ) → IsInner (b ∷ part) → (is_colon b ≡ false) × (nat_le 32 b ≡ true) × IsInner part
 inner_parts b part h =
     let both = and_parts (is_inner b) (list_all is_inner part) h in
     let first = and_parts (nat_le 32 b) (not (b == 58)) both.0 in
-    (not_true (b == 58) first.1, first.0, both.1)
+    (not-true (b == 58) first.1, first.0, both.1)
 
 pub free_of_colon : (part : List ℕ) → IsInner part → All (λ b. is_colon b ≡ false) part
 free_of_colon [] h = All-nil (λ b. is_colon b ≡ false)
@@ -102,15 +99,6 @@ split_lines (line ∷ ls) h =
     ap (slice_split is_newline) (append_assoc line (10 ∷ []) (ended 10 ls))
     ∙ slice_split_at is_newline line 10 (ended 10 ls) (free_of_newline line h.0) refl
     ∙ ap (λ l. line ∷ l) (split_lines ls h.1)
-
-front_of_more : {X : Type 0} (xs : List X) (x : X) → front_of (xs ++ x ∷ []) ≡ xs
-front_of_more [] x = refl
-front_of_more (y ∷ []) x = refl
-front_of_more (y ∷ z ∷ xs) x = ap (λ l. y ∷ l) (front_of_more (z ∷ xs) x)
-
-last_of_more : {X : Type 0} (xs : List X) (x d : X) → last_of (xs ++ x ∷ []) d ≡ x
-last_of_more [] x d = refl
-last_of_more (y ∷ xs) x d = last_of_more xs x y
 
 without_returns : (ls : List (List ℕ)) → AllLines ls → map without_return ls ≡ ls
 without_returns [] h = refl

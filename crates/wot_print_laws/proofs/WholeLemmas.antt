@@ -1,16 +1,16 @@
 -- A listing that is written block after block has no fault, and the keys of its blocks.
-use Rattle.std.proofs.Common.{◌≡◌, ℕ, ◌+◌, ◌<◌, ◌==◌, Bool, true, false, T, ◌&&◌, List, [], ◌∷◌, ◌++◌, append_assoc, append-nil, map, length, fold, All, Some, None, if◌then◌else◌, is_none, refl, sym, ap, subst, ◌∙◌, arith}
+use Rattle.std.proofs.Common.{◌≡◌, ℕ, ◌+◌, ◌<◌, ◌==◌, false, T, List, [], ◌∷◌, ◌++◌, append_assoc, append-nil, map, length, fold, All, Some, None, if◌then◌else◌, is_none, refl, sym, ap, subst, ◌∙◌, arith}
 use Rattle.std.specs.List.{list_any}
 use Rattle.std.specs.Option.{option_or}
 use Rattle.std.specs.FinMap as finmap
 use Rattle.std.specs.FinMap.{put, is_sorted, entries-insert, len-empty, len-entries, same_entries_map}
 use Rattle.std.specs.FinMap.Entries.{below_all, by_order}
-use Rattle.std.specs.Ordering.{nat_cmp, is_lt}
+use Rattle.std.specs.Ordering.{nat_cmp}
 use Rattle.std.specs.Cmp.{nat_cmp_is}
-use Rattle.std.specs.declared.cmp.Ordering.{Ordering}
-use Rattle.std.specs.declared.cmp.Ordering.TheVariants.{Less, Equal, Greater}
+use Rattle.std.specs.declared.cmp.Ordering.TheVariants.{Less, Greater}
 use Rattle.std.proofs.lemmas.Bool.{or_from, ne_eqb}
 use Rattle.std.proofs.lemmas.Cmp.{nat_cmp_total, ranked}
+use Rattle.std.proofs.lemmas.List.{nil_from_length}
 use Rattle.wot_types.specs.declared.key.Key.{Key}
 use Rattle.wot_types.specs.declared.fault.ListingWhat.TheVariants.{NoFingerprint, RepeatedKey}
 use Rattle.wot_types.specs.declared.record.RecordKind.TheVariants.{Other}
@@ -21,8 +21,11 @@ use Rattle.wot_types.specs.Records as record_of
 use Rattle.wot_types.specs.Records.{is_primary, key_id_at, kind_of}
 use Rattle.wot_types.specs.Runs.{Run}
 use Rattle.wot_types.specs.WellFormed.{IsUser, IsWellFormed}
-use Rattle.wot_print_laws.proofs.BlockLemmas.{AreUsers, block_ends, block_of, fpr_line_is, key_is, of_kind, users_free}
-use Rattle.wot_print_laws.proofs.FaultLemmas.{block_faultless, block_open, fault_step, passes_more}
+use Rattle.wot_types.proofs.RunEnds.{block_ends}
+use Rattle.wot_types.proofs.LineChecks.{passes_more}
+use Rattle.wot_types.proofs.Tests.{first_part, second_part, less_from}
+use Rattle.wot_print_laws.proofs.BlockLemmas.{AreUsers, block_of, fpr_line_is, key_is, of_kind, users_free}
+use Rattle.wot_print_laws.proofs.FaultLemmas.{block_faultless, block_open, fault_step}
 use Rattle.wot_print_laws.proofs.PrintedLines.{IsFpr, IsPub}
 use Rattle.wot_print_laws.proofs.RunLemmas.{AreRuns, open_none, pieces, runs_pieces}
 
@@ -72,27 +75,14 @@ before_more : (es : Entries) (e : ℕ × Key) (id : ℕ) → Before es id → e.
 before_more [] e id h l = (l, tt)
 before_more (x ∷ es) e id h l = (h.0, before_more es e id h.1 l)
 
-less_from : (o : Ordering) → T (is_lt o) → o ≡ Less
-less_from Less p = refl
-less_from Equal p = absurd p
-less_from Greater p = absurd p
-
-first_of : (a b : Bool) → T (a && b) → T a
-first_of true b h = tt
-first_of false b h = h
-
-second_of : (a b : Bool) → T (a && b) → T b
-second_of true b h = h
-second_of false b h = absurd h
-
 all_before_more : (es : Entries) (e : ℕ × Key) (fs : Entries) → AllBefore es fs → T (below_all nat_cmp e.0 fs) → AllBefore (es ++ e ∷ []) fs
 all_before_more es e [] h b = tt
 all_before_more es e (f ∷ fs) h b =
-    (before_more es e f.0 h.0 (ranked e.0 f.0 Less (sym (less_from (nat_cmp e.0 f.0) (first_of _ _ b)))), all_before_more es e fs h.1 (second_of _ _ b))
+    (before_more es e f.0 h.0 (ranked e.0 f.0 Less (sym (less_from (nat_cmp e.0 f.0) (first_part _ _ b)))), all_before_more es e fs h.1 (second_part _ _ b))
 
 pub rising_from : (before es : Entries) → AllBefore before es → T (is_sorted nat_cmp es) → AreRising before es
 rising_from before [] h s = tt
-rising_from before (e ∷ es) h s = (h.0, rising_from (before ++ e ∷ []) es (all_before_more before e es h.1 (first_of _ _ s)) (second_of _ _ s))
+rising_from before (e ∷ es) h s = (h.0, rising_from (before ++ e ∷ []) es (all_before_more before e es h.1 (first_part _ _ s)) (second_part _ _ s))
 
 -- ---- the keys
 
@@ -122,11 +112,7 @@ keys_folded (x ∷ es) g m before e r =
     keys_folded es g.2 (keyring.with_key m x.1) (before ++ x ∷ []) one r.1 ∙ append_assoc before (x ∷ []) es
 
 none_at_start : finmap.entries (finmap.empty {X = Key} {R = nat_cmp}) ≡ []
-none_at_start = none (finmap.entries finmap.empty) (sym (len-entries finmap.empty) ∙ len-empty nat_cmp Key)
-  where
-    none : (es : Entries) → length es ≡ 0 → es ≡ []
-    none [] h = refl
-    none (e ∷ es) h = absurd (omega arith)
+none_at_start = nil_from_length (finmap.entries finmap.empty) (sym (len-entries finmap.empty) ∙ len-empty nat_cmp Key)
 
 -- the keys of a keyring, imported into an empty one, are the keyring
 pub same_again : (keys : keyring.Keyring) → AreFiled (finmap.entries keys) → AreRising [] (finmap.entries keys) → keyring.with_keys finmap.empty (finmap.values keys) ≡ keys

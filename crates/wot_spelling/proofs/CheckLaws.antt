@@ -5,6 +5,7 @@ use Rattle.std.specs.List.{list_all, list_any, AllByRecursion}
 use Rattle.std.specs.List.Sorted.{IsStrictlyIncreasing}
 use Rattle.std.proofs.lemmas.Bool.Decides.{nat_tests}
 use Rattle.std.proofs.lemmas.List.Elements.{All-from_recursion, recursion_from_All}
+use Rattle.std.proofs.lemmas.Bool.{and_parts}
 use Rattle.wot_types.specs.declared.cert.Cert.{Cert}
 use Rattle.wot_types.specs.declared.user.User.{User}
 use Rattle.wot_types.specs.declared.key.Key.{Key}
@@ -30,15 +31,11 @@ pub record Tells (b : Bool) (P : Type 0) : Type 0 where
   pub is : b ≡ true → P
   pub yes : P → b ≡ true
 
-and_cases : (a b : Bool) → (a && b) ≡ true → (a ≡ true) × (b ≡ true)
-and_cases true b e = (refl, e)
-and_cases false b e = absurd cc
-
 and_true : (a b : Bool) → a ≡ true → b ≡ true → (a && b) ≡ true
 and_true a b p q = rw (p, q) refl
 
 both : (a b : Bool) (P Q : Type 0) → Tells a P → Tells b Q → Tells (a && b) (P × Q)
-both a b P Q p q = record { is = λ e. (p.is (and_cases a b e).0, q.is (and_cases a b e).1); yes = λ h. and_true a b (p.yes h.0) (q.yes h.1) }
+both a b P Q p q = record { is = λ e. (p.is (and_parts a b e).0, q.is (and_parts a b e).1); yes = λ h. and_true a b (p.yes h.0) (q.yes h.1) }
 
 itself : (b : Bool) → Tells b (b ≡ true)
 itself b = record { is = λ e. e; yes = λ e. e }
@@ -105,9 +102,9 @@ rising_is : (keys : List Key) → is_rising keys ≡ true → IsStrictlyIncreasi
 unfolding is_rising
 rising_is [] e k h = absurd (omega arith)
 rising_is (key ∷ []) e k h = absurd (omega arith)
-rising_is (key ∷ next ∷ keys) e zero h = (below (id_of key) (id_of next)).is (and_cases (nat_lt (id_of key) (id_of next)) (is_rising (next ∷ keys)) e).0
+rising_is (key ∷ next ∷ keys) e zero h = (below (id_of key) (id_of next)).is (and_parts (nat_lt (id_of key) (id_of next)) (is_rising (next ∷ keys)) e).0
 rising_is (key ∷ next ∷ keys) e (suc k) h =
-    let ih = rising_is (next ∷ keys) (and_cases (nat_lt (id_of key) (id_of next)) (is_rising (next ∷ keys)) e).1 k (omega arith) in
+    let ih = rising_is (next ∷ keys) (and_parts (nat_lt (id_of key) (id_of next)) (is_rising (next ∷ keys)) e).1 k (omega arith) in
     rw add-one (rw add-one at ih)
 
 rising_yes : (keys : List Key) → IsStrictlyIncreasing (map id_of keys) → is_rising keys ≡ true

@@ -4,6 +4,7 @@ use Rattle.std.specs.Int.{w32, w64, from_be_bytes}
 use Rattle.std.proofs.lemmas.Bool.{cases_lt, ltb-false, le-ltb}
 use Rattle.std.proofs.lemmas.List.{take_at, drop_at, take-append-drop, length-append, length-take, get_or-drop, get_or-take, get_or_past}
 use Rattle.std.proofs.lemmas.Nat.{be_bytes_4, be_bytes_8, from_be_bytes-to_be_bytes_4, from_be_bytes-to_be_bytes_8}
+use Rattle.std.proofs.lemmas.Option.{same_Some}
 use Rattle.wot_types.specs.Spelling.{number_1, number_4, number_8, flag_bytes, text_bytes}
 use Rattle.wot_spelling.specs.Reading.{◌>>=◌, Read, ◌&◌, made, bytes_at, number_1_at, number_4_at, number_8_at, flag_at, text_at}
 
@@ -34,13 +35,10 @@ pub record IsPart {A : Type 0} (spell : A → List ℕ) (Fits : A → Type 0) (a
   pub takes : (bytes : List ℕ) (x : A) (rest : List ℕ) → IsBytes bytes → at bytes ≡ Some (x, rest) → Taken spell Fits bytes x rest
   pub again : (x : A) (rest : List ℕ) → Fits x → at (spell x ++ rest) ≡ Some (x, rest)
 
-pub some_is : {A : Type 0} (x y : A) → Some x ≡ Some y → x ≡ y
-some_is x y e = cc
-
 -- one spelling begins another only where they are the same, and so are the values
 pub one_spelling : {A : Type 0} {spell : A → List ℕ} {Fits : A → Type 0} {at : Read A} → IsPart spell Fits at → (x y : A) (r s : List ℕ) → Fits x → Fits y → spell x ++ r ≡ spell y ++ s → (x ≡ y) × (r ≡ s)
 one_spelling {A = A} {at = at} part x y r s fits_x fits_y same =
-    let e = some_is (x, r) (y, s) (sym (part.again x r fits_x) ∙ ap at same ∙ part.again y s fits_y) in
+    let e = same_Some (x, r) (y, s) (sym (part.again x r fits_x) ∙ ap at same ∙ part.again y s fits_y) in
     (ap (λ (q : A × List ℕ). q.0) e, ap (λ (q : A × List ℕ). q.1) e)
 
 pub bind_some : {A B : Type 0} (o : Option A) (f : A → Option B) (y : B) → (o >>= f) ≡ Some y → (x : A) × (o ≡ Some x) × (f x ≡ Some y)
@@ -59,7 +57,7 @@ both_part {A = A} {B = B} {s = s} {t = t} {F = F} {G = G} {a = a} {b = b} first 
       let two = second.takes x.0.1 y.0.0 y.0.1 one.rest_fits y.1 in
       let whole : Taken {A = A × B} (λ p. s p.0 ++ t p.1) (λ p. F p.0 × G p.1) bytes (x.0.0, y.0.0) y.0.1 =
       record { parts = one.parts ∙ ap (λ (r : List ℕ). s x.0.0 ++ r) two.parts ∙ sym (append_assoc (s x.0.0) (t y.0.0) y.0.1); rest_fits = two.rest_fits; fits = (one.fits, two.fits) } in
-      subst (λ (q : (A × B) × List ℕ). Taken {A = A × B} (λ p. s p.0 ++ t p.1) (λ p. F p.0 × G p.1) bytes q.0 q.1) (some_is ((x.0.0, y.0.0), y.0.1) (p, rest) y.2) whole;
+      subst (λ (q : (A × B) × List ℕ). Taken {A = A × B} (λ p. s p.0 ++ t p.1) (λ p. F p.0 × G p.1) bytes q.0 q.1) (same_Some ((x.0.0, y.0.0), y.0.1) (p, rest) y.2) whole;
   again = λ p rest fits.
       ap (a & b) (append_assoc (s p.0) (t p.1) rest) ∙ rw (first.again p.0 (t p.1 ++ rest) fits.0, second.again p.1 rest fits.1) refl;
 }
@@ -73,7 +71,7 @@ made_part {A = A} {B = B} {s = s} {F = F} {a = a} f g there back part = record {
       let one = part.takes bytes x.0.0 x.0.1 fits x.1 in
       let whole : Taken {A = B} (λ y. s (g y)) (λ y. F (g y)) bytes (f x.0.0) x.0.1 =
       record { parts = rw there one.parts; rest_fits = one.rest_fits; fits = rw there one.fits } in
-      subst (λ (q : B × List ℕ). Taken {A = B} (λ y. s (g y)) (λ y. F (g y)) bytes q.0 q.1) (some_is (f x.0.0, x.0.1) (y, rest) x.2) whole;
+      subst (λ (q : B × List ℕ). Taken {A = B} (λ y. s (g y)) (λ y. F (g y)) bytes q.0 q.1) (same_Some (f x.0.0, x.0.1) (y, rest) x.2) whole;
   again = λ y rest fits. rw (part.again (g y) rest fits, back y) refl;
 }
 
@@ -95,7 +93,7 @@ bytes_take n bytes x rest fits e =
     go true is e = absurd cc
     go false is e =
         let long : n ≤ length bytes = ltb-false _ _ is in
-        let p = some_is (take n bytes, drop n bytes) (x, rest) e in
+        let p = same_Some (take n bytes, drop n bytes) (x, rest) e in
         subst (λ (q : List ℕ × List ℕ). (bytes ≡ q.0 ++ q.1) × IsBytes q.1 × IsBytes q.0 × (length q.0 ≡ n)) p
         (sym (take-append-drop n bytes), IsBytes-drop n bytes fits, IsBytes-take n bytes fits, omega (arith, length-take n bytes))
 
@@ -114,7 +112,7 @@ number_1_part = record {
   where
     takes : (bytes : List ℕ) (n : ℕ) (rest : List ℕ) → IsBytes bytes → number_1_at bytes ≡ Some (n, rest) → Taken number_1 (λ n. Unit {0}) bytes n rest
     takes [] n rest fits e = absurd cc
-    takes (b ∷ bytes) n rest fits e = subst (λ (q : ℕ × List ℕ). Taken number_1 (λ n. Unit {0}) (b ∷ bytes) q.0 q.1) (some_is (b, bytes) (n, rest) e) (record { parts = refl; rest_fits = IsBytes-rest b bytes fits; fits = tt })
+    takes (b ∷ bytes) n rest fits e = subst (λ (q : ℕ × List ℕ). Taken number_1 (λ n. Unit {0}) (b ∷ bytes) q.0 q.1) (same_Some (b, bytes) (n, rest) e) (record { parts = refl; rest_fits = IsBytes-rest b bytes fits; fits = tt })
 
 number_4_len : (n : ℕ) → length (number_4 n) ≡ 4
 unfolding number_4
@@ -137,7 +135,7 @@ number_4_part = record {
       let back = number_4_back x.0.0 t.3 t.2 in
       let whole : Taken number_4 (λ n. n < 2 ^ 32) bytes (from_be_bytes w32 x.0.0) x.0.1 =
       record { parts = t.0 ∙ ap (λ (b : List ℕ). b ++ x.0.1) (sym back); rest_fits = t.1; fits = omega (arith, t.2 0, t.2 1, t.2 2, t.2 3) } in
-      subst (λ (q : ℕ × List ℕ). Taken number_4 (λ n. n < 2 ^ 32) bytes q.0 q.1) (some_is (from_be_bytes w32 x.0.0, x.0.1) (n, rest) x.2) whole;
+      subst (λ (q : ℕ × List ℕ). Taken number_4 (λ n. n < 2 ^ 32) bytes q.0 q.1) (same_Some (from_be_bytes w32 x.0.0, x.0.1) (n, rest) x.2) whole;
   again = λ n rest fits. rw (bytes_again 4 (number_4 n) rest (number_4_len n), number_4_value n fits) refl;
 }
 
@@ -162,7 +160,7 @@ number_8_part = record {
       let back = number_8_back x.0.0 t.3 t.2 in
       let whole : Taken number_8 (λ n. n < 2 ^ 64) bytes (from_be_bytes w64 x.0.0) x.0.1 =
       record { parts = t.0 ∙ ap (λ (b : List ℕ). b ++ x.0.1) (sym back); rest_fits = t.1; fits = omega (arith, t.2 0, t.2 1, t.2 2, t.2 3, t.2 4, t.2 5, t.2 6, t.2 7) } in
-      subst (λ (q : ℕ × List ℕ). Taken number_8 (λ n. n < 2 ^ 64) bytes q.0 q.1) (some_is (from_be_bytes w64 x.0.0, x.0.1) (n, rest) x.2) whole;
+      subst (λ (q : ℕ × List ℕ). Taken number_8 (λ n. n < 2 ^ 64) bytes q.0 q.1) (same_Some (from_be_bytes w64 x.0.0, x.0.1) (n, rest) x.2) whole;
   again = λ n rest fits. rw (bytes_again 8 (number_8 n) rest (number_8_len n), number_8_value n fits) refl;
 }
 
@@ -172,8 +170,8 @@ flag_part = record { takes = takes; again = again }
   where
     takes : (bytes : List ℕ) (b : Bool) (rest : List ℕ) → IsBytes bytes → flag_at bytes ≡ Some (b, rest) → Taken flag_bytes (λ b. Unit {0}) bytes b rest
     takes [] b rest fits e = absurd cc
-    takes (zero ∷ bytes) b rest fits e = subst (λ (q : Bool × List ℕ). Taken flag_bytes (λ b. Unit {0}) (0 ∷ bytes) q.0 q.1) (some_is (false, bytes) (b, rest) e) (record { parts = refl; rest_fits = IsBytes-rest 0 bytes fits; fits = tt })
-    takes (suc zero ∷ bytes) b rest fits e = subst (λ (q : Bool × List ℕ). Taken flag_bytes (λ b. Unit {0}) (1 ∷ bytes) q.0 q.1) (some_is (true, bytes) (b, rest) e) (record { parts = refl; rest_fits = IsBytes-rest 1 bytes fits; fits = tt })
+    takes (zero ∷ bytes) b rest fits e = subst (λ (q : Bool × List ℕ). Taken flag_bytes (λ b. Unit {0}) (0 ∷ bytes) q.0 q.1) (same_Some (false, bytes) (b, rest) e) (record { parts = refl; rest_fits = IsBytes-rest 0 bytes fits; fits = tt })
+    takes (suc zero ∷ bytes) b rest fits e = subst (λ (q : Bool × List ℕ). Taken flag_bytes (λ b. Unit {0}) (1 ∷ bytes) q.0 q.1) (same_Some (true, bytes) (b, rest) e) (record { parts = refl; rest_fits = IsBytes-rest 1 bytes fits; fits = tt })
     takes (suc (suc n) ∷ bytes) b rest fits e = absurd cc
 
     again : (b : Bool) (rest : List ℕ) → Unit {0} → flag_at (flag_bytes b ++ rest) ≡ Some (b, rest)

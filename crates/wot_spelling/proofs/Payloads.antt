@@ -4,6 +4,7 @@ use Rattle.std.specs.Prelude.{All, ◌==◌, ◌⊎◌}
 use Rattle.std.proofs.lemmas.Bool.{eqb-true}
 use Rattle.std.proofs.lemmas.List.{append-nil, nil_from_length, length-append}
 use Rattle.std.proofs.lemmas.List.Elements.{All-weaker}
+use Rattle.std.proofs.lemmas.Option.{same_Some}
 use Rattle.wot_types.specs.declared.ownertrust.Entry.{Entry}
 use Rattle.wot_types.specs.declared.key.Key.{Key}
 use Rattle.wot_types.specs.declared.edit.Edit.{Edit}
@@ -16,7 +17,7 @@ use Rattle.wot_types.specs.Limits.{most_record, most_sample}
 use Rattle.wot_types.specs.Payload.{AreSettable, EditFits, IsInRange, IsPayload, IsProper, payload}
 use Rattle.wot_types.specs.Accepted.{AreImportable}
 use Rattle.wot_spelling.specs.Edits.{entries_at, flag_of, keys_at, range_at, sample_count_at, sample_of, set_of, edit_after, edit_at, edit_of}
-use Rattle.wot_spelling.proofs.Parts.{IsBytes, Taken, IsPart, bind_some, some_is, both_part, part_of, flag_part, number_1_part, number_4_part, number_8_part}
+use Rattle.wot_spelling.proofs.Parts.{IsBytes, Taken, IsPart, bind_some, both_part, part_of, flag_part, number_1_part, number_4_part, number_8_part}
 use Rattle.wot_spelling.proofs.ValueParts.{kept_part, list_part, fpr_part, trust_part, entry_part, key_part, options_part}
 use Rattle.wot_spelling.proofs.Lists.{few_parts}
 use Rattle.wot_spelling.proofs.Rooms.{entry_some, key_some}
@@ -63,7 +64,7 @@ variant_takes {A = A} {s = s} {F = F} {a = a} part tag k f spelled has bytes mid
       rest_fits = two.rest_fits;
       fits = has x.0.0 two.fits;
     } in
-    subst (λ (q : Edit × List ℕ). Taken payload HasPayload bytes q.0 q.1) (some_is (f x.0.0, x.0.1) (e, rest) x.2) whole
+    subst (λ (q : Edit × List ℕ). Taken payload HasPayload bytes q.0 q.1) (same_Some (f x.0.0, x.0.1) (e, rest) x.2) whole
 
 variant_again : {A : Type 0} {s : A → List ℕ} {F : A → Type 0} {a : Read A} → IsPart s F a → (k : ℕ) (f : A → Edit) (x : A) (rest : List ℕ) → payload (f x) ≡ number_1 k ++ s x → F x
     → ((bytes : List ℕ) → edit_after k bytes ≡ made f a bytes) → edit_at (payload (f x) ++ rest) ≡ Some (f x, rest)
@@ -127,7 +128,7 @@ found bytes e fits h =
     go y rest t true is same =
         let nothing : rest ≡ [] = nil_from_length rest (eqb-true (length rest) 0 is) in
         let whole : IsPayload bytes y = record { fits = t.fits.0; proper = t.fits.1; is = t.parts ∙ ap (λ (r : List ℕ). payload y ++ r) nothing ∙ append-nil (payload y) } in
-        subst (λ (z : Edit). IsPayload bytes z) (some_is y e same) whole
+        subst (λ (z : Edit). IsPayload bytes z) (same_Some y e same) whole
     go y rest t false is same = absurd cc
 
 pub again : (bytes : List ℕ) (e : Edit) → IsPayload bytes e → edit_of bytes ≡ Some e
@@ -143,7 +144,7 @@ none bytes h e p = let some = again bytes e p in cc
 pub one_payload : (a b r s : List ℕ) (x y : Edit) → IsPayload a x → IsPayload b y → a ++ r ≡ b ++ s → (a ≡ b) × (x ≡ y)
 one_payload a b r s x y p q same =
     let e = sym (ap (λ (t : List ℕ). edit_at (t ++ r)) p.is ∙ edit_part.again x r (p.fits, p.proper)) ∙ ap edit_at same ∙ ap (λ (t : List ℕ). edit_at (t ++ s)) q.is ∙ edit_part.again y s (q.fits, q.proper) in
-    let edits : x ≡ y = ap (λ (z : Edit × List ℕ). z.0) (some_is (x, r) (y, s) e) in
+    let edits : x ≡ y = ap (λ (z : Edit × List ℕ). z.0) (same_Some (x, r) (y, s) e) in
     (p.is ∙ ap payload edits ∙ sym q.is, edits)
 
 -- ---- writing

@@ -17,14 +17,16 @@ use Rattle.wot_types.specs.Ownertrust.{entry_of, kept_of, ownertrust_number}
 use Rattle.wot_types.specs.OwnertrustText.{of_trust, ownertrust_of_number}
 use Rattle.std.proofs.lemmas.Bool.{ltb-false}
 use Rattle.std.proofs.Common.{◌-◌}
+use Rattle.std.proofs.lemmas.Option.{same_Some}
 use Rattle.wot_types.specs.declared.trust.Trust.{Trust}
 use Rattle.wot_types.specs.declared.trust.Trust.TheVariants.{Unknown, Undefined, Never, Marginal, Full, Ultimate}
 use Rattle.wot_types.specs.Fingerprint.{IsFprLength}
 use Rattle.wot_types.specs.Trust.{trust_number, trust_of_number}
 use Rattle.wot_types.specs.Spelling.{entry_bytes, EntryFits, number_1, number_4, flag_bytes, text_bytes, scope_bytes, fpr_bytes, trust_bytes, kind_bytes, list_bytes, cert_bytes, user_bytes, key_bytes, options_bytes, CertFits, UserFits, KeyFits, ListFits, OptionsFit}
+use Rattle.wot_types.proofs.TrustNumbers.{no_trust, flagged}
 use Rattle.wot_spelling.specs.Reading.{◌>>=◌, Read, kept, bytes_at, number_1_at, number_4_at, flag_at, text_at, option_at, scope_at, is_fpr, fpr_at, or_none, coded_at, ownertrust_at, entry_at, trust_at, user_kind_at, many_at, list_at, CertParts, cert_of, cert_at, UserParts, user_of, user_at, KeyParts, key_of, key_at, OptionsParts, options_of, options_at}
 use Rattle.wot_spelling.proofs.Lengths.{fpr_yes, fpr_is}
-use Rattle.wot_spelling.proofs.Parts.{IsBytes, Taken, IsPart, bind_some, some_is, both_part, made_part, part_of, bytes_take, bytes_again, number_1_part, number_4_part, number_8_part, flag_part, text_part}
+use Rattle.wot_spelling.proofs.Parts.{IsBytes, Taken, IsPart, bind_some, both_part, made_part, part_of, bytes_take, bytes_again, number_1_part, number_4_part, number_8_part, flag_part, text_part}
 
 -- a part that passes a test
 pub kept_part : {A : Type 0} {s : A → List ℕ} {F : A → Type 0} {a : Read A} (test : A → Bool) → IsPart s F a → IsPart s (λ x. F x × (test x ≡ true)) (kept test a)
@@ -37,7 +39,7 @@ kept_part {A = A} {s = s} {F = F} {a = a} test part = record {
   where
     go : (bytes : List ℕ) (y x : A × List ℕ) → Taken s F bytes y.0 y.1 → (b : Bool) → test y.0 ≡ b → cond {A = Option (A × List ℕ)} b (Some y) None ≡ Some x → Taken s (λ x. F x × (test x ≡ true)) bytes x.0 x.1
     go bytes y x taken true is e =
-        subst (λ (q : A × List ℕ). Taken s (λ x. F x × (test x ≡ true)) bytes q.0 q.1) (some_is y x e) (record { parts = taken.parts; rest_fits = taken.rest_fits; fits = (taken.fits, is) })
+        subst (λ (q : A × List ℕ). Taken s (λ x. F x × (test x ≡ true)) bytes q.0 q.1) (same_Some y x e) (record { parts = taken.parts; rest_fits = taken.rest_fits; fits = (taken.fits, is) })
     go bytes y x taken false is e = absurd cc
 
 -- ---- lists
@@ -46,7 +48,7 @@ many_take : {A : Type 0} (s : A → List ℕ) (F : A → Type 0) (a : Read A) �
     → Taken (flat_map s) (AllByRecursion F) bytes x.0 x.1 × (length x.0 ≡ n)
 unfolding many_at
 many_take {A = A} s F a part zero bytes x fits e =
-    subst (λ (y : List A × List ℕ). Taken (flat_map s) (AllByRecursion F) bytes y.0 y.1 × (length y.0 ≡ 0)) (some_is ([], bytes) x e) (record { parts = refl; rest_fits = fits; fits = tt }, refl)
+    subst (λ (y : List A × List ℕ). Taken (flat_map s) (AllByRecursion F) bytes y.0 y.1 × (length y.0 ≡ 0)) (same_Some ([], bytes) x e) (record { parts = refl; rest_fits = fits; fits = tt }, refl)
 many_take {A = A} s F a part (suc n) bytes x fits e =
     let p = bind_some (a bytes) (λ (p : A × List ℕ). many_at a n p.1 >>= λ q. Some (p.0 ∷ q.0, q.1)) x e in
     let q = bind_some (many_at a n p.0.1) (λ (q : List A × List ℕ). Some (p.0.0 ∷ q.0, q.1)) x p.2 in
@@ -57,7 +59,7 @@ many_take {A = A} s F a part (suc n) bytes x fits e =
       rest_fits = two.0.rest_fits;
       fits = (one.fits, two.0.fits);
     } in
-    subst (λ (y : List A × List ℕ). Taken (flat_map s) (AllByRecursion F) bytes y.0 y.1 × (length y.0 ≡ suc n)) (some_is (p.0.0 ∷ q.0.0, q.0.1) x q.2) (whole, ap suc two.1)
+    subst (λ (y : List A × List ℕ). Taken (flat_map s) (AllByRecursion F) bytes y.0 y.1 × (length y.0 ≡ suc n)) (same_Some (p.0.0 ∷ q.0.0, q.0.1) x q.2) (whole, ap suc two.1)
 
 many_again : {A : Type 0} (s : A → List ℕ) (F : A → Type 0) (a : Read A) → IsPart s F a → (xs : List A) (rest : List ℕ) → AllByRecursion F xs → many_at a (length xs) (flat_map s xs ++ rest) ≡ Some (xs, rest)
 unfolding many_at
@@ -91,7 +93,7 @@ scope_part = record { takes = takes; again = again }
   where
     after : (bytes : List ℕ) (b : Bool) (mid : List ℕ) (o : Option (List ℕ)) (rest : List ℕ) → Taken flag_bytes (λ b. Unit {0}) bytes b mid → option_at text_at b mid ≡ Some (o, rest) → Taken scope_bytes (λ o. IfSome o (λ t. length t < 2 ^ 32)) bytes o rest
     after bytes false mid o rest one e =
-        subst (λ (q : Option (List ℕ) × List ℕ). Taken scope_bytes (λ o. IfSome o (λ t. length t < 2 ^ 32)) bytes q.0 q.1) (some_is (None, mid) (o, rest) e) (record { parts = one.parts; rest_fits = one.rest_fits; fits = tt })
+        subst (λ (q : Option (List ℕ) × List ℕ). Taken scope_bytes (λ o. IfSome o (λ t. length t < 2 ^ 32)) bytes q.0 q.1) (same_Some (None, mid) (o, rest) e) (record { parts = one.parts; rest_fits = one.rest_fits; fits = tt })
     after bytes true mid o rest one e =
         let t = bind_some (text_at mid) (λ (t : List ℕ × List ℕ). Some (Some t.0, t.1)) (o, rest) e in
         let two = text_part.takes mid t.0.0 t.0.1 one.rest_fits t.1 in
@@ -100,7 +102,7 @@ scope_part = record { takes = takes; again = again }
           rest_fits = two.rest_fits;
           fits = two.fits;
         } in
-        subst (λ (q : Option (List ℕ) × List ℕ). Taken scope_bytes (λ o. IfSome o (λ t. length t < 2 ^ 32)) bytes q.0 q.1) (some_is (Some t.0.0, t.0.1) (o, rest) t.2) whole
+        subst (λ (q : Option (List ℕ) × List ℕ). Taken scope_bytes (λ o. IfSome o (λ t. length t < 2 ^ 32)) bytes q.0 q.1) (same_Some (Some t.0.0, t.0.1) (o, rest) t.2) whole
 
     takes : (bytes : List ℕ) (o : Option (List ℕ)) (rest : List ℕ) → IsBytes bytes → scope_at bytes ≡ Some (o, rest) → Taken scope_bytes (λ o. IfSome o (λ t. length t < 2 ^ 32)) bytes o rest
     takes bytes o rest fits e =
@@ -120,7 +122,7 @@ fpr_part = record { takes = takes; again = again }
         → cond {A = Option (List ℕ × List ℕ)} b (Some (y, after)) None ≡ Some (f, rest) → Taken fpr_bytes IsFprLength (n ∷ mid) f rest
     go n mid f y rest after fits t true is e =
         let whole : Taken fpr_bytes IsFprLength (n ∷ mid) y after = record { parts = ap (λ (k : ℕ). k ∷ mid) (sym t.3) ∙ ap (λ (r : List ℕ). length y ∷ r) t.0; rest_fits = t.1; fits = fpr_is y is } in
-        subst (λ (q : List ℕ × List ℕ). Taken fpr_bytes IsFprLength (n ∷ mid) q.0 q.1) (some_is (y, after) (f, rest) e) whole
+        subst (λ (q : List ℕ × List ℕ). Taken fpr_bytes IsFprLength (n ∷ mid) q.0 q.1) (same_Some (y, after) (f, rest) e) whole
     go n mid f y rest after fits t false is e = absurd cc
 
     takes : (bytes : List ℕ) (f : List ℕ) (rest : List ℕ) → IsBytes bytes → fpr_at bytes ≡ Some (f, rest) → Taken fpr_bytes IsFprLength bytes f rest
@@ -132,9 +134,6 @@ fpr_part = record { takes = takes; again = again }
 
     again : (f : List ℕ) (rest : List ℕ) → IsFprLength f → fpr_at (fpr_bytes f ++ rest) ≡ Some (f, rest)
     again f rest fits = rw (bytes_again (length f) f rest refl, fpr_yes f fits) refl
-
-no_trust : (n : ℕ) → 7 ≤ n → trust_of_number n ≡ None
-no_trust n h = grind (arith, nat_tests)
 
 -- a value that one byte stands for
 pub coded_part : {A : Type 0} (code : A → ℕ) (of : ℕ → Option A) → ((n : ℕ) (x : A) → of n ≡ Some x → n ≡ code x) → ((x : A) → of (code x) ≡ Some x) → IsPart {A = A} (λ x. number_1 (code x)) (λ x. Unit {0}) (coded_at of)
@@ -150,16 +149,16 @@ coded_part {A = A} code of back there = record {
     go bytes x rest n mid one None is e = absurd cc
     go bytes x rest n mid one (Some y) is e =
         let whole : Taken (λ y. number_1 (code y)) (λ y. Unit {0}) bytes y mid = record { parts = one.parts ∙ ap (λ (k : ℕ). number_1 k ++ mid) (back n y is); rest_fits = one.rest_fits; fits = tt } in
-        subst (λ (q : A × List ℕ). Taken (λ y. number_1 (code y)) (λ y. Unit {0}) bytes q.0 q.1) (some_is (y, mid) (x, rest) e) whole
+        subst (λ (q : A × List ℕ). Taken (λ y. number_1 (code y)) (λ y. Unit {0}) bytes q.0 q.1) (same_Some (y, mid) (x, rest) e) whole
 
 trust_is : (n : ℕ) (t : Trust) → trust_of_number n ≡ Some t → n ≡ trust_number t
-trust_is zero t e = ap trust_number (some_is Unknown t e)
+trust_is zero t e = ap trust_number (same_Some Unknown t e)
 trust_is (suc zero) t e = absurd cc
-trust_is (suc (suc zero)) t e = ap trust_number (some_is Undefined t e)
-trust_is (suc (suc (suc zero))) t e = ap trust_number (some_is Never t e)
-trust_is (suc (suc (suc (suc zero)))) t e = ap trust_number (some_is Marginal t e)
-trust_is (suc (suc (suc (suc (suc zero))))) t e = ap trust_number (some_is Full t e)
-trust_is (suc (suc (suc (suc (suc (suc zero)))))) t e = ap trust_number (some_is Ultimate t e)
+trust_is (suc (suc zero)) t e = ap trust_number (same_Some Undefined t e)
+trust_is (suc (suc (suc zero))) t e = ap trust_number (same_Some Never t e)
+trust_is (suc (suc (suc (suc zero)))) t e = ap trust_number (same_Some Marginal t e)
+trust_is (suc (suc (suc (suc (suc zero))))) t e = ap trust_number (same_Some Full t e)
+trust_is (suc (suc (suc (suc (suc (suc zero)))))) t e = ap trust_number (same_Some Ultimate t e)
 trust_is (suc (suc (suc (suc (suc (suc (suc n))))))) t e = (let none = no_trust (suc (suc (suc (suc (suc (suc (suc n))))))) (omega arith) in absurd cc)
 
 trust_there : (t : Trust) → trust_of_number (trust_number t) ≡ Some t
@@ -174,20 +173,16 @@ pub trust_part : IsPart trust_bytes (λ t. Unit {0}) trust_at
 unfolding trust_bytes trust_at number_1
 trust_part = coded_part trust_number trust_of_number trust_is trust_there
 
-flagged_is : (b : Bool) (o : Option Trust) (v : Ownertrust) → of_trust b o ≡ Some v → (o ≡ Some v.trust) × (v.disabled ≡ b)
-flagged_is b None v e = absurd cc
-flagged_is b (Some t) v e = let same = some_is (record { trust = t; disabled = b }) v e in (ap (λ (w : Ownertrust). Some w.trust) same, sym (ap (λ (w : Ownertrust). w.disabled) same))
-
 ownertrust_is : (n : ℕ) (v : Ownertrust) → ownertrust_of_number n ≡ Some v → n ≡ ownertrust_number v
 ownertrust_is n v e = go (nat_lt n 128) refl e
   where
     go : (b : Bool) → nat_lt n 128 ≡ b → cond {A = Option Ownertrust} b (of_trust false (trust_of_number n)) (of_trust true (trust_of_number (n - 128))) ≡ Some v → n ≡ ownertrust_number v
     go true is e =
-        let f = flagged_is false (trust_of_number n) v e in
+        let f = flagged false (trust_of_number n) v e in
         let t = trust_is n v.trust f.0 in
         rw f.1 t
     go false is e =
-        let f = flagged_is true (trust_of_number (n - 128)) v e in
+        let f = flagged true (trust_of_number (n - 128)) v e in
         let t = trust_is (n - 128) v.trust f.0 in
         let most : 128 ≤ n = ltb-false n 128 is in
         rw f.1 (omega arith)
@@ -231,8 +226,8 @@ user_kind_part = record { takes = takes; again = again }
   where
     takes : (bytes : List ℕ) (k : UserKind) (rest : List ℕ) → IsBytes bytes → user_kind_at bytes ≡ Some (k, rest) → Taken kind_bytes (λ k. Unit {0}) bytes k rest
     takes [] k rest fits e = absurd cc
-    takes (zero ∷ bytes) k rest fits e = subst (λ (q : UserKind × List ℕ). Taken kind_bytes (λ k. Unit {0}) (0 ∷ bytes) q.0 q.1) (some_is (Uid, bytes) (k, rest) e) (record { parts = refl; rest_fits = λ i. fits (suc i); fits = tt })
-    takes (suc zero ∷ bytes) k rest fits e = subst (λ (q : UserKind × List ℕ). Taken kind_bytes (λ k. Unit {0}) (1 ∷ bytes) q.0 q.1) (some_is (Uat, bytes) (k, rest) e) (record { parts = refl; rest_fits = λ i. fits (suc i); fits = tt })
+    takes (zero ∷ bytes) k rest fits e = subst (λ (q : UserKind × List ℕ). Taken kind_bytes (λ k. Unit {0}) (0 ∷ bytes) q.0 q.1) (same_Some (Uid, bytes) (k, rest) e) (record { parts = refl; rest_fits = λ i. fits (suc i); fits = tt })
+    takes (suc zero ∷ bytes) k rest fits e = subst (λ (q : UserKind × List ℕ). Taken kind_bytes (λ k. Unit {0}) (1 ∷ bytes) q.0 q.1) (same_Some (Uat, bytes) (k, rest) e) (record { parts = refl; rest_fits = λ i. fits (suc i); fits = tt })
     takes (suc (suc n) ∷ bytes) k rest fits e = absurd cc
 
     again : (k : UserKind) (rest : List ℕ) → Unit {0} → user_kind_at (kind_bytes k ++ rest) ≡ Some (k, rest)

@@ -1,6 +1,6 @@
 use Rattle.std.proofs.Common.{Some, option_and_then, ap, sym, ◌∙◌}
-use Rattle.wot_levels.proofs.HeadLemmas.{there_is}
 use Rattle.std.specs.FinMap as map
+use Rattle.wot_types.proofs.Optionals.{there_is}
 use Rattle.wot_live.specs.Counts.{key_counts}
 use Rattle.wot_levels.proofs.Walks.{so_far_all, so_far_put, so_far_start}
 use Rattle.wot_live.proofs.recount.counts.Goals as goal

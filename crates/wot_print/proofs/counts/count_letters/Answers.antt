@@ -3,7 +3,7 @@ use Rattle.std.specs.FinMap as finmap
 use Rattle.std.specs.List.{flat_map}
 use Rattle.wot_types.specs.Letters.{user_letters}
 use Rattle.wot_types.specs.Next.{IsNext}
-use Rattle.wot_levels.proofs.HeadLemmas.{there_is}
+use Rattle.wot_types.proofs.Optionals.{there_is}
 use Rattle.wot_print.specs.Counts.{counts_of}
 use Rattle.wot_print.proofs.Pieces.{none_of_left, one_of_left}
 use Rattle.wot_print.proofs.Walking.{left, left_end, left_next, left_start}

@@ -2,7 +2,7 @@ use Rattle.std.proofs.Common.{◌≡◌, ◌+◌, ◌-◌, ◌^◌, min, length,
 use Rattle.std.specs.FinMap as finmap
 use Rattle.std.specs.FinMap.{len-entries}
 use Rattle.wot_types.specs.Numbers.{capped}
-use Rattle.wot_levels.proofs.HeadLemmas.{there_is}
+use Rattle.wot_types.proofs.Optionals.{there_is}
 use Rattle.wot_print.proofs.Counting.{capped_more}
 use Rattle.wot_print.proofs.Walking.{left_end, left_next, left_start}
 use Rattle.wot_print.proofs.counts.count_rows.Goals as goal

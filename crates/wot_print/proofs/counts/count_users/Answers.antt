@@ -3,8 +3,9 @@ use Rattle.std.proofs.lemmas.List.{drop_all}
 use Rattle.wot_types.specs.declared.key.Key.{Key}
 use Rattle.wot_types.specs.Letters.{user_letter}
 use Rattle.wot_types.specs.Selection.{spots_from}
-use Rattle.wot_levels.proofs.HeadLemmas.{there_is}
-use Rattle.wot_levels.proofs.SpotLemmas.{at_place, length-spots}
+use Rattle.wot_types.proofs.Optionals.{there_is}
+use Rattle.wot_table.proofs.Placement.{length_spots}
+use Rattle.wot_levels.proofs.SpotLemmas.{at_place}
 use Rattle.wot_live.proofs.CountLemmas.{append_more}
 use Rattle.wot_print.specs.Counts.{counts_of}
 use Rattle.wot_print.proofs.counts.count_users.Goals as goal
@@ -17,7 +18,7 @@ letter_over-requires g c =
     let i = c.loop-user.user in
     let key = there_is _ c.requires.there in
     let spots = spots_from 0 key.0.users in
-    let many = length-spots 0 key.0.users in
+    let many = length_spots 0 key.0.users in
     let users = (c.requires.head key.0 key.1).users in
     let at = at_place spots i (omega (arith, c.loop-user-test.true, many, users)) in
     record { there = ap is_some (ap (option_and_then (λ (k : Key). slice_get (spots_from 0 k.users) i)) key.1 ∙ at.1) }
@@ -27,7 +28,7 @@ loop-user-preserved g c = λ key letters is counted.
     let i = c.loop-user.user in
     let f = user_letter c.args.engine.now c.args.rows.now c.args.id key in
     let spots = spots_from 0 key.users in
-    let many = length-spots 0 key.users in
+    let many = length_spots 0 key.users in
     let head = c.requires.head key is in
     let at = at_place spots i (omega (arith, c.loop-user-test.true, many, head.users)) in
     let there = ap (option_and_then (λ (k : Key). slice_get (spots_from 0 k.users) i)) is ∙ at.1 in
@@ -43,7 +44,7 @@ returns g c = λ key letters is counted.
     let i = c.loop-user.user in
     let f = user_letter c.args.engine.now c.args.rows.now c.args.id key in
     let spots = spots_from 0 key.users in
-    let many = length-spots 0 key.users in
+    let many = length_spots 0 key.users in
     let head = c.requires.head key is in
     let past = drop_all i spots (omega (arith, c.loop-user-test.false, many, head.users)) in
     let so_far = c.loop-user.invariant key letters is counted in

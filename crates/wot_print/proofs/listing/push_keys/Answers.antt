@@ -6,7 +6,7 @@ use Rattle.wot_types.specs.declared.key.Key.{Key}
 use Rattle.wot_types.specs.Levels.{rows_of}
 use Rattle.wot_types.specs.Next.{IsNext}
 use Rattle.wot_types.specs.Printing.{key_lines}
-use Rattle.wot_levels.proofs.HeadLemmas.{there_is}
+use Rattle.wot_types.proofs.Optionals.{there_is}
 use Rattle.wot_print_laws.specs.Fits.{FitsKey}
 use Rattle.wot_print.proofs.Pieces.{none_of_left, one_of_left}
 use Rattle.wot_print.proofs.Walking.{left, left_end, left_next, left_start}

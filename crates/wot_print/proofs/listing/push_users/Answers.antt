@@ -4,7 +4,8 @@ use Rattle.std.proofs.lemmas.List.Elements.{All-cons, All-nil}
 use Rattle.wot_types.specs.Levels.{rows_of}
 use Rattle.wot_types.specs.Printing.{user_lines}
 use Rattle.wot_types.specs.Selection.{Spot, spots_from}
-use Rattle.wot_levels.proofs.SpotLemmas.{at_place, length-spots}
+use Rattle.wot_table.proofs.Placement.{length_spots}
+use Rattle.wot_levels.proofs.SpotLemmas.{at_place}
 use Rattle.wot_print_laws.specs.Fits.{FitsUser}
 use Rattle.wot_print.proofs.Pieces.{none_of_left, one_of_left}
 use Rattle.wot_print.proofs.Spots.{spots_all}
@@ -17,13 +18,13 @@ loop-user-preserved g c =
     record {
       lines = λ key is many.
           let spots = spots_from 0 key.users in
-          let count = length-spots 0 key.users in
+          let count = length_spots 0 key.users in
           let at = at_place spots i (omega (arith, c.loop-user-test.true, count, many)) in
           one_of_left (user_lines s (rows_of s) c.args.sigs c.args.id key) c.loop-user.text.items c.push_user_at.new.text.items _ at.0 (drop (i + 1) spots) (drop i spots)
           (c.in_ok-push_user_at.ensures.lines key at.0 is at.1) at.2 (c.loop-user.invariant.lines key is many);
       fits = λ key is many sigs rest.
           let spots = spots_from 0 key.users in
-          let count = length-spots 0 key.users in
+          let count = length_spots 0 key.users in
           let at = at_place spots i (omega (arith, c.loop-user-test.true, count, many)) in
           let P = λ (spot : Spot). FitsUser spot.user in
           c.loop-user.invariant.fits key is many sigs
@@ -34,14 +35,14 @@ pub returns-clause-lines : goal.returns-clause-lines
 returns-clause-lines g c = λ key is many.
     let s = c.args.engine.now in
     let spots = spots_from 0 key.users in
-    let count = length-spots 0 key.users in
+    let count = length_spots 0 key.users in
     none_of_left (user_lines s (rows_of s) c.args.sigs c.args.id key) c.loop-user.text.items _ (drop c.loop-user.user spots)
     (drop_all c.loop-user.user spots (omega (arith, c.loop-user-test.false, count, many))) (c.loop-user.invariant.lines key is many)
 
 pub returns-clause-fits : goal.returns-clause-fits
 returns-clause-fits g c = λ key is many sigs.
     let spots = spots_from 0 key.users in
-    let count = length-spots 0 key.users in
+    let count = length_spots 0 key.users in
     let P = λ (spot : Spot). FitsUser spot.user in
     spots_all FitsUser 0 key.users
     (c.loop-user.invariant.fits key is many sigs (subst (All P) (sym (drop_all c.loop-user.user spots (omega (arith, c.loop-user-test.false, count, many)))) (All-nil P)))
