@@ -1,11 +1,12 @@
 -- Where a session stands after a line was answered.
-use Rattle.std.proofs.Common.{◌≡◌, true, false, ◌||◌, [], ◌∷◌, if◌then◌else◌, Result, Ok, Err, refl, sym, ap, ◌∙◌, subst}
-use Rattle.std.specs.Prelude.{IfOk}
+use Rattle.std.proofs.Common.{◌≡◌, Bool, true, false, ◌||◌, [], ◌∷◌, if◌then◌else◌, Result, Ok, Err, refl, sym, ap, ◌∙◌, subst}
+use Rattle.std.specs.Prelude.{IfOk, not, ◌&&◌}
+use Rattle.std.proofs.lemmas.Bool.{not-false}
 use Rattle.std.proofs.lemmas.List.{append-nil}
 use Rattle.std.proofs.Math.Bool.{or-false}
 use Rattle.wot_types.specs.State.{State}
 use Rattle.wot_types.specs.Commands as lines
-use Rattle.wot_types.specs.Commands.{Command, ReadLine, closed_command, cut_by, ends, is_quit, made_by, of_line, opened_command, opens_block, with_line, words_in}
+use Rattle.wot_types.specs.Commands.{Command, ReadLine, closed_command, cut_by, ends, ends_block, is_quit, made_by, of_line, opened_command, opens_block, with_line, words_in}
 use Rattle.wot_types.specs.Commands.Cut.{between, within, over}
 use Rattle.wot_types.specs.LineByLine.{Position}
 use Rattle.wot_types.specs.Outcome.{Outcome, outcome, skip}
@@ -14,9 +15,9 @@ use Rattle.wot_types.specs.Store.{Store}
 use Rattle.wot_answer.specs.declared.block.Block.{Block}
 use Rattle.wot_answer.specs.Block.{IsBlockOf}
 use Rattle.wot_answer.specs.declared.answer.Answered.{Answered}
-use Rattle.wot_answer.specs.declared.answer.Cut.{Cut}
-use Rattle.wot_answer.specs.declared.answer.Cut.TheVariants.{Between, Within, Over}
-use Rattle.wot_answer.specs.Answer.{Answers, Does, Ends, IsCut, IsReply}
+use Rattle.wot_answer.specs.declared.cut.Cut.{Cut}
+use Rattle.wot_answer.specs.declared.cut.Cut.TheVariants.{Between, Within, Over}
+use Rattle.wot_answer.specs.Answer.{Answers, Does, Ends, IsCut, IsReply, reads_on}
 
 module _ (answered : Answered) (p : Position) (line : ReadLine) where
   -- a command is whole, and was answered
@@ -61,13 +62,6 @@ module _ (answered : Answered) (p : Position) (line : ReadLine) where
       answers_whole (closed_command command) (ap (λ c. made_by c line) here ∙ ap (λ b. if b then closed_command command ∷ [] else []) ended) replied
       (subst (IsCut answered.cut) (sym (ap (λ c. cut_by c line) here ∙ ap (λ b. if b then between else within (with_line command line)) ended)) (subst (λ c. IsCut c between) (sym now) tt))
 
-  -- a line of it
-  pub answers_more : (old : State) → old ≡ p.progress.store.state → (command : Command) → p.cut ≡ within command → ends command line ≡ false → IsReply answered old skip
-      → IsCut answered.cut (within (with_line command line)) → Answers answered p line
-  answers_more old same command here goes reply now =
-      answers_none old same (ap (λ c. made_by c line) here ∙ ap (λ b. if b then closed_command command ∷ [] else []) goes) reply
-      (subst (IsCut answered.cut) (sym (ap (λ c. cut_by c line) here ∙ ap (λ b. if b then between else within (with_line command line)) goes)) now)
-
   -- behind `quit`
   pub answers_over : (old : State) → old ≡ p.progress.store.state → p.cut ≡ over → IsReply answered old skip → answered.cut ≡ Over → Answers answered p line
   answers_over old same here reply now =
@@ -89,6 +83,10 @@ pub within_cut : (block : Block) (c : lines.Cut) → IsCut (Within block) c → 
 within_cut block (within command) is = (command, refl, is)
 within_cut block between is = absurd is
 within_cut block over is = absurd is
+
+-- a line that a block doesn't go on with ends the block of its command
+pub is_ended : (block : Block) (command : Command) (line : ReadLine) → IsBlockOf block command → reads_on (Within block) line ≡ false → ends command line ≡ true
+is_ended block command line of stops = ap (λ b. not b && ends_block line) of.to_end ∙ not-false _ stops
 
 -- an answer whose cut is set anew
 pub recut : (answered : Answered) (cut : Cut) (s : Store) (o : Outcome) → Ends answered s o → Ends (record answered { cut = cut }) s o

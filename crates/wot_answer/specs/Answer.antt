@@ -1,9 +1,9 @@
 -- What a line of a session is answered with.
-use Rattle.std.specs.Prelude.{◌≡◌, ◌||◌}
+use Rattle.std.specs.Prelude.{◌≡◌, Bool, false, not, ◌&&◌, ◌||◌}
 use Rattle.wot_types.specs.declared.edit.Edit.{Edit}
 use Rattle.wot_types.specs.State.{State}
 use Rattle.wot_types.specs.Commands as lines
-use Rattle.wot_types.specs.Commands.{Command, ReadLine}
+use Rattle.wot_types.specs.Commands.{Command, ReadLine, ends_block}
 use Rattle.wot_types.specs.Commands.Cut.{between, within, over}
 use Rattle.wot_types.specs.LineByLine.{Position, after_line, reply_to_line}
 use Rattle.wot_types.specs.Outcome.{Accepts, Outcome, store_after, edited_store}
@@ -12,8 +12,8 @@ use Rattle.wot_types.specs.Store.{Store}
 use Rattle.wot_journal.specs.Record.{Framed}
 use Rattle.wot_answer.specs.Block.{IsBlockOf}
 use Rattle.wot_answer.specs.declared.answer.Answered.{Answered}
-use Rattle.wot_answer.specs.declared.answer.Cut.{Cut}
-use Rattle.wot_answer.specs.declared.answer.Cut.TheVariants.{Between, Within, Over}
+use Rattle.wot_answer.specs.declared.cut.Cut.{Cut}
+use Rattle.wot_answer.specs.declared.cut.Cut.TheVariants.{Between, Within, Over}
 use Rattle.wot_answer.specs.declared.reply.Effect.{Effect}
 use Rattle.wot_answer.specs.declared.reply.Effect.TheVariants.{Nothing, Append}
 
@@ -23,6 +23,11 @@ IsCut Between between = Unit {0}
 IsCut (Within block) (within command) = IsBlockOf block command
 IsCut Over over = Unit {0}
 IsCut _ _ = ⊥
+
+-- a block goes on with this line
+abbrev pub reads_on : Cut → ReadLine → Bool
+reads_on (Within block) line = not (not block.to_end && ends_block line)
+reads_on _ line = false
 
 -- the record is that of an edit which the one store accepts, for the end of its journal, and the other is the store after it
 pub record Leads (built : Framed) (s t : Store) : Type 0 where

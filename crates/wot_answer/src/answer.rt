@@ -1,10 +1,10 @@
 //! The answers to lines, to blocks at the input's end and to words.
 
-ghost use Rattle.std.specs.Prelude.{◌≡◌, true, List, Some, if◌then◌else◌, IfOk};
+ghost use Rattle.std.specs.Prelude.{◌≡◌, true, false, List, Some, if◌then◌else◌, IfOk};
 ghost use Rattle.std.specs.Option.{option_copied};
 ghost use Rattle.wot_types.specs.Commands as lines;
 ghost use Rattle.wot_types.specs.Commands.{Command, begun_command, closed_command, is_quit};
-ghost use Rattle.wot_types.specs.Commands.Cut.{between, over, within};
+ghost use Rattle.wot_types.specs.Commands.Cut.{between, over};
 ghost use Rattle.wot_types.specs.Grammar.{has_block};
 ghost use Rattle.wot_types.specs.LineByLine.{Position};
 ghost use Rattle.wot_types.specs.Listing.{Line, fault_at_end};
@@ -13,11 +13,12 @@ ghost use Rattle.wot_types.specs.OwnertrustText.{ownertrust_fault};
 ghost use Rattle.wot_types.specs.Store.{Store};
 ghost use Rattle.wot_listing.specs.Reading.{HasRead};
 ghost use Rattle.wot_ownertrust.specs.Reading.{reading};
-ghost use Rattle.wot_answer.specs.Answer.{Answers, Ends, IsCut};
+ghost use Rattle.wot_answer.specs.Answer.{Answers, Ends, IsCut, reads_on};
 ghost use Rattle.wot_answer.specs.Block.{IsBlockOf, IsReadFor};
-ghost use Rattle.wot_answer.specs.declared.answer.Cut.TheVariants.{Between};
+ghost use Rattle.wot_answer.specs.declared.cut.Cut.TheVariants.{Between};
 
 use crate::block::{Block, Body};
+use crate::cut::Cut;
 use crate::edit::make_edit;
 use crate::edit_reply::EditReply;
 use crate::query::{answer_query, has_key};
@@ -31,17 +32,6 @@ use wot_ownertrust::{OwnertrustText, TextError};
 use wot_print::{entries_line, import_line, ok_line};
 use wot_types::{Edit, Fpr, Head, Mem, Refusal, Words};
 
-/// Where the lines so far leave the cut into commands.
-#[derive(Drop)]
-pub enum Cut {
-    /// The next line is a command.
-    Between,
-    /// The next line belongs to this block, or ends it.
-    Within(Block),
-    /// `quit` was answered: no further line is read.
-    Over,
-}
-
 /// An answer, and what a session holds after it.
 #[derive(Drop)]
 pub struct Answered {
@@ -50,7 +40,7 @@ pub struct Answered {
     pub cut: Cut,
 }
 
-/// Answers a line without its newline; None is a line that is too long. The journal ends at `end`.
+/// Answers a line without its newline; None is a line that is too long. A line that a block goes on with is read by `Cut::read_on`, and not answered here. The journal ends at `end`.
 pub fn answer_line(
     alloc: Global,
     engine: Engine,
@@ -59,12 +49,13 @@ pub fn answer_line(
     line: Option<&[u8]>,
 ) -> Result<Answered, Mem>
     requires known { (c : lines.Cut) × IsCut cut c }
+    requires ended { reads_on cut (option_copied line) ≡ false }
     ensures answers { IfOk result (λ answered. (p : Position) → engine ≡ p.progress.store.state → end ≡ p.progress.store.end
         → IsCut cut p.cut → Answers answered p (option_copied line.entry)) }
 {
     match cut {
         Cut::Between => answer_command(alloc, engine, end, line),
-        Cut::Within(block) => answer_in_block(alloc, engine, end, block, line),
+        Cut::Within(block) => answer_body(alloc, engine, end, block.body),
         Cut::Over => Ok(say_nothing(alloc, engine, Cut::Over)),
     }
 }
@@ -116,25 +107,6 @@ fn cut_after(words: &Words) -> Cut
     } else {
         Cut::Between
     }
-}
-
-/// Within a block: its end is answered, and another line is read.
-fn answer_in_block(
-    alloc: Global,
-    engine: Engine,
-    end: u64,
-    block: Block,
-    line: Option<&[u8]>,
-) -> Result<Answered, Mem>
-    requires known { (command : Command) × IsBlockOf block command }
-    ensures answers { IfOk result (λ answered. (p : Position) (command : Command) → engine ≡ p.progress.store.state → end ≡ p.progress.store.end
-        → p.cut ≡ within command → IsBlockOf block command → Answers answered p (option_copied line.entry)) }
-{
-    if block.is_ended_by(line) {
-        return answer_body(alloc, engine, end, block.body);
-    }
-    let block = block.add_line(line)?;
-    Ok(say_nothing(alloc, engine, Cut::Within(block)))
 }
 
 /// Answers a command whose block is unfinished at the end of the input. What it answers as the cut says nothing.

@@ -1,6 +1,6 @@
 //! The block of a command, which is read as it comes.
 
-ghost use Rattle.std.specs.Prelude.{◌≡◌, ◌∷◌, [], ◌++◌, ◌&&◌, not, true, List, Result, Some, IfOk};
+ghost use Rattle.std.specs.Prelude.{◌≡◌, ◌∷◌, [], ◌++◌, ◌&&◌, not, true, List, Result, Some, IfOk, OnOk};
 ghost use Rattle.std.specs.Option.{option_copied};
 ghost use Rattle.wot_types.specs.declared.edit.Head.{Head};
 ghost use Rattle.wot_types.specs.Commands.{Command, ReadLine, ends_block, with_line};
@@ -42,13 +42,10 @@ impl Block {
     }
 
     /// Reads a line of the block; None is one that is too long.
-    pub fn add_line(self, line: Option<&[u8]>) -> Result<Block, Mem>
-        ensures fed { IfOk result (λ block. (command : Command) → IsBlockOf self command → IsBlockOf block (with_line command (option_copied line.entry))) }
+    pub fn add_line(&mut self, line: Option<&[u8]>) -> Result<(), Mem>
+        ensures fed { OnOk result ((command : Command) → IsBlockOf self.old command → IsBlockOf self.new (with_line command (option_copied line.entry))) }
     {
-        Ok(Block {
-            to_end: self.to_end,
-            body: self.body.add_line(line)?,
-        })
+        self.body.add_line(line)
     }
 }
 
@@ -66,33 +63,33 @@ impl Body {
     }
 
     /// Reads a line of the block; None is one that is too long.
-    pub fn add_line(self, line: Option<&[u8]>) -> Result<Body, Mem>
-        ensures fed { IfOk result (λ body. (head : Result Head Refusal) (lines : List ReadLine)
-            → HasHad self head lines → HasHad body head (lines ++ option_copied line.entry ∷ [])) }
+    pub fn add_line(&mut self, line: Option<&[u8]>) -> Result<(), Mem>
+        ensures fed { OnOk result ((head : Result Head Refusal) (lines : List ReadLine)
+            → HasHad self.old head lines → HasHad self.new head (lines ++ option_copied line.entry ∷ [])) }
     {
         match line {
             Some(line) => self.add_text(line),
-            None => Ok(Body::Refused(Refusal::LineTooLong)),
+            None => {
+                *self = Body::Refused(Refusal::LineTooLong);
+                Ok(())
+            }
         }
     }
 
     /// Reads a line that isn't too long.
-    fn add_text(self, line: &[u8]) -> Result<Body, Mem>
-        ensures fed { IfOk result (λ body. (head : Result Head Refusal) (lines : List ReadLine)
-            → HasHad self head lines → HasHad body head (lines ++ Some line.now ∷ [])) }
+    fn add_text(&mut self, line: &[u8]) -> Result<(), Mem>
+        ensures fed { OnOk result ((head : Result Head Refusal) (lines : List ReadLine)
+            → HasHad self.old head lines → HasHad self.new head (lines ++ Some line.now ∷ [])) }
     {
         let line = without_return(line);
         match self {
-            Body::Refused(refusal) => Ok(Body::Refused(refusal)),
-            Body::Listing(mut listing) => match listing.feed_line(line) {
+            Body::Refused(_) => Ok(()),
+            Body::Listing(listing) => match listing.feed_line(line) {
                 // A fault is kept by the reader.
-                Ok(()) | Err(ListingError::Fault(_)) => Ok(Body::Listing(listing)),
+                Ok(()) | Err(ListingError::Fault(_)) => Ok(()),
                 Err(ListingError::Memory) => Err(Mem::Memory),
             },
-            Body::Ownertrust(mut text) => {
-                text.add_line(line)?;
-                Ok(Body::Ownertrust(text))
-            }
+            Body::Ownertrust(text) => text.add_line(line),
         }
     }
 }

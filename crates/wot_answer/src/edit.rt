@@ -6,9 +6,10 @@ ghost use Rattle.wot_types.specs.Payload.{IsProper};
 ghost use Rattle.wot_types.specs.Store.{Store};
 ghost use Rattle.wot_answer.specs.Answer.{Ends};
 ghost use Rattle.wot_answer.specs.EditReply.{reply_text};
-ghost use Rattle.wot_answer.specs.declared.answer.Cut.TheVariants.{Between};
+ghost use Rattle.wot_answer.specs.declared.cut.Cut.TheVariants.{Between};
 
-use crate::answer::{Answered, Cut};
+use crate::answer::Answered;
+use crate::cut::Cut;
 use crate::edit_reply::EditReply;
 use crate::reply::{Answer, Effect, refuse};
 use std::alloc::Global;

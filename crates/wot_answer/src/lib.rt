@@ -4,13 +4,15 @@
 
 mod answer; // the answers to lines, to blocks at the input's end and to words
 mod block; // a command's block, read as it comes
+mod cut; // where the lines so far leave the cut into commands
 mod edit; // an edit that is refused or made
 mod edit_reply; // what an accepted edit is answered with
 mod query; // what a query is answered with
 mod reply; // a reply with the engine that it leaves
 mod words; // the words of a line
 
-pub use answer::{Answered, Cut, answer_end, answer_line, answer_words, begin_block};
+pub use answer::{Answered, answer_end, answer_line, answer_words, begin_block};
 pub use block::Block;
+pub use cut::Cut;
 pub use reply::{Answer, Effect};
 pub use words::has_block;

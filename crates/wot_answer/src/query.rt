@@ -8,7 +8,7 @@ ghost use Rattle.wot_types.specs.WhyText.{why_text};
 ghost use Rattle.wot_types.specs.Store.{Store};
 ghost use Rattle.wot_commands.specs.Heads.{IsProperQuery};
 ghost use Rattle.wot_answer.specs.Answer.{Ends};
-ghost use Rattle.wot_answer.specs.declared.answer.Cut.TheVariants.{Between};
+ghost use Rattle.wot_answer.specs.declared.cut.Cut.TheVariants.{Between};
 
 use crate::answer::Answered;
 use crate::reply::{refuse, reply};

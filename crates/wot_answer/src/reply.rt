@@ -4,9 +4,10 @@ ghost use Rattle.std.specs.Prelude.{◌≡◌, false, IfOk};
 ghost use Rattle.wot_types.specs.Outcome.{refuse, skip};
 ghost use Rattle.wot_types.specs.Store.Change.{keeps};
 ghost use Rattle.wot_answer.specs.Answer.{IsReply};
-ghost use Rattle.wot_answer.specs.declared.answer.Cut.TheVariants.{Between};
+ghost use Rattle.wot_answer.specs.declared.cut.Cut.TheVariants.{Between};
 
-use crate::answer::{Answered, Cut};
+use crate::answer::Answered;
+use crate::cut::Cut;
 use std::alloc::Global;
 use wot_journal::Built;
 use wot_live::Engine;

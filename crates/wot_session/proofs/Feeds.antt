@@ -10,8 +10,8 @@ use Rattle.wot_types.specs.LineByLine.{Position, after_line, after_lines, comman
 use Rattle.wot_types.specs.Session.{after_all}
 use Rattle.wot_types.proofs.Cuts.{after_one, lines_append, none_over, one_line, stays_over, whole_append}
 use Rattle.wot_answer.specs.Answer.{IsCut}
-use Rattle.wot_answer.specs.declared.answer.Cut.{Cut}
-use Rattle.wot_answer.specs.declared.answer.Cut.TheVariants.{Between, Over, Within}
+use Rattle.wot_answer.specs.declared.cut.Cut.{Cut}
+use Rattle.wot_answer.specs.declared.cut.Cut.TheVariants.{Between, Over, Within}
 use Rattle.wot_site.specs.Seen.{Seen, Honestly, IfHonest}
 use Rattle.wot_site.proofs.Honest.{honest_then, honest_weaker}
 use Rattle.wot_session.specs.declared.session.Session.{Session}

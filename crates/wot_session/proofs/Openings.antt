@@ -20,7 +20,7 @@ use Rattle.wot_store.proofs.Unique.{shows_once}
 use Rattle.std.proofs.lemmas.Bool.{eqb-true}
 use Rattle.wot_answer.specs.Answer.{IsCut}
 use Rattle.wot_answer.specs.Block.{IsBlockOf}
-use Rattle.wot_answer.specs.declared.answer.Cut.TheVariants.{Within}
+use Rattle.wot_answer.specs.declared.cut.Cut.TheVariants.{Within}
 use Rattle.wot_answer.specs.declared.block.Block.{Block}
 use Rattle.wot_session.specs.Here.{Holds}
 use Rattle.wot_session.specs.Input as input

@@ -4,7 +4,7 @@ use Rattle.wot_types.specs.Store.{Store}
 use Rattle.wot_types.specs.LineByLine.{Position}
 use Rattle.wot_answer.specs.Answer.{Does, IsCut}
 use Rattle.wot_answer.specs.declared.reply.Answer.{Answer}
-use Rattle.wot_answer.specs.declared.answer.Cut.TheVariants.{Over}
+use Rattle.wot_answer.specs.declared.cut.Cut.TheVariants.{Over}
 use Rattle.wot_answer.specs.declared.reply.Effect.{Effect}
 use Rattle.wot_site.specs.Seen.{IfHonest, Seen}
 use Rattle.wot_store.specs.Shows.{IsStored}

@@ -4,7 +4,7 @@ use Rattle.std.proofs.lemmas.Result.{IfOk-weaker}
 use Rattle.wot_types.specs.declared.refusal.Refusal.TheVariants.{LineTooLong}
 use Rattle.wot_types.specs.Commands.Cut.{between}
 use Rattle.wot_types.specs.Outcome.{refuse}
-use Rattle.wot_answer.specs.declared.answer.Cut.TheVariants.{Between}
+use Rattle.wot_answer.specs.declared.cut.Cut.TheVariants.{Between}
 use Rattle.wot_answer.specs.Answer.{Answers, Ends, IsCut, IsReply}
 use Rattle.wot_answer.proofs.Answering.{answers_line, if_both}
 use Rattle.wot_answer.proofs.Outcomes.{long_is}

@@ -1,15 +1,15 @@
-use Rattle.std.proofs.Common.{subst}
+use Rattle.std.proofs.Common.{◌≡◌, false, subst}
 use Rattle.std.specs.Option.{option_copied}
 use Rattle.std.proofs.lemmas.Result.{IfOk-weaker}
-use Rattle.wot_answer.specs.Answer.{IsCut}
-use Rattle.wot_answer.proofs.Answering.{answers_over, is_between, is_over, within_cut}
+use Rattle.wot_answer.specs.Answer.{IsCut, reads_on}
+use Rattle.wot_answer.proofs.Answering.{answers_end, answers_over, if_both, is_between, is_ended, is_over, within_cut}
 use Rattle.wot_answer.proofs.answer.answer_line.Goals as goal
 
-pub answer_in_block-requires : goal.answer_in_block-requires
-answer_in_block-requires c = record {
+pub answer_body-requires : goal.answer_body-requires
+answer_body-requires c = record {
   known =
       let known = within_cut c.in-Within.block c.requires.known.0 (subst (λ held. IsCut held c.requires.known.0) c.in-Within.is c.requires.known.1) in
-      (known.0, known.2);
+      (known.0, known.2.read);
 }
 
 pub returns-in-Between : goal.returns-in-Between
@@ -23,11 +23,13 @@ returns-in-Between c = record {
 pub returns-in-Within : goal.returns-in-Within
 returns-in-Within c = record {
   answers =
-      IfOk-weaker c.answer_in_block.result _ _
-      (λ answered is p same at cut.
+      IfOk-weaker c.answer_body.result _ _
+      (λ answered both p same at cut.
       let known = within_cut c.in-Within.block p.cut (subst (λ held. IsCut held p.cut) c.in-Within.is cut) in
-      is p known.0 same at known.1 known.2)
-      c.answer_in_block.ensures.answers;
+      let line = option_copied c.args.line in
+      let ended = is_ended c.in-Within.block known.0 line known.2 (subst (λ held. reads_on held line ≡ false) c.in-Within.is c.requires.ended) in
+      answers_end answered p line known.0 known.1 ended (both.0 p.progress.store known.0 same at known.2.read) both.1)
+      (if_both _ _ c.answer_body.result c.answer_body.ensures.ends c.answer_body.ensures.cut);
 }
 
 pub returns-in-Over : goal.returns-in-Over
