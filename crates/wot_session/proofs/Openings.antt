@@ -29,7 +29,7 @@ use Rattle.wot_session.specs.Kept.{IsPrefixOf, IsSafe, IsWhole, Kept}
 use Rattle.wot_session.specs.Run.{Ended, IsCrashSafe, IsOfStart, Ran, Stopped, Unopened}
 use Rattle.wot_session.specs.Stop.{status_of}
 use Rattle.wot_session.specs.Told.{IsAnswering, Said, SaidPrefix}
-use Rattle.wot_session.specs.Words.{Read, WordsEnded, WordsStopped}
+use Rattle.wot_session.specs.Words.{IsUnread, Read, WordsEnded, WordsStopped}
 use Rattle.wot_session.specs.declared.stop.Stop.{Stop}
 use Rattle.wot_session.specs.declared.stop.Stop.TheVariants.{DiskFault, Memory, ReadFault, TellFault, TooLong}
 use Rattle.wot_session.proofs.Keeping.{kept_here, stored_shows, whole_here}
@@ -51,6 +51,10 @@ still x y (inr (mid, settling, settled, keeping)) = record {
   taken = keeping.taken ∙ settling.taken;
   asks = keeping.asks ∙ settling.asks;
 }
+
+-- what left the input untouched since the opening left it so since the start
+unread_later : {x y z : Seen} → Still x y → IsUnread y z → IsUnread x z
+unread_later quiet unread = record { left = unread.left ∙ quiet.left; taken = unread.taken ∙ quiet.taken; asks = unread.asks ∙ quiet.asks }
 
 -- what shows as the sides read shows the one store
 shown : (store : Store) (reads image : Image) → Shows reads store → (image ≡ reads) ⊎ ShowsAs image reads → Shows image store
@@ -146,7 +150,7 @@ module _ (store : Store) (words : List (List ℕ)) (x y : Seen) (opening : Openi
         taken = rw (← quiet.taken) quit.taken;
         quits = quit.quits;
       })
-      read_later quiet false unread = record { left = unread.left ∙ quiet.left; taken = unread.taken ∙ quiet.taken; asks = unread.asks ∙ quiet.asks }
+      read_later quiet false unread = unread_later quiet unread
 
   pub opened_stopped : (most : ℕ) (stop : Stop) (z : Seen) → WordsStopped store words most stop y z → Stopped words most stop x z
   opened_stopped most stop z stopped =
@@ -159,8 +163,9 @@ module _ (store : Store) (words : List (List ℕ)) (x y : Seen) (opening : Openi
         text = stopped.text;
         told = told;
         is_prefix = rw (← quiet.left) stopped.is_prefix;
+        unread = λ none. unread_later quiet (stopped.unread none);
         read_fault = λ is. rw (← quiet.told, ← quiet.taken, ← quiet.left) (stopped.read_fault is);
-        too_long = λ is. rw (← quiet.told, ← quiet.left) (stopped.too_long is);
+        too_long = λ is. rw (← quiet.told, ← quiet.taken, ← quiet.left) (stopped.too_long is);
         punctual = punctual_later z stopped.punctual;
         safe = safe_later z stopped.since;
         here = kept_safe (at_start store) (commands_of words x.left) x.told (now z) here;
@@ -188,6 +193,7 @@ module _ (store : Store) (words : List (List ℕ)) (takes : takes_input words �
     text = stopped.text;
     told = stopped.told;
     is_prefix = subst (λ commands. IsPrefixOf stopped.text (replies (at_start store) commands)) (same_input y.left) stopped.is_prefix;
+    unread = λ none. cc;
     read_fault = stopped.read_fault;
     too_long = stopped.too_long;
     punctual = stopped.punctual;
@@ -231,6 +237,7 @@ module _ (store : Store) (words : List (List ℕ)) (some : words ≡ [] → ⊥)
         text = said.told.prefix;
         told = told.told;
         is_prefix = subst (λ commands. IsPrefixOf said.told.prefix (replies (at_start store) commands)) same said.told.is_prefix;
+        unread = λ _. record { left = told.left; taken = told.taken; asks = told.asks };
         read_fault = λ is. absurd (no_read stop kind is);
         too_long = λ is. absurd (no_long stop kind is);
         punctual = record { since = []; asks = told.asks ∙ sym (append-nil y.asks); each = All-nil _ };
@@ -247,6 +254,7 @@ words_nothing_at store words most x stored =
       text = [];
       told = sym (append-nil x.told);
       is_prefix = (output_of store words x.left, refl);
+      unread = λ _. record { left = refl; taken = refl; asks = refl };
       read_fault = λ is. cc;
       too_long = λ is. cc;
       punctual = record { since = []; asks = sym (append-nil x.asks); each = All-nil _ };

@@ -235,9 +235,10 @@ module _ (s : Position) where
         too_long = λ is.
             let long = stopped.too_long is in (
               omega (arith, long.0, bound, ap length reached.left, length-append fed now.left),
-              joined fed _ first now next heard.told long.1 ∙ ap (λ text. first.told ++ text) (sym (so_far_append s fed (take room now.left)))
+              omega (arith, long.1, bound, reached.taken),
+              joined fed _ first now next heard.told long.2 ∙ ap (λ text. first.told ++ text) (sym (so_far_append s fed (take room now.left)))
                   ∙ ap (λ bytes. first.told ++ so_far_at s bytes) (sym first_bytes),
-              λ ended. long.2 (sym (cut_more s fed (take room now.left)) ∙ ap (cut_at s) (sym first_bytes) ∙ ended),
+              λ ended. long.3 (sym (cut_more s fed (take room now.left)) ∙ ap (cut_at s) (sym first_bytes) ∙ ended),
             );
         since = subst (λ commands. Since (Kept s.progress commands first.told) first next) (sym all)
             (since_behind fed (piece_commands ++ others) first now next heard (since_weaker _ _ now next (λ m. kept_more (position_after s fed).progress piece_commands others now.told m) stopped.since));

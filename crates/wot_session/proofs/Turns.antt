@@ -167,6 +167,7 @@ module _ (n : ℕ) (buf : List ℕ) {x y : Seen} (takes : Takes n buf x y) where
           read_fault = λ other. cc;
           too_long = λ _. (
             omega (arith, takes.within, less),
+            omega (arith, said.told.taken, ap (λ (s : Seen). s.taken) takes.after, less),
             told ∙ ap (λ piece. x.told ++ replies p.progress (commands_fed p line piece)) (piece_is m within),
             λ ended. goes (ap (cut_fed p line) (piece_is m within) ∙ ended),
           );

@@ -64,14 +64,15 @@ pub record Ended (s : Position) (most : ℕ) (refused : Bool) (old new : Seen) :
   pub punctual : IsPunctual s old new
   pub since : Since (Kept s.progress (commands_at s old.left) old.told) old new
 
--- it stopped, and a prefix of the replies was told
+-- it stopped, and a prefix of the replies was told. The input is too long only where more bytes than the bound were taken
 pub record Stopped (s : Position) (most : ℕ) (stop : Stop) (old new : Seen) : Type 0 where
   pub text : List ℕ
   pub is_prefix : IsPrefixOf text (replies s.progress (commands_at s old.left))
   pub told : new.told ≡ old.told ++ text
   pub punctual : IsPunctual s old new
   pub read_fault : stop ≡ ReadFault → (new.taken - old.taken ≤ most) × (new.told ≡ old.told ++ so_far_at s (take (new.taken - old.taken) old.left))
-  pub too_long : stop ≡ TooLong → (most < length old.left) × (new.told ≡ old.told ++ so_far_at s (take most old.left)) × (cut_at s (take most old.left) ≡ over → ⊥)
+  pub too_long : stop ≡ TooLong → (most < length old.left) × (most < new.taken - old.taken) × (new.told ≡ old.told ++ so_far_at s (take most old.left))
+      × (cut_at s (take most old.left) ≡ over → ⊥)
   pub since : Since (Kept s.progress (commands_at s old.left) old.told) old new
   pub here : Kept s.progress (commands_at s old.left) old.told (now new)
   pub whole : IsBetween stop → IsWhole s.progress (commands_at s old.left) old.told new

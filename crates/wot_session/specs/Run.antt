@@ -14,7 +14,7 @@ use Rattle.wot_store.specs.Shows.{IsStored, Shows}
 use Rattle.wot_session.specs.Input.{IsPunctual, cut_at, so_far_at}
 use Rattle.wot_session.specs.Kept.{IsPrefixOf, IsSafe, ShowsState}
 use Rattle.wot_session.specs.Turn.{IsBetween}
-use Rattle.wot_session.specs.Words.{Read}
+use Rattle.wot_session.specs.Words.{IsUnread, Read}
 use Rattle.wot_session.specs.declared.stop.Stop.{Stop}
 use Rattle.wot_session.specs.declared.stop.Stop.TheVariants.{DiskFault, ReadFault, TellFault, Memory, TooLong}
 use Rattle.wot_session.specs.declared.status.Status.{Status}
@@ -50,15 +50,18 @@ pub record Ended (words : List (List ℕ)) (most : ℕ) (refused : Bool) (old ne
   pub safe : IsCrashSafe store (commands_of words old.left) old new
 
 -- the run stopped: a prefix of the output was told, and every image shows a state of the crash clause. Where reading failed,
--- the input is too long or memory was wanted, it is the state after exactly the edits acknowledged
+-- the input is too long or memory was wanted, it is the state after exactly the edits acknowledged. An input is too long only
+-- where more bytes than the bound were taken, and a run of one command without a block took nothing
 pub record Stopped (words : List (List ℕ)) (most : ℕ) (stop : Stop) (old new : Seen) : Type 0 where
   pub store : Store
   pub shows : Shows (reads_of old.disks) store
   pub text : List ℕ
   pub told : new.told ≡ old.told ++ text
   pub is_prefix : IsPrefixOf text (output_of store words old.left)
+  pub unread : takes_input words ≡ false → IsUnread old new
   pub read_fault : stop ≡ ReadFault → (new.taken - old.taken ≤ most) × (new.told ≡ old.told ++ so_far_at (at_first store words) (take (new.taken - old.taken) old.left))
-  pub too_long : stop ≡ TooLong → (most < length old.left) × (new.told ≡ old.told ++ so_far_at (at_first store words) (take most old.left))
+  pub too_long : stop ≡ TooLong → (most < length old.left) × (most < new.taken - old.taken)
+      × (new.told ≡ old.told ++ so_far_at (at_first store words) (take most old.left))
       × (cut_at (at_first store words) (take most old.left) ≡ over → ⊥)
   pub punctual : IsPunctual (at_first store words) old new
   pub safe : IsCrashSafe store (commands_of words old.left) old new
@@ -73,11 +76,11 @@ pub record Unopened (words : List (List ℕ)) (old new : Seen) : Type 0 where
   pub asks : new.asks ≡ old.asks
   pub safe : (store : Store) → Shows (reads_of old.disks) store → IsCrashSafe store (commands_of words old.left) old new
 
--- what a run with these words and this bound did, by the status that it answers
+-- what a run with these words and this bound did, by the status that it answers; words of the grammar are no wrong usage
 abbrev pub Ran : List (List ℕ) → ℕ → Status → Seen → Seen → Type 0
 Ran words most status.Done = Ended words most false
 Ran words most status.Refused = Ended words most true
-Ran words most status.Usage = Stays
+Ran words most status.Usage = λ old new. ⊥
 Ran words most status.ReadFault = Stopped words most ReadFault
 Ran words most status.TellFault = Stopped words most TellFault
 Ran words most status.DiskFault = λ old new. Unopened words old new ⊎ Stopped words most DiskFault old new

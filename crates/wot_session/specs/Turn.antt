@@ -1,5 +1,5 @@
 -- One call of `take`, and the lines that its bytes end.
-use Rattle.std.specs.Prelude.{ℕ, ◌≡◌, ◌⊎◌, ◌+◌, ◌<◌, ◌≤◌, List, [], ◌∷◌, ◌++◌, length, take, Option}
+use Rattle.std.specs.Prelude.{ℕ, ◌≡◌, ◌⊎◌, ◌+◌, ◌-◌, ◌<◌, ◌≤◌, List, [], ◌∷◌, ◌++◌, length, take, Option}
 use Rattle.wot_types.specs.Commands.{Command, Cut, cut_after}
 use Rattle.wot_types.specs.Commands.Cut.{over}
 use Rattle.wot_types.specs.LineByLine.{Position, commands_in}
@@ -47,7 +47,8 @@ pub record StoppedTurn (p : Position) (line : Option (List ℕ)) (room : ℕ) (s
   pub told : new.told ≡ old.told ++ text
   pub asks : (new.asks ≡ old.asks ++ asked_at old ∷ []) ⊎ (new.asks ≡ old.asks)
   pub read_fault : stop ≡ ReadFault → (new.taken ≡ old.taken) × (new.told ≡ old.told)
-  pub too_long : stop ≡ TooLong → (room < length old.left) × (new.told ≡ old.told ++ replies p.progress (commands_fed p line (take room old.left)))
+  pub too_long : stop ≡ TooLong → (room < length old.left) × (room < new.taken - old.taken)
+      × (new.told ≡ old.told ++ replies p.progress (commands_fed p line (take room old.left)))
       × (cut_fed p line (take room old.left) ≡ over → ⊥)
   pub since : Since (Kept p.progress (commands_fed p line piece) old.told) old new
   pub here : Kept p.progress (commands_fed p line piece) old.told (now new)

@@ -34,13 +34,15 @@ pub record WordsEnded (store : Store) (words : List (List ℕ)) (most : ℕ) (re
   pub punctual : IsPunctual (at_first store words) old new
   pub since : Since (Kept (at_start store) (commands_of words old.left) old.told) old new
 
--- it stopped
+-- it stopped. A run of one command without a block took nothing, and an input is too long only where more bytes than the bound were taken
 pub record WordsStopped (store : Store) (words : List (List ℕ)) (most : ℕ) (stop : Stop) (old new : Seen) : Type 0 where
   pub text : List ℕ
   pub told : new.told ≡ old.told ++ text
   pub is_prefix : IsPrefixOf text (output_of store words old.left)
+  pub unread : takes_input words ≡ false → IsUnread old new
   pub read_fault : stop ≡ ReadFault → (new.taken - old.taken ≤ most) × (new.told ≡ old.told ++ so_far_at (at_first store words) (take (new.taken - old.taken) old.left))
-  pub too_long : stop ≡ TooLong → (most < length old.left) × (new.told ≡ old.told ++ so_far_at (at_first store words) (take most old.left))
+  pub too_long : stop ≡ TooLong → (most < length old.left) × (most < new.taken - old.taken)
+      × (new.told ≡ old.told ++ so_far_at (at_first store words) (take most old.left))
       × (cut_at (at_first store words) (take most old.left) ≡ over → ⊥)
   pub punctual : IsPunctual (at_first store words) old new
   pub since : Since (Kept (at_start store) (commands_of words old.left) old.told) old new
