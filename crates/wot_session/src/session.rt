@@ -1,11 +1,11 @@
 //! A session: what was read and not answered yet, and what the answered lines led to.
 
-ghost use Rattle.std.specs.Prelude.{◌≡◌, ◌⊎◌, ◌↔◌, ◌<◌, ◌≤◌, ◌||◌, ℕ, false, List, [], ◌∷◌, length, take, min, Some, None, OnOk, OnErr, IfOk, IfErr, IsTrue};
+ghost use Rattle.std.specs.Prelude.{◌≡◌, ◌⊎◌, ◌↔◌, ◌<◌, ◌≤◌, ◌||◌, ℕ, true, false, List, [], ◌∷◌, length, take, min, Some, None, Ok, OnOk, OnErr, IfOk, IfErr, IsTrue};
 ghost use Rattle.wot_types.specs.Store.{Store};
 ghost use Rattle.wot_types.specs.Commands.{begun_command, made_by, unfinished_commands};
 ghost use Rattle.wot_types.specs.LineByLine.{Position, after_line, after_lines, closing_reply, commands_in, reply_to_line};
 ghost use Rattle.wot_types.specs.Session.{after_command, at_start, reply_to};
-ghost use Rattle.wot_answer.specs.Answer.{IsCut};
+ghost use Rattle.wot_answer.specs.Answer.{IsCut, reads_on};
 ghost use Rattle.wot_site.specs.Seen.{Honestly, IfHonest};
 ghost use Rattle.wot_session.specs.AtEnd.{at_end, closed_at, last_commands};
 ghost use Rattle.wot_session.specs.Fed.{more, whole_from, open_from, last_lines};
@@ -79,9 +79,25 @@ impl Session {
         self.line.extend(bytes)
     }
 
-    // Answers the open line and begins the next; the answer is to be given.
+    // Reads the open line into the block that goes on with it, and begins the next line; says whether there is such a block.
+    fn read_on(&mut self) -> Result<bool, Mem>
+        ensures at { result ≡ Ok true → (p : Position) → IsAt self.old p → IsAt self.new (after_line p self.old.line) }
+        ensures quiet { result ≡ Ok true → (p : Position) → IsAt self.old p → made_by p.cut self.old.line ≡ [] }
+        ensures line { result ≡ Ok true → self.new.line ≡ Some [] }
+        ensures left { result ≡ Ok false → self.new ≡ self.old }
+        ensures ended { result ≡ Ok false → reads_on self.new.cut self.new.line ≡ false }
+    {
+        if !self.cut.read_on(self.line.get())? {
+            return Ok(false);
+        }
+        self.line.clear();
+        Ok(true)
+    }
+
+    // Answers the open line, which no block goes on with, and begins the next; the answer is to be given.
     fn reply(&mut self) -> Result<Answer, Mem>
-        requires { (p : Position) × IsAt self.old p }
+        requires at { (p : Position) × IsAt self.old p }
+        requires ended { reads_on self.old.cut self.old.line ≡ false }
         ensures due { IfOk result (λ answer. (p : Position) → IsAt self.old p
             → IsDue self.new answer p.progress.store (after_line p self.old.line) (reply_to_line p self.old.line)) }
         ensures line { OnOk result (self.new.line ≡ Some []) }
@@ -120,7 +136,7 @@ impl Session {
         }
     }
 
-    // Answers the open line, gives the answer and begins the next line.
+    // Reads the open line into a block, or answers it and gives the answer; then begins the next line.
     fn answer<S: Site>(&mut self, site: &mut S) -> Result<(), Stop>
         requires { IsSomewhere self.old (S.seen site.old) }
         ensures at { OnOk result ((p : Position) → IsHere self.old (S.seen site.old) p
@@ -132,6 +148,11 @@ impl Session {
             → Honestly (S.seen site.old) (S.seen site.new) (SaidPrefix p.progress (made_by p.cut self.old.line) stop)) }
         ensures cause { StopsTelling (S.faults site.old) (S.faults site.new) result }
     {
+        match self.read_on() {
+            Ok(true) => return Ok(()),
+            Ok(false) => {}
+            Err(Mem::Memory) => return Err(Stop::Memory),
+        }
         let answer = match self.reply() {
             Ok(answer) => answer,
             Err(Mem::Memory) => return Err(Stop::Memory),
