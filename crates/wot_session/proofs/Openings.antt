@@ -8,7 +8,7 @@ use Rattle.wot_types.specs.Store.{Store}
 use Rattle.wot_types.specs.Commands.{Command, begun_command, commands_from, first_cut, takes_input}
 use Rattle.wot_types.specs.LineByLine.{at_first}
 use Rattle.wot_types.specs.Session.{after_all, at_start, commands_of, output_of, replies}
-use Rattle.wot_site.specs.Disk.{Image, IsImageOf, Leaves, reads_of}
+use Rattle.wot_site.specs.Disk.{Image, Leaves, reads_of}
 use Rattle.wot_site.specs.Seen.{Honestly, Seen}
 use Rattle.wot_site.specs.Work.{Quiet, Since, now}
 use Rattle.wot_site.proofs.Honest.{And, honest_and, honest_weaker}
@@ -26,7 +26,7 @@ use Rattle.wot_session.specs.Here.{Holds}
 use Rattle.wot_session.specs.Input as input
 use Rattle.wot_session.specs.Input.{HasQuit, IsOnTime, IsPunctual, IsRead, commands_at}
 use Rattle.wot_session.specs.Kept.{IsPrefixOf, IsSafe, IsWhole, Kept}
-use Rattle.wot_session.specs.Run.{Ended, IsCrashSafe, IsOfStart, Ran, Stopped, Unopened}
+use Rattle.wot_session.specs.Run.{Ended, IsCrashSafe, Ran, Stopped, Unopened}
 use Rattle.wot_session.specs.Stop.{status_of}
 use Rattle.wot_session.specs.Told.{IsAnswering, Said, SaidPrefix}
 use Rattle.wot_session.specs.Words.{IsUnread, Read, WordsEnded, WordsStopped}
@@ -44,12 +44,12 @@ record Still (x y : Seen) : Type 0 where
   asks : y.asks ≡ x.asks
 
 still : (x y : Seen) → Opening x y → Still x y
-still x y (inl settling) = record { told = settling.told; left = settling.left; taken = settling.taken; asks = settling.asks }
+still x y (inl settling) = record { told = settling.works.told; left = settling.works.left; taken = settling.works.taken; asks = settling.works.asks }
 still x y (inr (mid, settling, settled, keeping)) = record {
-  told = keeping.told ∙ settling.told;
-  left = keeping.left ∙ settling.left;
-  taken = keeping.taken ∙ settling.taken;
-  asks = keeping.asks ∙ settling.asks;
+  told = keeping.told ∙ settling.works.told;
+  left = keeping.left ∙ settling.works.left;
+  taken = keeping.taken ∙ settling.works.taken;
+  asks = keeping.asks ∙ settling.works.asks;
 }
 
 -- what left the input untouched since the opening left it so since the start
@@ -63,22 +63,27 @@ shown store reads image shows (inr other) = subst (Shows image) (shows_once read
 
 -- the moments of an opening
 pub opening_safe : (store : Store) (commands : List Command) (x y : Seen) → Shows (reads_of x.disks) store → Opening x y → IsCrashSafe store commands x y
-opening_safe store commands x y shows (inl settling) = record {
-  first = settling.since.moments;
-  later = [];
-  is = settling.since.is ∙ ap (λ moments. x.moments ++ moments) (sym (append-nil settling.since.moments));
-  before = All-weaker (Quiet (Leaves (IsImageOf x.disks)) x.told) (IsOfStart x) (λ m at. record { told = at.told; images = at.disks }) settling.since.moments settling.since.each;
-  each = All-nil _;
-}
+opening_safe store commands x y shows (inl settling) =
+    let since = settling.works.since in
+    record {
+      first = since.moments;
+      later = [];
+      is = since.is ∙ ap (λ moments. x.moments ++ moments) (sym (append-nil since.moments));
+      few = settling.few;
+      before = since.each;
+      each = All-nil _;
+    }
 opening_safe store commands x y shows (inr (mid, settling, settled, keeping)) =
     let reads : reads_of mid.disks ≡ reads_of x.disks = same_reads x mid settled in
+    let since = settling.works.since in
     record {
-      first = settling.since.moments;
+      first = since.moments;
       later = keeping.since.moments;
-      is = keeping.since.is ∙ ap (λ moments. moments ++ keeping.since.moments) settling.since.is ∙ append_assoc x.moments settling.since.moments keeping.since.moments;
-      before = All-weaker (Quiet (Leaves (IsImageOf x.disks)) x.told) (IsOfStart x) (λ m at. record { told = at.told; images = at.disks }) settling.since.moments settling.since.each;
+      is = keeping.since.is ∙ ap (λ moments. moments ++ keeping.since.moments) since.is ∙ append_assoc x.moments since.moments keeping.since.moments;
+      few = settling.few;
+      before = since.each;
       each = All-weaker (Quiet (Leaves (λ c. (c ≡ reads_of mid.disks) ⊎ ShowsAs c (reads_of mid.disks))) mid.told) (IsSafe (at_start store) commands x.told)
-          (λ m at. kept_safe (at_start store) commands x.told m (kept_here (at_start store) commands x.told m (at.told ∙ settling.told)
+          (λ m at. kept_safe (at_start store) commands x.told m (kept_here (at_start store) commands x.told m (at.told ∙ settling.works.told)
           (λ image is. shown store (reads_of mid.disks) image (subst (λ c. Shows c store) (sym reads) shows) (at.disks image is))))
           keeping.since.moments keeping.since.each;
     }
@@ -91,6 +96,7 @@ safe_then store commands x y z told safe since = record {
   later = safe.later ++ since.moments;
   is = since.is ∙ ap (λ moments. moments ++ since.moments) safe.is ∙ append_assoc x.moments (safe.first ++ safe.later) since.moments
       ∙ ap (λ moments. x.moments ++ moments) (append_assoc safe.first safe.later since.moments);
+  few = safe.few;
   before = safe.before;
   each = All-append (IsSafe (at_start store) commands x.told) safe.later since.moments safe.each
       (All-weaker _ _ (λ m kept. kept_safe (at_start store) commands x.told m (subst (λ told. Kept (at_start store) commands told m) told kept)) since.moments since.each);

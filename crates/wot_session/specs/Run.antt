@@ -5,11 +5,11 @@ use Rattle.wot_types.specs.Commands.{Command, takes_input}
 use Rattle.wot_types.specs.Commands.Cut.{over}
 use Rattle.wot_types.specs.LineByLine.{at_first}
 use Rattle.wot_types.specs.Session.{acknowledged, at_start, commands_of, end_of, output_of}
-use Rattle.wot_site.specs.Disk.{IsImageOf, Leaves, reads_of}
+use Rattle.wot_site.specs.Disk.{Leaves, reads_of}
 use Rattle.wot_site.specs.Seen.{Faults, Moment, Seen}
 use Rattle.wot_site.specs.Site.{NoneFell, Rose, Stays}
-use Rattle.wot_site.specs.Work.{now}
-use Rattle.wot_store.specs.Opening.{FindsBad, IsSettled, Opening}
+use Rattle.wot_site.specs.Work.{Quiet, now}
+use Rattle.wot_store.specs.Opening.{FindsBad, IsSettled, IsUnwritten, Opening}
 use Rattle.wot_store.specs.Shows.{IsStored, Shows}
 use Rattle.wot_session.specs.Input.{IsPunctual, cut_at, so_far_at}
 use Rattle.wot_session.specs.Kept.{IsPrefixOf, IsSafe, ShowsState}
@@ -24,17 +24,17 @@ use Rattle.wot_session.specs.declared.status.Status.TheVariants as status
 abbrev pub longest_input : ℕ
 longest_input = 2 ^ 36
 
--- nothing was told by then, and whatever a crash leaves it could have left at the start
-pub record IsOfStart (start : Seen) (m : Moment) : Type 0 where
-  pub told : m.told ≡ start.told
-  pub images : Leaves (IsImageOf start.disks) m.disks
+-- nothing was told or written by then, and whatever a crash leaves it could have left at the start
+abbrev pub IsOfStart : Seen → Moment → Type 0
+IsOfStart start = Quiet (IsUnwritten start.disks) start.told
 
 -- at each moment since the start a crash leaves the state after the first j edits, where j counts every edit acknowledged by then
--- and at most one more. Until both opening syncs have succeeded it leaves what it could have left at the start
+-- and at most one more. Until both opening syncs have succeeded, each of which makes one moment, it leaves what it could have left at the start
 pub record IsCrashSafe (store : Store) (commands : List Command) (old new : Seen) : Type 0 where
   pub first : List Moment
   pub later : List Moment
   pub is : new.moments ≡ old.moments ++ (first ++ later)
+  pub few : length first ≤ 2
   pub before : All (IsOfStart old) first
   pub each : All (IsSafe (at_start store) commands old.told) later
 

@@ -1,22 +1,24 @@
 -- What a crash leaves while a store is opened.
-use Rattle.std.proofs.Common.{◌≡◌, ◌⊎◌, inl, inr, ⊎_elim, ℕ, ◌<◌, ◌≤◌, Bool, true, false, List, [], length, get_or, take, drop, refl, sym, ◌∙◌, ap, subst, arith, Option, None, Some}
-use Rattle.std.proofs.lemmas.List.{get_or-take}
+use Rattle.std.proofs.Common.{◌≡◌, ◌⊎◌, inl, inr, ⊎_elim, ℕ, ◌<◌, ◌≤◌, Bool, true, false, List, [], ◌∷◌, ◌++◌, length, append_assoc, get_or, take, drop, refl, sym, ◌∙◌, ap, subst, arith, Option, None, Some}
+use Rattle.std.specs.List.{All}
+use Rattle.std.proofs.lemmas.List.{append-nil, get_or-take}
+use Rattle.std.proofs.lemmas.List.Elements.{All-cons, All-nil}
 use Rattle.std.proofs.lemmas.Bool.Decides.{nat_tests}
 use Rattle.wot_types.specs.State.{opening_state}
-use Rattle.wot_site.specs.Disk.{Disk, Disks, Image, IsImage, IsImageOf, Leaves, disk_of, with_disk, settled_disk, after_sync, reads_of}
-use Rattle.wot_site.specs.Seen.{Honestly, IfHonest, Seen}
-use Rattle.wot_site.specs.Site.{Syncs, Stays}
+use Rattle.wot_site.specs.Disk.{Disk, Disks, Image, IsImage, IsImageOf, with_disk, settled_disk, after_sync, reads_of}
+use Rattle.wot_site.specs.Seen.{Honestly, IfHonest, Moment, Seen}
+use Rattle.wot_site.specs.Site.{Syncs, Stays, on_disk}
+use Rattle.wot_site.specs.Work.{Quiet}
 use Rattle.wot_site.specs.declared.site.Side.{Side}
 use Rattle.wot_site.specs.declared.site.Side.TheVariants.{Zero, One}
-use Rattle.wot_site.proofs.Calls.{syncs_work, stays_work}
 use Rattle.wot_site.proofs.Images.{reads_image, settled_image}
-use Rattle.wot_site.proofs.Works.{works_then, works_weaker, works_start, works_to}
+use Rattle.wot_site.proofs.Works.{works_weaker, works_start, works_to}
 use Rattle.wot_store.specs.Base.{IsBlank, header_fault, epoch_of}
 use Rattle.wot_store.specs.Journal.{Ends, Fails, FailsAt, Replays}
 use Rattle.wot_types.specs.Store.{Store}
 use Rattle.wot_store.specs.Shows.{Shows, ShowsBase, IsBad, all_settled, fresh}
 use Rattle.wot_store.specs.Writing.{Becomes, Writing, base_bytes}
-use Rattle.wot_store.specs.Opening.{Settles, Settling, Keeping, Opening, Opens, FindsBad, IsReady, Inspects, Looks, Says}
+use Rattle.wot_store.specs.Opening.{IsUnwritten, Settles, Settling, Keeping, Opening, Opens, FindsBad, IsReady, Inspects, Looks, Says}
 use Rattle.wot_store.specs.declared.header.Look.{Look}
 use Rattle.wot_store.specs.declared.header.Look.TheVariants.{Blank, Bad, Base}
 use Rattle.wot_store.specs.declared.error.BadStore.{BadStore}
@@ -33,18 +35,74 @@ settled_images d c image =
 pub reads_images : (d : Disks) → IsImageOf d (reads_of d)
 reads_images d = record { zero = reads_image d.zero; one = reads_image d.one }
 
+-- a sync leaves what a read gives
+unwritten : (d : Disks) → IsUnwritten d d
+unwritten d = record { reads = refl; images = λ c image. image }
+
+unwritten_first : (d : Disks) → IsUnwritten d (with_disk Zero (after_sync d.zero) d)
+unwritten_first d = record {
+  reads = refl;
+  images = λ c image. record { zero = subst (IsImage d.zero) (sym (settled_image d.zero.reads c.zero image.zero)) (reads_image d.zero); one = image.one };
+}
+
+unwritten_both : (d : Disks) → IsUnwritten d (all_settled d)
+unwritten_both d = record { reads = refl; images = λ c image. subst (IsImageOf d) (sym (settled_images d c image)) (reads_images d) }
+
+-- the sides came to these, by at most two moments
+few_moments : (x : Seen) (d : Disks) (all moments : List Moment) → all ≡ x.moments ++ moments → length moments ≤ 2
+    → All (Quiet (IsUnwritten x.disks) x.told) moments → IsUnwritten x.disks d → Settling x (record x { disks = d; moments = all })
+few_moments x d all moments is few each last = record {
+  works = record {
+    left = refl;
+    told = refl;
+    taken = refl;
+    asks = refl;
+    since = record { first = record { disks = unwritten x.disks; told = refl }; moments = moments; is = is; each = each };
+    last = last;
+  };
+  few = few;
+}
+
+-- after none of the two opening syncs, one, and both
+pub settling_start : (x : Seen) → Settling x x
+settling_start x = few_moments x x.disks x.moments [] (sym (append-nil x.moments)) (omega arith) (All-nil _) (unwritten x.disks)
+
+abbrev at_first : Seen → Moment
+at_first x = record { disks = with_disk Zero (after_sync x.disks.zero) x.disks; told = x.told }
+
+abbrev at_both : Seen → Moment
+at_both x = record { disks = all_settled x.disks; told = x.told }
+
+module _ (x : Seen) where
+  quiet_first : Quiet (IsUnwritten x.disks) x.told (at_first x)
+  quiet_first = record { disks = unwritten_first x.disks; told = refl }
+
+  quiet_both : Quiet (IsUnwritten x.disks) x.told (at_both x)
+  quiet_both = record { disks = unwritten_both x.disks; told = refl }
+
+  synced_first : Settling x (on_disk Zero after_sync x)
+  synced_first =
+      few_moments x (at_first x).disks (x.moments ++ at_first x ∷ []) (at_first x ∷ []) refl (omega arith)
+      (All-cons (Quiet (IsUnwritten x.disks) x.told) (at_first x) [] quiet_first (All-nil _)) quiet_first.disks
+
+  synced_both : Settling x (on_disk One after_sync (on_disk Zero after_sync x))
+  synced_both =
+      few_moments x (at_both x).disks ((x.moments ++ at_first x ∷ []) ++ at_both x ∷ []) (at_first x ∷ at_both x ∷ [])
+      (append_assoc x.moments (at_first x ∷ []) (at_both x ∷ [])) (omega arith)
+      (All-cons (Quiet (IsUnwritten x.disks) x.told) (at_first x) (at_both x ∷ []) quiet_first
+      (All-cons (Quiet (IsUnwritten x.disks) x.told) (at_both x) [] quiet_both (All-nil _))) quiet_both.disks
+
+pub settling_still : (x y z : Seen) → Settling x y → Stays y z → Settling x z
+settling_still x y z settling stays = subst (Settling x) (sym stays) settling
+
 pub settling_first : (x y : Seen) → Syncs Zero x y → Settling x y
-settling_first x y syncs = syncs_work (Leaves (IsImageOf x.disks)) Zero x y (λ c image. image)
-    (λ c image. record { zero = subst (IsImage x.disks.zero) (sym (settled_image x.disks.zero.reads c.zero image.zero)) (reads_image x.disks.zero); one = image.one }) syncs
+settling_first x y syncs = subst (Settling x) (sym syncs) (synced_first x)
 
 pub settling_both : (x y z : Seen) → Syncs Zero x y → Syncs One y z → Settling x z
-settling_both x y z first second = works_then (Leaves (IsImageOf x.disks)) x y z (settling_first x y first)
-    (syncs_work (Leaves (IsImageOf x.disks)) One y z (settling_first x y first).last
-    (subst (λ (s : Seen). Leaves (IsImageOf x.disks) (with_disk One (after_sync (disk_of One s.disks)) s.disks)) (sym first) (λ c image. subst (IsImageOf x.disks) (sym (settled_images x.disks c image)) (reads_images x.disks))) second)
+settling_both x y z first second = subst (Settling x) (sym (second ∙ ap (on_disk One after_sync) first)) (synced_both x)
 
 pub settling_stays : (x y z w : Seen) → Syncs Zero x y → Syncs One y z → Stays z w → Settling x w
-settling_stays x y z w first second stays = works_then (Leaves (IsImageOf x.disks)) x z w (settling_both x y z first second)
-    (stays_work (Leaves (IsImageOf x.disks)) z w (settling_both x y z first second).last stays)
+settling_stays x y z w first second stays = settling_still x z w (settling_both x y z first second) stays
 
 -- a side that was written whole shows a new store
 pub base_shows : (r : List ℕ) → ShowsBase Zero (base_bytes 1 r) fresh
@@ -168,9 +226,6 @@ module _ (n : ℕ) (x y z : Seen) (settles : Settles n x y) where
           settled = disks ∙ ap all_settled (sym disks);
         };
       }
-
-pub works_stays : (x y z : Seen) → Settling x y → Stays y z → Settling x z
-works_stays x y z works stays = works_to (Leaves (IsImageOf x.disks)) x y z stays works
 
 -- nothing was done to sides that are ready
 keeps : (is_closed : Bool) (x : Seen) → IsReady is_closed x.disks → Keeping x x

@@ -1,5 +1,5 @@
 -- What opening a store does.
-use Rattle.std.specs.Prelude.{ℕ, Bool, ◌≡◌, ◌≢◌, ◌⊎◌, ◌<◌, List, length, slice_index, Some, None}
+use Rattle.std.specs.Prelude.{ℕ, Bool, ◌≡◌, ◌≢◌, ◌⊎◌, ◌<◌, ◌≤◌, List, length, slice_index, Some, None}
 use Rattle.wot_site.specs.Disk.{Disks, IsImageOf, Leaves, settled_disk, disk_of, reads_of}
 use Rattle.wot_site.specs.Seen.{Seen}
 use Rattle.wot_site.specs.Work.{Works}
@@ -19,9 +19,15 @@ pub record Settles (n : ℕ) (old new : Seen) : Type 0 where
   pub disks : new.disks ≡ all_settled old.disks
   pub size : n ≡ length old.disks.zero.reads
 
--- at each moment since, each image is one of the start's
-abbrev pub Settling : Seen → Seen → Type 0
-Settling old new = Works (Leaves (IsImageOf old.disks)) old new
+-- nothing was written since: the sides read as they did, and each image is one of those that there were
+pub record IsUnwritten (start now : Disks) : Type 0 where
+  pub reads : reads_of now ≡ reads_of start
+  pub images : Leaves (IsImageOf start) now
+
+-- nothing was written, and there were no more moments than the two opening syncs make
+pub record Settling (old new : Seen) : Type 0 where
+  pub works : Works (IsUnwritten old.disks) old new
+  pub few : length works.since.moments ≤ 2
 
 -- what a header says
 abbrev pub Looks : Side → List ℕ → ℕ → Look → Type 0
@@ -33,7 +39,7 @@ Looks side header size (Base epoch) = (slice_index header 0 ≡ open_gate) × (h
 abbrev pub Keeping : Seen → Seen → Type 0
 Keeping old new = Works (Leaves (λ c. (c ≡ reads_of old.disks) ⊎ ShowsAs c (reads_of old.disks))) old new
 
--- until both syncs succeeded each image is one of the start's; from then on the sides are on the disk as they read,
+-- until both syncs succeeded nothing is written and each image is one of the start's; from then on the sides are on the disk as they read,
 -- and each image is that or shows what that shows
 abbrev pub Opening : Seen → Seen → Type 0
 Opening old new = Settling old new ⊎ ((mid : Seen) × Settling old mid × (mid.disks ≡ all_settled old.disks) × Keeping mid new)

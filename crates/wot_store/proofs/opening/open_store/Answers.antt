@@ -10,7 +10,7 @@ use Rattle.wot_store.specs.declared.error.StoreError.TheVariants as StoreError
 use Rattle.wot_store.specs.Journal.{FailsAt, Replays}
 use Rattle.wot_store.specs.Opening.{Settles, Settling, Keeping, Opening, FindsBad, Inspects}
 use Rattle.wot_store.proofs.Errors.{err_of}
-use Rattle.wot_store.proofs.Openings.{opening_then, opening_stays, works_stays, finds_bad, finds_fault}
+use Rattle.wot_store.proofs.Openings.{opening_then, opening_stays, settling_still, finds_bad, finds_fault}
 use Rattle.wot_store.proofs.opening.open_store.Goals as goal
 
 pub returns-in-Ok-create-clause-any_moment : goal.returns-in-Ok-create-clause-any_moment
@@ -19,7 +19,7 @@ returns-in-Ok-create-clause-any_moment g c =
     honest_then (Then (And Settling (Settles n)) (Inspects Zero Blank)) Keeping Opening _ _ _
     (honest_joined (And Settling (Settles n)) (Inspects Zero Blank) _ _ _ (honest_and Settling (Settles n) _ _ c.settle.ensures.any_moment c.in-Ok.ensures.settled) (rw c.in-Ok-Blank.field-0-is at c.in-Ok-Blank.ensures.says))
     c.create.ensures.any_moment
-    (λ x z w t q. opening_then x z w (works_stays x t.0 z t.1.0 t.2.stays) (ap (λ (s : Seen). s.disks) t.2.stays ∙ t.1.1.disks) q)
+    (λ x z w t q. opening_then x z w (settling_still x t.0 z t.1.0 t.2.stays) (ap (λ (s : Seen). s.disks) t.2.stays ∙ t.1.1.disks) q)
 
 pub returns-in-Err-create-clause-any_moment : goal.returns-in-Err-create-clause-any_moment
 returns-in-Err-create-clause-any_moment g c =
@@ -27,7 +27,7 @@ returns-in-Err-create-clause-any_moment g c =
     honest_then (Then (And Settling (Settles n)) (Inspects Zero Blank)) Keeping Opening _ _ _
     (honest_joined (And Settling (Settles n)) (Inspects Zero Blank) _ _ _ (honest_and Settling (Settles n) _ _ c.settle.ensures.any_moment c.in-Ok.ensures.settled) (rw c.in-Ok-Blank.field-0-is at c.in-Ok-Blank.ensures.says))
     c.create.ensures.any_moment
-    (λ x z w t q. opening_then x z w (works_stays x t.0 z t.1.0 t.2.stays) (ap (λ (s : Seen). s.disks) t.2.stays ∙ t.1.1.disks) q)
+    (λ x z w t q. opening_then x z w (settling_still x t.0 z t.1.0 t.2.stays) (ap (λ (s : Seen). s.disks) t.2.stays ∙ t.1.1.disks) q)
 
 pub returns-in-Ok-Bad-clause-bad : goal.returns-in-Ok-Bad-clause-bad
 returns-in-Ok-Bad-clause-bad g c b is =

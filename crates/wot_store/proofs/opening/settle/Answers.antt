@@ -1,10 +1,17 @@
 use Rattle.wot_site.specs.Site.{Syncs, Stays, Sizes}
 use Rattle.wot_site.specs.declared.site.Side.TheVariants.{Zero, One}
-use Rattle.wot_site.proofs.Honest.{Then, honest_then, honest_joined}
+use Rattle.wot_site.proofs.Honest.{Then, honest_then, honest_joined, honest_weaker}
 use Rattle.wot_store.specs.Opening.{Settling}
-use Rattle.wot_store.proofs.Openings.{settling_stays}
+use Rattle.wot_store.proofs.Openings.{settling_first, settling_start, settling_stays, settling_still}
 use Rattle.std.proofs.Common.{◌∙◌}
 use Rattle.wot_store.proofs.opening.settle.Goals as goal
+
+pub returns-in-Err-clause-any_moment : goal.returns-in-Err-clause-any_moment
+returns-in-Err-clause-any_moment g c = honest_weaker Stays Settling _ _ c.in-Err.ensures.err (λ x y stays. settling_still x x y (settling_start x) stays)
+
+pub returns-in-Err-sync-clause-any_moment : goal.returns-in-Err-sync-clause-any_moment
+returns-in-Err-sync-clause-any_moment g c =
+    honest_then (Syncs Zero) Stays Settling _ _ _ c.in-Ok.ensures.ok c.in-Err-sync.ensures.err (λ x y z first stays. settling_still x y z (settling_first x y first) stays)
 
 pub returns-in-Err-size-clause-any_moment : goal.returns-in-Err-size-clause-any_moment
 returns-in-Err-size-clause-any_moment g c =
