@@ -26,7 +26,7 @@ use Rattle.wot_types.specs.Fields.{fields, is_colon}
 use Rattle.wot_types.specs.Fingerprint.{IsFprLength, fingerprint, fpr_cmp}
 use Rattle.wot_types.specs.Lines.{is_blank, is_comment, is_newline, is_space, lines, open_line, whole_lines, without_return, front_of, last_of}
 use Rattle.wot_types.specs.Numbers.{capped, number}
-use Rattle.wot_types.specs.Ownertrust.{OwnertrustMap, is_unset, ownertrust_line, ownertrust_number, ownertrust_text, with_entries, with_ownertrust}
+use Rattle.wot_types.specs.Ownertrust.{OwnertrustMap, entry_of, is_unset, ownertrust_line, ownertrust_number, ownertrust_text, with_entries, with_ownertrust}
 use Rattle.wot_types.specs.OwnertrustText.{entry_by, entry_of_fields, entry_of_line, entry_with, fault_of, listed_entries, ownertrust_fault, ownertrust_fault_after, ownertrust_of_number, text_entries, with_line_entry}
 use Rattle.wot_types.proofs.Optionals.{or_none}
 use Rattle.wot_types.proofs.Tests.{first_part, second_part}
@@ -35,7 +35,6 @@ use Rattle.wot_types.proofs.Fingerprints.{fpr_cmp_total, fpr_cmp-IsAntisymmetric
 use Rattle.wot_types.proofs.ListEnds.{front_of_more, last_of_more}
 use Rattle.wot_types.proofs.Removals.{All-without}
 use Rattle.wot_ownertrust.specs.Kept.{IsKept}
-use Rattle.wot_ownertrust.specs.Reading.{entry_of}
 
 -- ---- the bytes of a field
 
