@@ -26,7 +26,7 @@ use Rattle.wot_types.specs.Printing.{capabilities_text, cert_line, class_text, d
 use Rattle.wot_types.specs.Quotes.{printed_text}
 use Rattle.wot_types.specs.Records.{is_capability, is_hash_byte}
 use Rattle.wot_types.specs.Refusals.{reply_line}
-use Rattle.wot_types.specs.Tally.{count_field, letter_count, tally_line}
+use Rattle.wot_types.specs.Tally.{letter_count, tally_line}
 use Rattle.wot_types.specs.Trust.{trust_text}
 use Rattle.wot_types.specs.WhyText.{by_line, count_fields, cut_line, row_line, why_line}
 use Rattle.wot_types.specs.WellFormed.{IsUser, IsWellFormed}
@@ -182,17 +182,14 @@ cut_goes_on letter = line_of (codes "cut:") (ended_field (letter_text letter) �
 
 -- ---- a tally
 
-plain_count : (n : ℕ) → IsPlain (count_field n)
-plain_count n = plain_field (decimal n) (plain_decimal n)
-
 pub tally_goes_on : (s : State) (rows : RowMap) → GoesOn (tally_line s rows)
 tally_goes_on s rows =
     let count : Letter → ℕ = letter_count s rows in
     let fields : List (List ℕ) =
-    count_field (capped (finmap.len rows)) ∷ count_field (count U) ∷ count_field (count F) ∷ count_field (count M) ∷ count_field (count Q) ∷ count_field (count Dash) ∷ count_field (count R) ∷ count_field (count E) ∷ [] in
+    number_field (capped (finmap.len rows)) ∷ number_field (count U) ∷ number_field (count F) ∷ number_field (count M) ∷ number_field (count Q) ∷ number_field (count Dash) ∷ number_field (count R) ∷ number_field (count E) ∷ [] in
     line_of (codes "tally:") fields refl (
-      plain_count (capped (finmap.len rows)),
-      (plain_count (count U), (plain_count (count F), (plain_count (count M), (plain_count (count Q), (plain_count (count Dash), (plain_count (count R), (plain_count (count E), tt))))))),
+      plain_number (capped (finmap.len rows)),
+      (plain_number (count U), (plain_number (count F), (plain_number (count M), (plain_number (count Q), (plain_number (count Dash), (plain_number (count R), (plain_number (count E), tt))))))),
     ) refl
 
 -- ---- the lines of an ownertrust export

@@ -3,7 +3,8 @@ use Rattle.std.specs.Prelude.{ℕ, List, ◌++◌, count_by}
 use Rattle.wot_types.specs.declared.letter.Letter.{Letter}
 use Rattle.wot_types.specs.declared.letter.Letter.TheVariants.{Dash, Q, M, F, U, R, E}
 use Rattle.wot_types.specs.Numbers.{capped}
-use Rattle.wot_types.specs.Tally.{count_field, same_letter}
+use Rattle.wot_types.specs.Printing.{number_field}
+use Rattle.wot_types.specs.Tally.{same_letter}
 use Rattle.wot_print.specs.declared.counts.LetterCounts.{LetterCounts}
 
 abbrev pub count_in : List Letter → Letter → ℕ
@@ -23,5 +24,5 @@ counts_of letters = record {
 -- the fields of a tally, from the best letter to the marks
 abbrev pub count_fields : LetterCounts → List ℕ
 count_fields counts =
-    count_field counts.ultimate ++ count_field counts.full ++ count_field counts.marginal ++ count_field counts.undefined
-    ++ count_field counts.unknown ++ count_field counts.revoked ++ count_field counts.expired
+    number_field counts.ultimate ++ number_field counts.full ++ number_field counts.marginal ++ number_field counts.undefined
+    ++ number_field counts.unknown ++ number_field counts.revoked ++ number_field counts.expired

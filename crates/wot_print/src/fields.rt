@@ -3,7 +3,6 @@
 ghost use Rattle.std.specs.Prelude.{◌≡◌, ◌++◌, OnOk};
 ghost use Rattle.hex.specs.Hex.{encode_upper};
 ghost use Rattle.wot_types.specs.Printing.{ended_field, expiry_field, key_id_text, number_field, scope_text};
-ghost use Rattle.wot_types.specs.Tally.{count_field};
 ghost use Rattle.wot_types.specs.Quotes.{printed_text};
 
 use std::alloc::Global;
@@ -26,7 +25,7 @@ pub fn push_number_field(alloc: Global, text: &mut Vec<u8>, number: u32) -> Resu
 }
 
 pub fn push_count_field(alloc: Global, text: &mut Vec<u8>, count: u64) -> Result<(), Mem>
-    ensures { OnOk result (text.new.items ≡ text.old.items ++ count_field count) }
+    ensures { OnOk result (text.new.items ≡ text.old.items ++ number_field count) }
 {
     push_number(alloc, text, count)?;
     text.push(b':')?;
