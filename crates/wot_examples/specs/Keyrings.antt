@@ -27,12 +27,12 @@ by issuer made = record { issuer = issuer; class = 19; local = false; made = mad
 abbrev pub of_class : ℕ → Cert → Cert
 of_class class cert = record cert { class = class }
 
-abbrev pub ending : ℕ → Cert → Cert
-ending expires cert = record cert { expires = expires }
+abbrev pub with_expiry : ℕ → Cert → Cert
+with_expiry expires cert = record cert { expires = expires }
 
 -- a trust signature of a depth and an amount
-abbrev pub trusting : ℕ → ℕ → Cert → Cert
-trusting depth amount cert = record cert { depth = depth; amount = amount }
+abbrev pub trust_signature : ℕ → ℕ → Cert → Cert
+trust_signature depth amount cert = record cert { depth = depth; amount = amount }
 
 abbrev pub user : List ℕ → List Cert → User
 user text certs = record { kind = Uid; text = text; hash = []; made = 1000; expires = 0; revoked = false; certs = certs }
@@ -41,8 +41,8 @@ abbrev pub key : ℕ → List User → Key
 key n users = record { fpr = fingerprint n; bits = 255; algo = 22; made = 1000; expires = 0; revoked = false; caps = codes "scSC"; users = users }
 
 -- the same key with an expiry
-abbrev pub until : ℕ → Key → Key
-until expires k = record k { expires = expires }
+abbrev pub key_with_expiry : ℕ → Key → Key
+key_with_expiry expires k = record k { expires = expires }
 
 -- these are the keys
 abbrev pub Hold : Keyring → List Key → Type 0
@@ -52,8 +52,8 @@ abbrev pub at_date : ℕ → Keyring → State
 at_date date keys = record opening_state { date = date; keys = keys }
 
 -- the user ID `N <n@example.org>` with a certification
-abbrev pub certified : Cert → User
-certified cert = user (codes "N <n@example.org>") (cert ∷ [])
+abbrev pub certified_user : Cert → User
+certified_user cert = user (codes "N <n@example.org>") (cert ∷ [])
 
 -- an introducer of a level and a trust, with so much depth left
 abbrev pub introducer : ℕ → ℕ → Trust → ℕ → ℕ × Row

@@ -2,12 +2,12 @@
 
 ghost use Rattle.std.specs.Prelude.{◌≡◌, ◌∷◌, [], true, false, is_some};
 ghost use Rattle.wot_types.specs.Selection.{placed_from, usable};
-ghost use Rattle.wot_examples.specs.Keyrings.{by, ending, of_class};
+ghost use Rattle.wot_examples.specs.Keyrings.{by, of_class, with_expiry};
 
 /// The latest decides, and at its expiry the older one is not fallen back to.
 pub fn latest_certification_decides()
-    ensures in_force { is_some (usable 3999 2 10 (placed_from 0 (by 10 2000 ∷ ending 4000 (by 10 3000) ∷ []))) ≡ true }
-    ensures expired { is_some (usable 4000 2 10 (placed_from 0 (by 10 2000 ∷ ending 4000 (by 10 3000) ∷ []))) ≡ false }
+    ensures in_force { is_some (usable 3999 2 10 (placed_from 0 (by 10 2000 ∷ with_expiry 4000 (by 10 3000) ∷ []))) ≡ true }
+    ensures expired { is_some (usable 4000 2 10 (placed_from 0 (by 10 2000 ∷ with_expiry 4000 (by 10 3000) ∷ []))) ≡ false }
     ensures revoked { is_some (usable 0 2 10 (placed_from 0 (by 10 2000 ∷ of_class 48 (by 10 2000) ∷ []))) ≡ false }
     ensures again { is_some (usable 0 2 10 (placed_from 0 (of_class 48 (by 10 2000) ∷ by 10 2000 ∷ []))) ≡ true }
     ensures another { is_some (usable 0 2 10 (placed_from 0 (by 10 2000 ∷ of_class 48 (by 11 3000) ∷ []))) ≡ true }

@@ -20,7 +20,7 @@ use Rattle.wot_types.specs.Candidates.{RowMap, candidacy, candidates, count_of, 
 use Rattle.wot_types.specs.Expiry.{is_expired, key_is_live, user_is_live}
 use Rattle.wot_types.specs.Letters.{best_letter, has_level_0, key_letter, letter_at, letter_of_count, user_letter}
 use Rattle.wot_types.specs.Levels.{delegating_cert, delegation, delegations_on, first_row, has_full_user, kept_or, live_spots, new_row, row_by, rows_of, rows_upto, trust_of_owner}
-use Rattle.wot_types.specs.NextCheck.{key_expiries, next_check, soonest, sooner_of, user_expiries}
+use Rattle.wot_types.specs.NextCheck.{key_expiries, next_check, soonest_of, sooner_of, user_expiries}
 use Rattle.wot_types.specs.Scope.{admits}
 use Rattle.wot_types.specs.Selection.{Spot, counts_for, deciding_cert, in_force, latest_cert, placed_from, spots_from, usable}
 use Rattle.wot_types.specs.Trust.{is_ultimate, is_below_marginal, is_fully_trusted, is_marginal}
@@ -82,12 +82,12 @@ module _ (a b : ℕ) (later : a ≤ b) where
       less_both z (inl none) = let no = min_is 0 z none in absurd (omega (arith, no, above, positive z))
       less_both z (inr less) = let same = min_is (sooner_of e r) z refl in (omega (arith, same, less), omega (arith, same, less))
 
-  all_same : (es : List ℕ) → IsBefore b (soonest (filter (λ e. nat_lt a e) es)) → AllByRecursion Same es
+  all_same : (es : List ℕ) → IsBefore b (soonest_of (filter (λ e. nat_lt a e) es)) → AllByRecursion Same es
   all_same [] h = tt
   all_same (e ∷ es) h =
       let rest = filter (λ (x : ℕ). nat_lt a x) es in
-      elim (nat_lt a e) as (λ t. nat_lt a e ≡ t → IsBefore b (soonest (cond t (e ∷ rest) rest)) → AllByRecursion Same (e ∷ es)) [
-        | true ↦ λ t before. let parts = two e (soonest rest) t before in (not_between e (λ _. parts.0), all_same es parts.1)
+      elim (nat_lt a e) as (λ t. nat_lt a e ≡ t → IsBefore b (soonest_of (cond t (e ∷ rest) rest)) → AllByRecursion Same (e ∷ es)) [
+        | true ↦ λ t before. let parts = two e (soonest_of rest) t before in (not_between e (λ _. parts.0), all_same es parts.1)
         | false ↦ λ t before. (not_between e (λ u. absurd (both t u)), all_same es before)
       ] refl h
     where

@@ -38,29 +38,29 @@ impl<T: Drop> From<AllocFailed<T>> for QuoteError {
 }
 
 /// The text that a quoted field spells.
-#[tactic(auto, using(crate::proofs::QuoteLaws::unquoted_sound, crate::proofs::QuoteLaws::only_text, crate::proofs::QuoteLaws::no_text))]
+#[tactic(auto, using(crate::proofs::QuoteLaws::text_of_quoted_sound, crate::proofs::QuoteLaws::only_text, crate::proofs::QuoteLaws::no_text))]
 pub fn unquote(alloc: Global, f: &[u8]) -> Result<Text, QuoteError>
     ensures spelled { IfOk result (λ t. quotes.Quoted t f.now) }
     ensures only_text { IfOk result (λ t. (other : List ℕ) → quotes.Quoted other f.now → other ≡ t) }
     ensures bad_quote { IsErrOf result QuoteError.BadQuote → (t : List ℕ) → quotes.Quoted t f.now → ⊥ }
-    ensures value { IfOk result (λ t. quotes.unquoted f.now ≡ Some t) }
-    ensures no_value { IsErrOf result QuoteError.BadQuote → quotes.unquoted f.now ≡ None }
+    ensures value { IfOk result (λ t. quotes.text_of_quoted f.now ≡ Some t) }
+    ensures no_value { IsErrOf result QuoteError.BadQuote → quotes.text_of_quoted f.now ≡ None }
 {
     let text = unquoted_bytes(alloc, f)?;
     Ok(Text::from_vec(text))
 }
 
 /// The decoder by which a listing's texts are defined has the text that the relation has, and none where the relation has none.
-#[tactic(auto, using(crate::proofs::QuoteLaws::unquoted_sound, crate::proofs::QuoteLaws::unquoted_complete, crate::proofs::QuoteLaws::no_text))]
+#[tactic(auto, using(crate::proofs::QuoteLaws::text_of_quoted_sound, crate::proofs::QuoteLaws::text_of_quoted_complete, crate::proofs::QuoteLaws::no_text))]
 pub fn decoder_is_the_quoting_relation()
-    ensures only_texts { (f text : List ℕ) → quotes.unquoted f ≡ Some text → quotes.Quoted text f }
-    ensures each_text { (f text : List ℕ) → quotes.Quoted text f → quotes.unquoted f ≡ Some text }
-    ensures bad_quote { (f text : List ℕ) → quotes.unquoted f ≡ None → quotes.Quoted text f → ⊥ }
+    ensures only_texts { (f text : List ℕ) → quotes.text_of_quoted f ≡ Some text → quotes.Quoted text f }
+    ensures each_text { (f text : List ℕ) → quotes.Quoted text f → quotes.text_of_quoted f ≡ Some text }
+    ensures bad_quote { (f text : List ℕ) → quotes.text_of_quoted f ≡ None → quotes.Quoted text f → ⊥ }
 {}
 
 fn unquoted_bytes(alloc: Global, f: &[u8]) -> Result<Vec<u8>, QuoteError>
-    ensures value { IfOk result (λ t. quotes.unquoted f.now ≡ Some t.items) }
-    ensures no_value { IsErrOf result QuoteError.BadQuote → quotes.unquoted f.now ≡ None }
+    ensures value { IfOk result (λ t. quotes.text_of_quoted f.now ≡ Some t.items) }
+    ensures no_value { IsErrOf result QuoteError.BadQuote → quotes.text_of_quoted f.now ≡ None }
 {
     let mut text = Vec::with_capacity(alloc, f.len())?;
     let mut rest = f;

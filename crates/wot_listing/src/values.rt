@@ -5,7 +5,7 @@ ghost use Rattle.wot_types.specs.Dates.{date_or_0};
 ghost use Rattle.wot_types.specs.Fields as fields;
 ghost use Rattle.wot_types.specs.Fingerprint.{fingerprint};
 ghost use Rattle.wot_types.specs.Numbers.{depth_and_amount, number_or_0, number_up_to};
-ghost use Rattle.wot_types.specs.Quotes.{unquoted};
+ghost use Rattle.wot_types.specs.Quotes.{text_of_quoted};
 ghost use Rattle.wot_types.specs.Records as records;
 ghost use Rattle.wot_listing.specs.Answer.{Gives, Makes};
 
@@ -58,7 +58,7 @@ pub fn date_in(line: &Fields<'_>, n: u32) -> Result<u32, LineError>
 
 /// The text of a quoted field.
 pub fn text_in(alloc: Global, line: &Fields<'_>, n: u32) -> Result<Text, LineError>
-    ensures { Makes result (unquoted (fields.field n line.now)) ListingWhat.BadQuote }
+    ensures { Makes result (text_of_quoted (fields.field n line.now)) ListingWhat.BadQuote }
 {
     Ok(unquote(alloc, line.get_or_empty(n))?)
 }

@@ -16,7 +16,7 @@ use Rattle.wot_types.specs.Dates.{date_or_0}
 use Rattle.wot_types.specs.Fields.{field, has_fewer}
 use Rattle.wot_types.specs.Fingerprint.{IsFprLength, fingerprint, key_id_of}
 use Rattle.wot_types.specs.Numbers.{depth_and_amount, number_or_0}
-use Rattle.wot_types.specs.Quotes.{printed_text, unquoted}
+use Rattle.wot_types.specs.Quotes.{printed_text, text_of_quoted}
 use Rattle.wot_types.specs.Listing.{cert_checks, first_failing, fpr_checks, pub_checks, user_checks}
 use Rattle.wot_types.specs.Limits.{longest_scope}
 use Rattle.wot_types.specs.Printing.{cert_name, class_text, depth_text, key_id_text, kind_text, scope_text}
@@ -24,7 +24,7 @@ use Rattle.wot_types.specs.Records.{begins_with, capabilities_at, cert_of, class
 use Rattle.wot_types.specs.WellFormed.{IsScope}
 use Rattle.wot_print_laws.specs.Fits.{FitsCert, FitsKey, FitsUser, IsScopeOfBytes}
 use Rattle.wot_print_laws.proofs.Parts.{AllInner, IsInner, ended, field_is, fields_are}
-use Rattle.wot_print_laws.proofs.Texts.{are_bytes, class_of-text, depth_and_amount-text, filter_all, fingerprint-text, inner_class, inner_depth, inner_key_id, inner_printed, inner_scope, is_local-text, key_id-text, unquoted-printed}
+use Rattle.wot_print_laws.proofs.Texts.{are_bytes, class_of-text, depth_and_amount-text, filter_all, fingerprint-text, inner_class, inner_depth, inner_key_id, inner_printed, inner_scope, is_local-text, key_id-text, text_of_quoted-printed}
 use Rattle.wot_print_laws.proofs.Values.{date_or_0-decimal, date_or_0-expiry, expiry_text, inner_decimal, inner_expiry, inner_hash, inner_hex, number_or_0-decimal}
 
 -- ---- `pub`
@@ -140,7 +140,7 @@ user_says letter revoked user l h hash marked =
     let f : (n : ℕ) → _ = field_is (user_parts letter user) inner in
     let made : date_or_0 (field 6 line) ≡ Some user.made = ap date_or_0 (f 6) ∙ date_or_0-decimal user.made h.made in
     let expires : date_or_0 (field 7 line) ≡ Some user.expires = ap date_or_0 (f 7) ∙ date_or_0-expiry user.expires h.expires in
-    let text : unquoted (field 10 line) ≡ Some user.text = ap unquoted (f 10) ∙ unquoted-printed user.text (are_bytes user.text h.text) in
+    let text : text_of_quoted (field 10 line) ≡ Some user.text = ap text_of_quoted (f 10) ∙ text_of_quoted-printed user.text (are_bytes user.text h.text) in
     let size : has_fewer 10 line ≡ false = ap (λ l. nat_lt (length l) 10) (fields_are (user_parts letter user) inner) in
     record {
       kind = ap kind_of_name (f 1) ∙ kind_read user.kind;
@@ -184,9 +184,9 @@ cert_inner cert h =
 abbrev pub scope_bytes : Option (List ℕ) → List ℕ
 scope_bytes scope = unwrap_or scope []
 
-scope_read : (scope : Option (List ℕ)) → IsScopeOfBytes scope → unquoted (scope_text scope) ≡ Some (scope_bytes scope)
-scope_read None h = unquoted-printed [] tt
-scope_read (Some scope) h = unquoted-printed scope (are_bytes scope h)
+scope_read : (scope : Option (List ℕ)) → IsScopeOfBytes scope → text_of_quoted (scope_text scope) ≡ Some (scope_bytes scope)
+scope_read None h = text_of_quoted-printed [] tt
+scope_read (Some scope) h = text_of_quoted-printed scope (are_bytes scope h)
 
 scope_back : (scope : Option (List ℕ)) → IsScope scope → scope_of (scope_bytes scope) ≡ scope
 scope_back None h = refl
@@ -206,8 +206,8 @@ cert_says cert h sized =
     let made : date_or_0 (field 6 line) ≡ Some cert.made = ap date_or_0 (f 6) ∙ date_or_0-decimal cert.made h.made in
     let expires : date_or_0 (field 7 line) ≡ Some cert.expires = ap date_or_0 (f 7) ∙ date_or_0-expiry cert.expires h.expires in
     let trust : depth_and_amount (field 8 line) ≡ Some (cert.depth, cert.amount) = ap depth_and_amount (f 8) ∙ depth_and_amount-text cert h.depth h.amount in
-    let scope : unquoted (field 9 line) ≡ Some (scope_bytes cert.scope) = ap unquoted (f 9) ∙ scope_read cert.scope h.scope in
-    let back : scope_of (unwrap_or (unquoted (field 9 line)) []) ≡ cert.scope = ap (λ o. scope_of (unwrap_or o [])) scope ∙ scope_back cert.scope sized in
+    let scope : text_of_quoted (field 9 line) ≡ Some (scope_bytes cert.scope) = ap text_of_quoted (f 9) ∙ scope_read cert.scope h.scope in
+    let back : scope_of (unwrap_or (text_of_quoted (field 9 line)) []) ≡ cert.scope = ap (λ o. scope_of (unwrap_or o [])) scope ∙ scope_back cert.scope sized in
     let local : is_local_at line ≡ cert.local = ap (λ t. slice_index t 2 == 108) (f 11) ∙ is_local-text cert in
     record {
       kind = ap kind_of_name (f 1) ∙ name_read (cert.class == 48);

@@ -31,7 +31,7 @@ use Rattle.wot_types.specs.Letters.{key_letter, user_letter}
 use Rattle.wot_types.specs.Levels.{rows_of}
 use Rattle.wot_types.specs.Listing.{Line, Spells, fault_at_end, kept_of, listed_keys, passed_of}
 use Rattle.wot_types.specs.Numbers.{capped}
-use Rattle.wot_types.specs.NextCheck.{key_expiries, next_check, sooner_of, soonest, user_expiries}
+use Rattle.wot_types.specs.NextCheck.{key_expiries, next_check, sooner_of, soonest_of, user_expiries}
 use Rattle.wot_types.specs.Ownertrust.{ownertrust_of}
 use Rattle.wot_types.specs.Printing.{capabilities_text, kind_text, letter_text, list_text, model_text}
 use Rattle.wot_types.specs.Trust.{trust_text}
@@ -87,9 +87,9 @@ sooner_fits a b p q =
     cond_both (a == 0) b (if b == 0 then a else min a b) (λ n. n < 2 ^ 32) (λ e. q)
     (λ e. cond_both (b == 0) a (min a b) (λ n. n < 2 ^ 32) (λ f. p) (λ f. omega arith))
 
-soonest_fits : (es : List ℕ) → AreDates es → soonest es < 2 ^ 32
+soonest_fits : (es : List ℕ) → AreDates es → soonest_of es < 2 ^ 32
 soonest_fits [] h = omega arith
-soonest_fits (e ∷ es) h = sooner_fits e (soonest es) h.0 (soonest_fits es h.1)
+soonest_fits (e ∷ es) h = sooner_fits e (soonest_of es) h.0 (soonest_fits es h.1)
 
 dates_filter : (t : ℕ → Bool) (es : List ℕ) → AreDates es → AreDates (filter t es)
 dates_filter t [] h = tt

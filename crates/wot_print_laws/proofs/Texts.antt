@@ -14,7 +14,7 @@ use Rattle.wot_types.specs.declared.cert.Cert.{Cert}
 use Rattle.wot_types.specs.Lines.{is_space}
 use Rattle.wot_types.specs.Numbers.{depth_and_amount, is_digit, two_bytes, both}
 use Rattle.wot_types.specs.Printing.{class_text, depth_text, key_id_text, scope_text}
-use Rattle.wot_types.specs.Quotes.{hex_pair, is_escaped, printed_text, printed_byte, quoted_front, unquoted, unquoted_in}
+use Rattle.wot_types.specs.Quotes.{hex_pair, is_escaped, printed_text, printed_byte, quoted_front, text_of_quoted, text_of_quoted_in}
 use Rattle.wot_types.specs.Fingerprint.{IsFprLength, fingerprint}
 use Rattle.wot_types.specs.Records.{class_of, key_id}
 use Rattle.wot_print_laws.specs.Fits.{IsScopeOfBytes}
@@ -51,28 +51,28 @@ front_of_printed b rest l =
     (λ e. ap (option_map (λ byte. (byte, rest))) (pair_of b l))
     (λ e. cond-false (b == 92) _ _ (or_parts ((nat_lt b 32 || (b == 127)) || (b == 58)) (b == 92) e).1)
 
-unquoted_step : (n : ℕ) (f : List ℕ) (b : ℕ) (rest : List ℕ) → 0 < length f → quoted_front f ≡ Some (b, rest)
-    → unquoted_in (suc n) f ≡ option_map (λ text. b ∷ text) (unquoted_in n rest)
-unfolding unquoted_in
-unquoted_step n [] b rest l e = absurd (omega arith)
-unquoted_step n (c ∷ f) b rest l e = ap (option_and_then (λ front. option_map (λ text. front.0 ∷ text) (unquoted_in n front.1))) e
+text_of_quoted_step : (n : ℕ) (f : List ℕ) (b : ℕ) (rest : List ℕ) → 0 < length f → quoted_front f ≡ Some (b, rest)
+    → text_of_quoted_in (suc n) f ≡ option_map (λ text. b ∷ text) (text_of_quoted_in n rest)
+unfolding text_of_quoted_in
+text_of_quoted_step n [] b rest l e = absurd (omega arith)
+text_of_quoted_step n (c ∷ f) b rest l e = ap (option_and_then (λ front. option_map (λ text. front.0 ∷ text) (text_of_quoted_in n front.1))) e
 
 printed_byte_some : (b : ℕ) → 0 < length (printed_byte b)
 printed_byte_some b =
     cond_both (is_escaped b) (92 ∷ 120 ∷ slice_index lower_digits (b / 16) ∷ slice_index lower_digits (b % 16) ∷ []) (b ∷ []) (λ s. 0 < length s) (λ e. omega arith) (λ e. omega arith)
 
-unquoted_in-printed : (n : ℕ) (text : List ℕ) → AreBytes text → length (printed_text text) ≤ n → unquoted_in n (printed_text text) ≡ Some text
-unfolding unquoted_in
-unquoted_in-printed zero [] h l = refl
-unquoted_in-printed (suc n) [] h l = refl
-unquoted_in-printed zero (b ∷ text) h l = absurd (omega (arith, length-append (printed_byte b) (printed_text text), printed_byte_some b))
-unquoted_in-printed (suc n) (b ∷ text) h l =
+text_of_quoted_in-printed : (n : ℕ) (text : List ℕ) → AreBytes text → length (printed_text text) ≤ n → text_of_quoted_in n (printed_text text) ≡ Some text
+unfolding text_of_quoted_in
+text_of_quoted_in-printed zero [] h l = refl
+text_of_quoted_in-printed (suc n) [] h l = refl
+text_of_quoted_in-printed zero (b ∷ text) h l = absurd (omega (arith, length-append (printed_byte b) (printed_text text), printed_byte_some b))
+text_of_quoted_in-printed (suc n) (b ∷ text) h l =
     let size = length-append (printed_byte b) (printed_text text) in
-    unquoted_step n (printed_byte b ++ printed_text text) b (printed_text text) (omega (arith, size, printed_byte_some b)) (front_of_printed b (printed_text text) h.0)
-    ∙ ap (option_map (λ t. b ∷ t)) (unquoted_in-printed n text h.1 (omega (arith, size, printed_byte_some b)))
+    text_of_quoted_step n (printed_byte b ++ printed_text text) b (printed_text text) (omega (arith, size, printed_byte_some b)) (front_of_printed b (printed_text text) h.0)
+    ∙ ap (option_map (λ t. b ∷ t)) (text_of_quoted_in-printed n text h.1 (omega (arith, size, printed_byte_some b)))
 
-pub unquoted-printed : (text : List ℕ) → AreBytes text → unquoted (printed_text text) ≡ Some text
-unquoted-printed text h = unquoted_in-printed (length (printed_text text)) text h (omega arith)
+pub text_of_quoted-printed : (text : List ℕ) → AreBytes text → text_of_quoted (printed_text text) ≡ Some text
+text_of_quoted-printed text h = text_of_quoted_in-printed (length (printed_text text)) text h (omega arith)
 
 inner_printed_byte : (b : ℕ) → b < 256 → IsInner (printed_byte b)
 inner_printed_byte b l =

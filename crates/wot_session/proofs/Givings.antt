@@ -9,7 +9,7 @@ use Rattle.wot_answer.specs.Answer.{Does, Leads}
 use Rattle.wot_answer.specs.declared.reply.Effect.{Effect}
 use Rattle.wot_answer.specs.declared.reply.Effect.TheVariants.{Nothing, Append}
 use Rattle.wot_site.specs.Seen.{Honestly, IfHonest, Moment, Seen}
-use Rattle.wot_site.specs.Work.{Since, now}
+use Rattle.wot_site.specs.Work.{Since, moment_of}
 use Rattle.wot_site.proofs.Honest.{honest_after, honest_then, honest_with}
 use Rattle.wot_site.proofs.Works.{since_then, since_weaker, works_start}
 use Rattle.wot_store.specs.Appending.{Appending, Appends, IsNext, IsRecordOf}
@@ -86,7 +86,7 @@ module _ (s t : Store) (reply : List ℕ) (x y : Seen) (works : Appending s t x 
       told = record { told = works.told ∙ sym (append-nil x.told); left = works.left; taken = works.taken; asks = works.asks };
     };
     since = before_reply;
-    here = working_around s t reply x.told (now y) works.told works.last;
+    here = working_around s t reply x.told (moment_of y) works.told works.last;
   }
 
   module _ (z : Seen) (stored : IsStored t y.disks) where
@@ -126,7 +126,7 @@ module _ (s t : Store) (reply : List ℕ) (x y : Seen) (works : Appending s t x 
             };
           };
           since = since_then _ x y z before_reply (since_weaker _ _ y z (while_told part.prefix part.is_prefix) telling.since);
-          here = telling_around s t reply x y (now z) works.told stored
+          here = telling_around s t reply x y (moment_of z) works.told stored
               (record { disks = telling.disks; prefix = part.prefix; is_prefix = part.is_prefix; told = telling.told.told });
         }
 

@@ -4,7 +4,7 @@ use Rattle.std.proofs.lemmas.List.{append-nil}
 use Rattle.wot_types.specs.Store.{Store}
 use Rattle.wot_site.specs.Disk.{Disks, IsImageOf}
 use Rattle.wot_site.specs.Seen.{Moment, Seen}
-use Rattle.wot_site.specs.Work.{now}
+use Rattle.wot_site.specs.Work.{moment_of}
 use Rattle.wot_store.specs.Shows.{IsStored, Shows}
 use Rattle.wot_store.proofs.Openings.{settled_images}
 use Rattle.wot_types.specs.Commands.{Command}
@@ -72,9 +72,9 @@ whole_then p xs ys told new whole = record {
 }
 
 -- what was answered wholly is kept
-pub whole_kept : (p : Progress) (commands : List Command) (told : List ℕ) (new : Seen) → IsWhole p commands told new → Kept p commands told (now new)
+pub whole_kept : (p : Progress) (commands : List Command) (told : List ℕ) (new : Seen) → IsWhole p commands told new → Kept p commands told (moment_of new)
 whole_kept p commands told new whole =
-    subst (λ commands. Kept p commands told (now new)) whole.split
-    (kept_more p whole.done whole.rest told (now new)
-    (subst (λ commands. Kept p commands told (now new)) (append-nil whole.done)
-    (kept_then p whole.done [] told (now new) (whole.told, stored_shows _ new.disks whole.stored))))
+    subst (λ commands. Kept p commands told (moment_of new)) whole.split
+    (kept_more p whole.done whole.rest told (moment_of new)
+    (subst (λ commands. Kept p commands told (moment_of new)) (append-nil whole.done)
+    (kept_then p whole.done [] told (moment_of new) (whole.told, stored_shows _ new.disks whole.stored))))

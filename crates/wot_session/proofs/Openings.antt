@@ -10,7 +10,7 @@ use Rattle.wot_types.specs.LineByLine.{at_first}
 use Rattle.wot_types.specs.Session.{after_all, at_start, commands_of, output_of, replies}
 use Rattle.wot_site.specs.Disk.{Image, Leaves, reads_of}
 use Rattle.wot_site.specs.Seen.{Honestly, Seen}
-use Rattle.wot_site.specs.Work.{Quiet, Since, now}
+use Rattle.wot_site.specs.Work.{Quiet, Since, moment_of}
 use Rattle.wot_site.proofs.Honest.{And, honest_and, honest_weaker}
 use Rattle.wot_store.specs.declared.error.BadStore.{BadStore}
 use Rattle.wot_store.specs.Opening.{FindsBad, Opening, Opens}
@@ -162,7 +162,7 @@ module _ (store : Store) (words : List (List ℕ)) (x y : Seen) (opening : Openi
   opened_stopped most stop z stopped =
       let quiet = still x y opening in
       let told = stopped.told ∙ ap (λ told. told ++ stopped.text) quiet.told in
-      let here = subst (λ t. Kept (at_start store) (commands_of words x.left) t (now z)) quiet.told (subst (λ left. Kept (at_start store) (commands_of words left) y.told (now z)) quiet.left stopped.here) in
+      let here = subst (λ t. Kept (at_start store) (commands_of words x.left) t (moment_of z)) quiet.told (subst (λ left. Kept (at_start store) (commands_of words left) y.told (moment_of z)) quiet.left stopped.here) in
       record {
         store = store;
         shows = opens.before;
@@ -174,7 +174,7 @@ module _ (store : Store) (words : List (List ℕ)) (x y : Seen) (opening : Openi
         too_long = λ is. rw (← quiet.told, ← quiet.taken, ← quiet.left) (stopped.too_long is);
         punctual = punctual_later z stopped.punctual;
         safe = safe_later z stopped.since;
-        here = kept_safe (at_start store) (commands_of words x.left) x.told (now z) here;
+        here = kept_safe (at_start store) (commands_of words x.left) x.told (moment_of z) here;
         exact = λ between. whole_exact (at_start store) (commands_of words x.left) x.told stopped.text z told
             (subst (λ t. IsWhole (at_start store) (commands_of words x.left) t z) quiet.told (subst (λ left. IsWhole (at_start store) (commands_of words left) y.told z) quiet.left (stopped.whole between)));
       }
@@ -204,7 +204,7 @@ module _ (store : Store) (words : List (List ℕ)) (takes : takes_input words �
     too_long = stopped.too_long;
     punctual = stopped.punctual;
     since = subst (λ commands. Since (Kept (at_start store) commands y.told) y z) (same_input y.left) stopped.since;
-    here = subst (λ commands. Kept (at_start store) commands y.told (now z)) (same_input y.left) stopped.here;
+    here = subst (λ commands. Kept (at_start store) commands y.told (moment_of z)) (same_input y.left) stopped.here;
     whole = λ between. subst (λ commands. IsWhole (at_start store) commands y.told z) (same_input y.left) (stopped.whole between);
   }
 
@@ -248,14 +248,14 @@ module _ (store : Store) (words : List (List ℕ)) (some : words ≡ [] → ⊥)
         too_long = λ is. absurd (no_long stop kind is);
         punctual = record { since = []; asks = told.asks ∙ sym (append-nil y.asks); each = All-nil _ };
         since = subst (λ commands. Since (Kept (at_start store) commands y.told) y z) same said.since;
-        here = subst (λ commands. Kept (at_start store) commands y.told (now z)) same said.here;
+        here = subst (λ commands. Kept (at_start store) commands y.told (moment_of z)) same said.here;
         whole = λ between. subst (λ commands. IsWhole (at_start store) commands y.told z) same (said.whole (is_memory stop kind between));
       }
 
 -- no memory for the block of the one command
 words_nothing_at : (store : Store) (words : List (List ℕ)) (most : ℕ) (x : Seen) → IsStored store x.disks → WordsStopped store words most Memory x x
 words_nothing_at store words most x stored =
-    let here = kept_here (at_start store) (commands_of words x.left) x.told (now x) refl (stored_shows store x.disks stored) in
+    let here = kept_here (at_start store) (commands_of words x.left) x.told (moment_of x) refl (stored_shows store x.disks stored) in
     record {
       text = [];
       told = sym (append-nil x.told);

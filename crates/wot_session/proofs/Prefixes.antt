@@ -7,7 +7,7 @@ use Rattle.wot_site.specs.Disk.{Image, Leaves}
 use Rattle.wot_site.specs.Seen.{Moment, Seen}
 use Rattle.wot_store.specs.Shows.{Shows}
 use Rattle.wot_types.specs.Commands.{Command}
-use Rattle.wot_types.specs.Session.{Progress, acknowledged, after_command, after_all, is_edit, replies, reply_to, states}
+use Rattle.wot_types.specs.Session.{Progress, acknowledged_count, after_command, after_all, is_edit, replies, reply_to, states}
 use Rattle.wot_types.proofs.Counting.{first_state, kept, none_acknowledged, replied}
 use Rattle.wot_session.proofs.Keeping.{stored_shows}
 use Rattle.wot_session.specs.Kept.{IsAround, IsSafe, IsWhole, Kept, ShowsPrefix, ShowsState}
@@ -41,17 +41,17 @@ state_later p command commands j =
     ]
 
 -- the first command is not answered wholly
-count_none : (p : Progress) (command : Command) (commands : List Command) (n : ℕ) → n < length (reply_to p command) → acknowledged p (command ∷ commands) n ≡ 0
+count_none : (p : Progress) (command : Command) (commands : List Command) (n : ℕ) → n < length (reply_to p command) → acknowledged_count p (command ∷ commands) n ≡ 0
 count_none p command commands n less = grind (arith, nat_tests)
 
 -- the first command is answered wholly
 count_later : (p : Progress) (command : Command) (commands : List Command) (n : ℕ)
-    → acknowledged p (command ∷ commands) (length (reply_to p command) + n) ≡ one_if (is_edit p command) + acknowledged (after_command p command) commands n
+    → acknowledged_count p (command ∷ commands) (length (reply_to p command) + n) ≡ one_if (is_edit p command) + acknowledged_count (after_command p command) commands n
 count_later p command commands n =
     let size : (length (reply_to p command) + n) - length (reply_to p command) ≡ n = omega arith in
     let no : nat_lt (length (reply_to p command) + n) (length (reply_to p command)) ≡ false = grind (arith, nat_tests) in
-    ap (λ b. if b then 0 else one_if (is_edit p command) + acknowledged (after_command p command) commands ((length (reply_to p command) + n) - length (reply_to p command))) no
-    ∙ ap (λ n. one_if (is_edit p command) + acknowledged (after_command p command) commands n) size
+    ap (λ b. if b then 0 else one_if (is_edit p command) + acknowledged_count (after_command p command) commands ((length (reply_to p command) + n) - length (reply_to p command))) no
+    ∙ ap (λ n. one_if (is_edit p command) + acknowledged_count (after_command p command) commands n) size
 
 module _ (p : Progress) (command : Command) (commands : List Command) where
   -- the state after the first command is that after as many edits as it makes
@@ -85,7 +85,7 @@ module _ (p : Progress) (command : Command) (commands : List Command) where
   late : (image : Image) → Shows image (after_command p command).store → ShowsPrefix p (command ∷ commands) (length (reply_to p command)) image
   late image shows =
       let size : length (reply_to p command) + 0 ≡ length (reply_to p command) = omega arith in
-      let count = sym (ap (acknowledged p (command ∷ commands)) size) ∙ count_later p command commands 0 in
+      let count = sym (ap (acknowledged_count p (command ∷ commands)) size) ∙ count_later p command commands 0 in
       let none = none_acknowledged (after_command p command) commands in
       record {
         j = one_if (is_edit p command);
@@ -164,21 +164,21 @@ kept_safe p (command ∷ commands) before m (inr later) =
 
 -- after commands that were answered wholly the state is that of the edits acknowledged
 whole_state : (p : Progress) (done rest : List Command)
-    → slice_get (states p (done ++ rest)) (acknowledged p (done ++ rest) (length (replies p done))) ≡ Some (after_all p done).store.state
+    → slice_get (states p (done ++ rest)) (acknowledged_count p (done ++ rest) (length (replies p done))) ≡ Some (after_all p done).store.state
 whole_state p [] rest = ap (slice_get (states p rest)) (none_acknowledged p rest) ∙ first_state p rest
 whole_state p (command ∷ done) rest =
-    ap (λ n. slice_get (states p (command ∷ done ++ rest)) (acknowledged p (command ∷ done ++ rest) n)) (length-append (reply_to p command) (replies (after_command p command) done))
+    ap (λ n. slice_get (states p (command ∷ done ++ rest)) (acknowledged_count p (command ∷ done ++ rest) n)) (length-append (reply_to p command) (replies (after_command p command) done))
     ∙ ap (slice_get (states p (command ∷ done ++ rest))) (count_later p command (done ++ rest) (length (replies (after_command p command) done)))
-    ∙ state_later p command (done ++ rest) (acknowledged (after_command p command) (done ++ rest) (length (replies (after_command p command) done)))
+    ∙ state_later p command (done ++ rest) (acknowledged_count (after_command p command) (done ++ rest) (length (replies (after_command p command) done)))
     ∙ whole_state (after_command p command) done rest
 
 pub whole_exact : (p : Progress) (commands : List Command) (before text : List ℕ) (new : Seen) → new.told ≡ before ++ text → IsWhole p commands before new
-    → Leaves (ShowsState p commands (acknowledged p commands (length text))) new.disks
+    → Leaves (ShowsState p commands (acknowledged_count p commands (length text))) new.disks
 whole_exact p commands before text new told whole image is_image =
     let same : text ≡ replies p whole.done = append_cancel_left before text (replies p whole.done) (sym told ∙ whole.told) in
     record {
       store = (after_all p whole.done).store;
       shows = stored_shows _ new.disks whole.stored image is_image;
-      is = subst (λ commands. slice_get (states p commands) (acknowledged p commands (length text)) ≡ Some (after_all p whole.done).store.state) whole.split
-          (ap (λ text. slice_get (states p (whole.done ++ whole.rest)) (acknowledged p (whole.done ++ whole.rest) (length text))) same ∙ whole_state p whole.done whole.rest);
+      is = subst (λ commands. slice_get (states p commands) (acknowledged_count p commands (length text)) ≡ Some (after_all p whole.done).store.state) whole.split
+          (ap (λ text. slice_get (states p (whole.done ++ whole.rest)) (acknowledged_count p (whole.done ++ whole.rest) (length text))) same ∙ whole_state p whole.done whole.rest);
     }

@@ -10,7 +10,7 @@ use Rattle.wot_types.specs.LineByLine.{Position}
 use Rattle.wot_types.specs.Session.{Progress, after_all, replies}
 use Rattle.wot_site.specs.Seen.{Moment, Seen}
 use Rattle.wot_site.specs.Site.{asked_at}
-use Rattle.wot_site.specs.Work.{Since, now as at_once}
+use Rattle.wot_site.specs.Work.{Since, moment_of}
 use Rattle.wot_site.proofs.Works.{since_start, since_then, since_weaker}
 use Rattle.wot_site.specs.declared.site.Asked.{Asked}
 use Rattle.wot_store.specs.Shows.{IsStored}
@@ -242,8 +242,8 @@ module _ (s : Position) where
             );
         since = subst (λ commands. Since (Kept s.progress commands first.told) first next) (sym all)
             (since_behind fed (piece_commands ++ others) first now next heard (since_weaker _ _ now next (λ m. kept_more (position_after s fed).progress piece_commands others now.told m) stopped.since));
-        here = subst (λ commands. Kept s.progress commands first.told (at_once next)) (sym all)
-            (kept_behind fed (piece_commands ++ others) first now (at_once next) heard.told (kept_more (position_after s fed).progress piece_commands others now.told (at_once next) stopped.here));
+        here = subst (λ commands. Kept s.progress commands first.told (moment_of next)) (sym all)
+            (kept_behind fed (piece_commands ++ others) first now (moment_of next) heard.told (kept_more (position_after s fed).progress piece_commands others now.told (moment_of next) stopped.here));
         whole = λ between. subst (λ commands. IsWhole s.progress commands first.told next) (sym all)
             (whole_behind fed (piece_commands ++ others) first now next heard.told (whole_before (position_after s fed).progress piece_commands others now.told next (stopped.whole between)));
       }
@@ -315,7 +315,7 @@ module _ (s : Position) where
         read_fault = λ is. absurd (no_read stop kind is);
         too_long = λ is. absurd (no_long stop kind is);
         since = subst (λ commands. Since (Kept s.progress commands first.told) first next) all (since_behind fed _ first now next heard said.since);
-        here = subst (λ commands. Kept s.progress commands first.told (at_once next)) all (kept_behind fed _ first now (at_once next) heard.told said.here);
+        here = subst (λ commands. Kept s.progress commands first.told (moment_of next)) all (kept_behind fed _ first now (moment_of next) heard.told said.here);
         whole = λ between. subst (λ commands. IsWhole s.progress commands first.told next) all
             (whole_behind fed _ first now next heard.told (said.whole (is_memory stop kind between)));
       }

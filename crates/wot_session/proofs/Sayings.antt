@@ -3,7 +3,7 @@ use Rattle.std.proofs.Common.{◌≡◌, ◌⊎◌, ◌==◌, length, arith, inl
 use Rattle.std.proofs.lemmas.Bool.Decides.{nat_tests}
 use Rattle.std.proofs.lemmas.List.{append-nil}
 use Rattle.wot_site.specs.Seen.{Honestly, Moment, Seen}
-use Rattle.wot_site.specs.Work.{now}
+use Rattle.wot_site.specs.Work.{moment_of}
 use Rattle.wot_site.proofs.Works.{since_start, since_then, since_weaker}
 use Rattle.wot_store.specs.Shows.{IsStored}
 use Rattle.wot_types.specs.Commands.{Command, Cut, ReadLine, closed_command, ends, made_by, of_line, opens_block, unfinished_commands}
@@ -82,7 +82,7 @@ pub given_said_prefix : (p : Progress) (commands : List Command) (stop : Stop) (
 given_said_prefix p commands stop x y one kind given = record {
   told = given.told;
   since = since_weaker _ _ x y (λ m. around_kept p commands x.told m one) given.since;
-  here = around_kept p commands x.told (now y) one given.here;
+  here = around_kept p commands x.told (moment_of y) one given.here;
   whole = λ is. absurd (other kind is);
 }
   where
@@ -93,7 +93,7 @@ given_said_prefix p commands stop x y one kind given = record {
 -- no memory for an answer
 pub said_nothing : (p : Progress) (commands : List Command) (x : Seen) → IsStored p.store x.disks → SaidPrefix p commands Memory x x
 said_nothing p commands x stored =
-    let here = kept_here p commands x.told (now x) refl (stored_shows p.store x.disks stored) in
+    let here = kept_here p commands x.told (moment_of x) refl (stored_shows p.store x.disks stored) in
     record {
       told = record { prefix = []; is_prefix = (replies p commands, refl); told = told_none x };
       since = since_start _ x here;
@@ -119,7 +119,7 @@ module _ (p : Progress) (xs ys : List Command) (x y : Seen) where
   said_then_prefix stop z before after = record {
     told = rw (commands_append p xs ys) (told_then_prefix _ _ x y z before.told after.told);
     since = since_then _ x y z (since_weaker _ _ x y (kept_more p xs ys x.told) before.since) (since_weaker _ _ y z (later before.told.told) after.since);
-    here = later before.told.told (now z) after.here;
+    here = later before.told.told (moment_of z) after.here;
     whole = λ is. whole_then p xs ys x.told z (subst (λ t. IsWhole (after_all p xs) ys t z) before.told.told (after.whole is));
   }
 
@@ -131,7 +131,7 @@ module _ (p : Progress) (xs ys : List Command) (x y : Seen) where
   said_prefix_more stop said = record {
     told = rw (commands_append p xs ys) (prefix_more _ _ x y said.told);
     since = since_weaker _ _ x y (kept_more p xs ys x.told) said.since;
-    here = kept_more p xs ys x.told (now y) said.here;
+    here = kept_more p xs ys x.told (moment_of y) said.here;
     whole = λ is. whole_more p xs ys x.told y (said.whole is);
   }
 

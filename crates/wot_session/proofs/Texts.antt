@@ -7,7 +7,7 @@ use Rattle.std.proofs.Math.Seq.{take-add}
 use Rattle.wot_site.specs.Disk.{Disks}
 use Rattle.wot_site.specs.Seen.{Moment, Seen}
 use Rattle.wot_site.specs.Site.{Tells, Stays, moments_telling}
-use Rattle.wot_site.specs.Work.{now}
+use Rattle.wot_site.specs.Work.{moment_of}
 use Rattle.wot_site.proofs.Works.{since_start, since_then, since_weaker}
 use Rattle.wot_session.specs.Told.{IsTelling, Told, ToldPrefix, Telling, TellingPrefix}
 
@@ -58,7 +58,7 @@ telling_each sides before text done (b ∷ rest) told split so_far =
     (record { disks = refl; prefix = done ++ b ∷ []; is_prefix = (rest, joined); told = next })
     (telling_each sides before text (done ++ b ∷ []) rest (told ++ b ∷ []) joined next)
 
-telling_first : (text : List ℕ) (x : Seen) → IsTelling x.disks x.told text (now x)
+telling_first : (text : List ℕ) (x : Seen) → IsTelling x.disks x.told text (moment_of x)
 telling_first text x = record { disks = refl; prefix = []; is_prefix = (text, refl); told = sym (append-nil x.told) }
 
 tells_telling : (n : ℕ) (bytes : List ℕ) (y z : Seen) → Tells n bytes y z → Telling (take n bytes) y z

@@ -9,7 +9,7 @@ use Rattle.wot_types.specs.LineByLine.{Position}
 use Rattle.wot_types.specs.Session.{after_all, replies}
 use Rattle.wot_site.specs.Seen.{Honestly, Seen}
 use Rattle.wot_site.specs.Site.{Takes, TakesNothing, asked_at}
-use Rattle.wot_site.specs.Work.{Since, now}
+use Rattle.wot_site.specs.Work.{Since, moment_of}
 use Rattle.wot_site.proofs.Honest.{honest_after}
 use Rattle.wot_store.specs.Shows.{IsStored}
 use Rattle.wot_types.specs.Commands.{Command}
@@ -64,12 +64,12 @@ turn_failed p line room x y stored nothing =
       read_fault = λ _. (taken_same nothing, told_same nothing);
       too_long = λ other. cc;
       since = record {
-        first = kept_here p.progress commands x.told (now x) refl (stored_shows _ x.disks stored);
+        first = kept_here p.progress commands x.told (moment_of x) refl (stored_shows _ x.disks stored);
         moments = [];
         is = moments_same nothing ∙ sym (append-nil x.moments);
         each = All-nil _;
       };
-      here = kept_here p.progress commands x.told (now y) (told_same nothing) (stored_shows _ y.disks after);
+      here = kept_here p.progress commands x.told (moment_of y) (told_same nothing) (stored_shows _ y.disks after);
       whole = λ _. whole_here p.progress commands x.told y (told_same nothing) after;
     }
   where
@@ -145,7 +145,7 @@ module _ (n : ℕ) (buf : List ℕ) {x y : Seen} (takes : Takes n buf x y) where
       read_fault = λ is. absurd (no_read stop kind is);
       too_long = λ is. absurd (no_long stop kind is);
       since = from_before p (commands_fed p line (take m buf)) z said.since;
-      here = subst (λ told. Kept p.progress (commands_fed p line (take m buf)) told (now z)) told_same said.here;
+      here = subst (λ told. Kept p.progress (commands_fed p line (take m buf)) told (moment_of z)) told_same said.here;
       whole = λ between. subst (λ told. IsWhole p.progress (commands_fed p line (take m buf)) told z) told_same (said.whole (is_memory stop kind between));
     }
 

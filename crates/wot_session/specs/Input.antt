@@ -6,7 +6,7 @@ use Rattle.wot_types.specs.Commands.Cut.{over}
 use Rattle.wot_types.specs.LineByLine.{Position}
 use Rattle.wot_types.specs.Session.{Progress, after_all, replies}
 use Rattle.wot_site.specs.Seen.{Seen}
-use Rattle.wot_site.specs.Work.{Since, now}
+use Rattle.wot_site.specs.Work.{Since, moment_of}
 use Rattle.wot_site.specs.declared.site.Asked.{Asked}
 use Rattle.wot_store.specs.Shows.{IsStored}
 use Rattle.wot_session.specs.Kept.{IsPrefixOf, IsWhole, Kept}
@@ -74,5 +74,5 @@ pub record Stopped (s : Position) (most : ℕ) (stop : Stop) (old new : Seen) : 
   pub too_long : stop ≡ TooLong → (most < length old.left) × (most < new.taken - old.taken) × (new.told ≡ old.told ++ so_far_at s (take most old.left))
       × (cut_at s (take most old.left) ≡ over → ⊥)
   pub since : Since (Kept s.progress (commands_at s old.left) old.told) old new
-  pub here : Kept s.progress (commands_at s old.left) old.told (now new)
+  pub here : Kept s.progress (commands_at s old.left) old.told (moment_of new)
   pub whole : IsBetween stop → IsWhole s.progress (commands_at s old.left) old.told new

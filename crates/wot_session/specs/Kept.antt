@@ -2,7 +2,7 @@
 use Rattle.std.specs.Prelude.{ℕ, ◌≡◌, ◌⊎◌, ◌+◌, ◌≤◌, List, [], ◌∷◌, ◌++◌, length, Some, slice_get}
 use Rattle.wot_types.specs.Store.{Store}
 use Rattle.wot_types.specs.Commands.{Command}
-use Rattle.wot_types.specs.Session.{Progress, acknowledged, after_command, after_all, replies, reply_to, states}
+use Rattle.wot_types.specs.Session.{Progress, acknowledged_count, after_command, after_all, replies, reply_to, states}
 use Rattle.wot_site.specs.Disk.{Disks, Image, Leaves}
 use Rattle.wot_site.specs.Seen.{Moment, Seen}
 use Rattle.wot_store.specs.Shows.{IsStored, Shows}
@@ -51,8 +51,8 @@ pub record ShowsState (p : Progress) (commands : List Command) (j : ℕ) (image 
 -- the same, of all edits whose reply is whole in the first n bytes and of at most one more
 pub record ShowsPrefix (p : Progress) (commands : List Command) (n : ℕ) (image : Image) : Type 0 where
   pub j : ℕ
-  pub least : acknowledged p commands n ≤ j
-  pub most : j ≤ acknowledged p commands n + 1
+  pub least : acknowledged_count p commands n ≤ j
+  pub most : j ≤ acknowledged_count p commands n + 1
   pub shows : ShowsState p commands j image
 
 -- a prefix of the replies was told after this text, and whatever a crash leaves shows the first edits:

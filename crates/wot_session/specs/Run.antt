@@ -4,11 +4,11 @@ use Rattle.wot_types.specs.Store.{Store}
 use Rattle.wot_types.specs.Commands.{Command, takes_input}
 use Rattle.wot_types.specs.Commands.Cut.{over}
 use Rattle.wot_types.specs.LineByLine.{at_first}
-use Rattle.wot_types.specs.Session.{acknowledged, at_start, commands_of, end_of, output_of}
+use Rattle.wot_types.specs.Session.{acknowledged_count, at_start, commands_of, end_of, output_of}
 use Rattle.wot_site.specs.Disk.{Leaves, reads_of}
 use Rattle.wot_site.specs.Seen.{Faults, Moment, Seen}
 use Rattle.wot_site.specs.Site.{NoneFell, Rose, Stays}
-use Rattle.wot_site.specs.Work.{Quiet, now}
+use Rattle.wot_site.specs.Work.{Quiet, moment_of}
 use Rattle.wot_store.specs.Opening.{FindsBad, IsSettled, IsUnwritten, Opening}
 use Rattle.wot_store.specs.Shows.{IsStored, Shows}
 use Rattle.wot_session.specs.Input.{IsPunctual, cut_at, so_far_at}
@@ -65,8 +65,8 @@ pub record Stopped (words : List (List ℕ)) (most : ℕ) (stop : Stop) (old new
       × (cut_at (at_first store words) (take most old.left) ≡ over → ⊥)
   pub punctual : IsPunctual (at_first store words) old new
   pub safe : IsCrashSafe store (commands_of words old.left) old new
-  pub here : IsSafe (at_start store) (commands_of words old.left) old.told (now new)
-  pub exact : IsBetween stop → Leaves (ShowsState (at_start store) (commands_of words old.left) (acknowledged (at_start store) (commands_of words old.left) (length text))) new.disks
+  pub here : IsSafe (at_start store) (commands_of words old.left) old.told (moment_of new)
+  pub exact : IsBetween stop → Leaves (ShowsState (at_start store) (commands_of words old.left) (acknowledged_count (at_start store) (commands_of words old.left) (length text))) new.disks
 
 -- the store was not opened: nothing was taken or told. Where the sides as read show a store, the crash clause holds for it
 pub record Unopened (words : List (List ℕ)) (old new : Seen) : Type 0 where

@@ -6,7 +6,7 @@ use Rattle.wot_types.specs.Session.{Progress, replies}
 use Rattle.wot_site.specs.Disk.{Disks}
 use Rattle.wot_site.specs.Seen.{Faults, Moment, Seen}
 use Rattle.wot_site.specs.Site.{NoneFell}
-use Rattle.wot_site.specs.Work.{Since, now}
+use Rattle.wot_site.specs.Work.{Since, moment_of}
 use Rattle.wot_session.specs.Kept.{IsAround, IsPrefixOf, IsWhole, Kept}
 use Rattle.wot_session.specs.Stop.{Causes}
 use Rattle.wot_session.specs.declared.stop.Stop.{Stop}
@@ -53,7 +53,7 @@ pub record Given (s t : Store) (reply : List ℕ) (old new : Seen) : Type 0 wher
 pub record GivenPrefix (s t : Store) (reply : List ℕ) (old new : Seen) : Type 0 where
   pub told : ToldPrefix reply old new
   pub since : Since (IsAround s t reply old.told) old new
-  pub here : IsAround s t reply old.told (now new)
+  pub here : IsAround s t reply old.told (moment_of new)
 
 -- these commands were answered by a session that had come so far
 pub record Said (p : Progress) (commands : List Command) (old new : Seen) : Type 0 where
@@ -64,7 +64,7 @@ pub record Said (p : Progress) (commands : List Command) (old new : Seen) : Type
 pub record SaidPrefix (p : Progress) (commands : List Command) (stop : Stop) (old new : Seen) : Type 0 where
   pub told : ToldPrefix (replies p commands) old new
   pub since : Since (Kept p commands old.told) old new
-  pub here : Kept p commands old.told (now new)
+  pub here : Kept p commands old.told (moment_of new)
   pub whole : stop ≡ Memory → IsWhole p commands old.told new
 
 -- an answer that succeeds leaves every count of faults, and one that stops says why

@@ -6,7 +6,7 @@ use Rattle.wot_types.specs.LineByLine.{Position, commands_in}
 use Rattle.wot_types.specs.Session.{replies}
 use Rattle.wot_site.specs.Seen.{Seen}
 use Rattle.wot_site.specs.Site.{asked_at}
-use Rattle.wot_site.specs.Work.{Since, now}
+use Rattle.wot_site.specs.Work.{Since, moment_of}
 use Rattle.wot_session.specs.Fed.{whole_from}
 use Rattle.wot_session.specs.Kept.{IsPrefixOf, IsWhole, Kept}
 use Rattle.wot_session.specs.declared.stop.Stop.{Stop}
@@ -51,5 +51,5 @@ pub record StoppedTurn (p : Position) (line : Option (List ℕ)) (room : ℕ) (s
       × (new.told ≡ old.told ++ replies p.progress (commands_fed p line (take room old.left)))
       × (cut_fed p line (take room old.left) ≡ over → ⊥)
   pub since : Since (Kept p.progress (commands_fed p line piece) old.told) old new
-  pub here : Kept p.progress (commands_fed p line piece) old.told (now new)
+  pub here : Kept p.progress (commands_fed p line piece) old.told (moment_of new)
   pub whole : IsBetween stop → IsWhole p.progress (commands_fed p line piece) old.told new

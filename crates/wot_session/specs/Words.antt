@@ -6,7 +6,7 @@ use Rattle.wot_types.specs.Commands.Cut.{over}
 use Rattle.wot_types.specs.LineByLine.{Position, at_first}
 use Rattle.wot_types.specs.Session.{at_start, commands_of, end_of, output_of}
 use Rattle.wot_site.specs.Seen.{Seen}
-use Rattle.wot_site.specs.Work.{Since, now}
+use Rattle.wot_site.specs.Work.{Since, moment_of}
 use Rattle.wot_store.specs.Shows.{IsStored}
 use Rattle.wot_session.specs.Input.{HasQuit, IsPunctual, IsRead, cut_at, so_far_at}
 use Rattle.wot_session.specs.Kept.{IsPrefixOf, IsWhole, Kept}
@@ -46,5 +46,5 @@ pub record WordsStopped (store : Store) (words : List (List ℕ)) (most : ℕ) (
       × (cut_at (at_first store words) (take most old.left) ≡ over → ⊥)
   pub punctual : IsPunctual (at_first store words) old new
   pub since : Since (Kept (at_start store) (commands_of words old.left) old.told) old new
-  pub here : Kept (at_start store) (commands_of words old.left) old.told (now new)
+  pub here : Kept (at_start store) (commands_of words old.left) old.told (moment_of new)
   pub whole : IsBetween stop → IsWhole (at_start store) (commands_of words old.left) old.told new

@@ -1,12 +1,12 @@
 -- One call on a side at a time.
-use Rattle.std.proofs.Common.{◌≡◌, ◌⊎◌, inl, inr, ℕ, List, refl, sym, ◌∙◌, ap, subst}
+use Rattle.std.proofs.Common.{◌≡◌, inl, inr, ℕ, List, ◌∙◌, ap}
 use Rattle.wot_site.specs.Disk.{Disk, Disks, disk_of, with_disk, after_write, after_sync}
 use Rattle.wot_site.specs.Seen.{Seen}
 use Rattle.wot_site.specs.Site.{on_disk, Writes, WritesOrNot, Syncs, Stays}
 use Rattle.wot_site.specs.Work.{Works}
 use Rattle.wot_site.specs.declared.site.Side.{Side}
-use Rattle.wot_site.proofs.Sides.{disk_with, with_with, with_same}
-use Rattle.wot_site.proofs.Works.{works_start, works_push, works_to, works_then}
+use Rattle.wot_site.proofs.Sides.{disk_with, with_with}
+use Rattle.wot_site.proofs.Works.{works_start, works_push, works_to}
 
 -- one side alone is other than it was, and is this
 abbrev pub IsAlone : Side → Disk → Seen → Seen → Type 0

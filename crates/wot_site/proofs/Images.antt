@@ -1,10 +1,10 @@
 -- What a crash may leave of a side.
-use Rattle.std.proofs.Common.{◌≡◌, ◌⊎◌, inl, inr, ⊎_elim, ℕ, ◌+◌, ◌-◌, ◌<◌, ◌≤◌, min, Some, List, [], ◌∷◌, ◌++◌, length, get_or, take, drop, refl, sym, ◌∙◌, ap, subst, arith, append_assoc}
-use Rattle.std.specs.Prelude.{slice_index, All}
-use Rattle.std.proofs.lemmas.List.{ext_get_or, get_or-take, get_or-drop, length-take, length-drop, length-append, length-take-le, take_at, drop_at, take-append-le, take_all, drop_all, drop-drop, append-nil}
+use Rattle.std.proofs.Common.{◌≡◌, ◌⊎◌, inl, inr, ⊎_elim, ℕ, ◌+◌, ◌-◌, ◌<◌, ◌≤◌, Some, List, [], ◌∷◌, ◌++◌, length, get_or, take, drop, refl, sym, ◌∙◌, ap, arith}
+use Rattle.std.specs.Prelude.{All}
+use Rattle.std.proofs.lemmas.List.{ext_get_or, get_or-take, get_or-drop, length-drop, length-append, length-take-le, take_at, drop_at, drop_all, drop-drop}
 use Rattle.std.proofs.lemmas.List.Elements.{All-nil, All-cons, All-pop, All-weaker}
 use Rattle.std.proofs.lemmas.Bool.{cases_lt}
-use Rattle.wot_site.specs.Disk.{Range, Disk, IsOutside, IsImage, bytes_after_write, after_write, settled_disk}
+use Rattle.wot_site.specs.Disk.{Range, Disk, IsImage, bytes_after_write, after_write, settled_disk}
 
 -- what a read gives is one of the images
 pub reads_image : (d : Disk) → IsImage d d.reads

@@ -1,10 +1,10 @@
 -- Images of a side in memory, and its pending ranges.
-use Rattle.std.proofs.Common.{◌≡◌, ◌⊎◌, inl, inr, ⊎_elim, ℕ, ◌+◌, ◌<◌, ◌≤◌, List, [], ◌∷◌, ◌++◌, length, get_or, take, refl, sym, ◌∙◌, ap, subst, arith}
-use Rattle.std.specs.Prelude.{slice_index, All, Some}
+use Rattle.std.proofs.Common.{◌≡◌, ◌⊎◌, inl, inr, ℕ, ◌+◌, ◌<◌, ◌≤◌, List, [], ◌∷◌, ◌++◌, length, get_or, take, refl, sym, ◌∙◌, ap, subst, arith}
+use Rattle.std.specs.Prelude.{slice_index, Some}
 use Rattle.std.proofs.lemmas.Bool.{cases_lt}
-use Rattle.std.proofs.lemmas.List.{take_more, take_all, get_or_read}
+use Rattle.std.proofs.lemmas.List.{take_more, take_all}
 use Rattle.std.proofs.lemmas.List.Elements.{All-nil, All-pop, All-push}
-use Rattle.wot_site.specs.Disk.{Range, Disk, IsImage, IsOutside, bytes_after_write, after_write}
+use Rattle.wot_site.specs.Disk.{Range, Disk, IsImage, IsOutside, bytes_after_write}
 use Rattle.wot_site.specs.MemorySide.{IsFilled}
 use Rattle.wot_site.proofs.Images.{image_kept}
 

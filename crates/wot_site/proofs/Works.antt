@@ -5,9 +5,9 @@ use Rattle.std.proofs.lemmas.List.Elements.{All-nil, All-append, All-push, All-w
 use Rattle.wot_site.specs.Disk.{Disks}
 use Rattle.wot_site.specs.Seen.{Seen, Moment}
 use Rattle.wot_site.specs.Site.{with_disks}
-use Rattle.wot_site.specs.Work.{now, Since, Quiet, Works}
+use Rattle.wot_site.specs.Work.{moment_of, Since, Quiet, Works}
 
-pub since_start : (P : Moment → Type 0) (x : Seen) → P (now x) → Since P x x
+pub since_start : (P : Moment → Type 0) (x : Seen) → P (moment_of x) → Since P x x
 since_start P x here = record { first = here; moments = []; is = sym (append-nil x.moments); each = All-nil P }
 
 pub since_then : (P : Moment → Type 0) (x y z : Seen) → Since P x y → Since P y z → Since P x z
@@ -20,7 +20,7 @@ since_then P x y z before after = record {
 
 pub since_weaker : (P Q : Moment → Type 0) (x y : Seen) → ((m : Moment) → P m → Q m) → Since P x y → Since Q x y
 since_weaker P Q x y weaker since = record {
-  first = weaker (now x) since.first;
+  first = weaker (moment_of x) since.first;
   moments = since.moments;
   is = since.is;
   each = All-weaker P Q weaker since.moments since.each;

@@ -3,7 +3,7 @@ pub mod Disk
 pub mod MemorySide
 pub mod MemorySite
 pub mod Notes
-pub mod Passed
+pub mod CallBytes
 pub mod Seen
 pub mod Site
 pub mod Stop

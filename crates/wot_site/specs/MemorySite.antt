@@ -1,5 +1,5 @@
 -- What a site in memory shows: what it has seen and done, and which of its calls are to fail.
-use Rattle.std.specs.Prelude.{ℕ, ◌≡◌, ◌≢◌, ◌⊎◌, ◌+◌, ◌-◌, ◌^◌, List, [], drop, min, Option}
+use Rattle.std.specs.Prelude.{ℕ, ◌≡◌, ◌≢◌, ◌⊎◌, List, [], drop, Option}
 use Rattle.std.specs.List.{Contains}
 use Rattle.wot_site.specs.Calls.{calls_in, one_more, device_after}
 use Rattle.wot_site.specs.Disk.{Image, settled_disk}
@@ -10,7 +10,7 @@ use Rattle.wot_site.specs.Stop.{IsStopped}
 use Rattle.wot_site.specs.declared.memory.calls.Calls.{Calls}
 use Rattle.wot_site.specs.declared.memory.crash.Pick.{Pick}
 use Rattle.wot_site.specs.declared.memory.plan.CallKind.{CallKind}
-use Rattle.wot_site.specs.declared.memory.plan.CallKind.TheVariants.{Take, Tell, Size, Read, Write, Sync}
+use Rattle.wot_site.specs.declared.memory.plan.CallKind.TheVariants.{Take, Tell}
 use Rattle.wot_site.specs.declared.memory.MemorySite.{MemorySite}
 
 -- what its record of calls tells

@@ -1,15 +1,15 @@
 -- A run of calls on the disk, and what held at each moment of it.
 use Rattle.std.specs.Prelude.{ℕ, ◌≡◌, List, ◌++◌, All}
-use Rattle.wot_site.specs.Disk.{Disk, Disks, Image}
+use Rattle.wot_site.specs.Disk.{Disks}
 use Rattle.wot_site.specs.Seen.{Seen, Moment}
 
--- the moment of now
-abbrev pub now : Seen → Moment
-now s = record { disks = s.disks; told = s.told }
+-- the moment at which the outside is so
+abbrev pub moment_of : Seen → Moment
+moment_of s = record { disks = s.disks; told = s.told }
 
 -- P at the moment of the start and at each since then
 pub record Since (P : Moment → Type 0) (old new : Seen) : Type 0 where
-  pub first : P (now old)
+  pub first : P (moment_of old)
   pub moments : List Moment
   pub is : new.moments ≡ old.moments ++ moments
   pub each : All P moments

@@ -2,14 +2,14 @@
 
 ghost use Rattle.std.specs.Prelude.{◌≡◌, ◌⊎◌, ◌+◌, ◌<◌, ◌≤◌, length, take, drop, slice_index, IfOk};
 ghost use Rattle.wot_site.specs.Disk.{bytes_after_write};
-ghost use Rattle.wot_site.specs.Passed.{passed};
+ghost use Rattle.wot_site.specs.CallBytes.{bytes_per_call};
 
 use std::alloc::Global;
 use wot_types::Mem;
 
 /// How many of n bytes pass in one call.
 pub fn passed(cut: Option<u32>, n: usize) -> usize
-    ensures { result ≡ passed cut n }
+    ensures { result ≡ bytes_per_call cut n }
 {
     match cut {
         None => n,

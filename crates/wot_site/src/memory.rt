@@ -180,7 +180,7 @@ impl MemorySite {
 impl Site for MemorySite {
     ghost use Rattle.std.specs.Prelude.{◌^◌, ◌-◌};
     ghost use Rattle.wot_site.specs.Disk.{disk_of};
-    ghost use Rattle.wot_site.specs.Passed.{passed};
+    ghost use Rattle.wot_site.specs.CallBytes.{bytes_per_call};
     ghost use Rattle.wot_site.specs.Site.{after_asking, Takes, TakesNothing, Tells, Stays, Sizes, Reads, Writes, WritesOrNot, Syncs, HasCause, Rose, take_faults, tell_faults, disk_faults};
     ghost use Rattle.wot_site.specs.MemorySite.{seen_of, faults_of, starved_of, cut_of, IsPlanned, IsDue, with_fault, OneCall};
     ghost use Rattle.wot_site.specs.Calls.{one_more};
@@ -196,7 +196,7 @@ impl Site for MemorySite {
         ensures ok { IfOk result (λ n. Takes n buf.new (seen_of self.old) (seen_of self.new)) }
         ensures err { OnErr result (TakesNothing (seen_of self.old) (seen_of self.new)) }
         ensures cause { HasCause take_faults (faults_of self.old) (faults_of self.new) result }
-        ensures moved { IfOk result (λ n. n ≡ passed (cut_of self.old) (min (length buf.old) (length (seen_of self.old).left))) }
+        ensures moved { IfOk result (λ n. n ≡ bytes_per_call (cut_of self.old) (min (length buf.old) (length (seen_of self.old).left))) }
         ensures noted { OnErr result ((seen_of self.new ≡ after_asking (seen_of self.old)) ⊎ Rose (starved_of self.old) (starved_of self.new)) }
         ensures planned { IsPlanned Take self.old → IsErr result }
         ensures starves { starved_of self.old < starved_of self.new → IsErr result × (seen_of self.new ≡ seen_of self.old) }
@@ -234,7 +234,7 @@ impl Site for MemorySite {
         ensures ok { IfOk result (λ n. Tells n bytes.now (seen_of self.old) (seen_of self.new)) }
         ensures err { OnErr result (Stays (seen_of self.old) (seen_of self.new)) }
         ensures cause { HasCause tell_faults (faults_of self.old) (faults_of self.new) result }
-        ensures moved { IfOk result (λ n. n ≡ passed (cut_of self.old) (length bytes.now)) }
+        ensures moved { IfOk result (λ n. n ≡ bytes_per_call (cut_of self.old) (length bytes.now)) }
         ensures planned { IsPlanned Tell self.old → IsErr result }
         ensures starves { starved_of self.old < starved_of self.new → IsErr result }
         ensures fed { IsPlanned Tell self.old → starved_of self.new ≡ starved_of self.old }

@@ -16,7 +16,7 @@ use Rattle.wot_site.proofs.Works.{works_weaker, works_start, works_to}
 use Rattle.wot_store.specs.Base.{IsBlank, header_fault, epoch_of}
 use Rattle.wot_store.specs.Journal.{Ends, Fails, FailsAt, Replays}
 use Rattle.wot_types.specs.Store.{Store}
-use Rattle.wot_store.specs.Shows.{Shows, ShowsBase, IsBad, all_settled, fresh}
+use Rattle.wot_store.specs.Shows.{Shows, ShowsBase, IsBad, all_settled, new_store}
 use Rattle.wot_store.specs.Writing.{Becomes, Writing, base_bytes}
 use Rattle.wot_store.specs.Opening.{IsUnwritten, Settles, Settling, Keeping, Opening, Opens, FindsBad, IsReady, Inspects, Looks, Says}
 use Rattle.wot_store.specs.declared.header.Look.{Look}
@@ -105,7 +105,7 @@ pub settling_stays : (x y z w : Seen) → Syncs Zero x y → Syncs One y z → S
 settling_stays x y z w first second stays = settling_still x z w (settling_both x y z first second) stays
 
 -- a side that was written whole shows a new store
-pub base_shows : (r : List ℕ) → ShowsBase Zero (base_bytes 1 r) fresh
+pub base_shows : (r : List ℕ) → ShowsBase Zero (base_bytes 1 r) new_store
 base_shows r = record {
   opened = record { long = omega arith; gate = refl };
   sound = grind (arith, nat_tests);
@@ -117,7 +117,7 @@ base_shows r = record {
   };
 }
 
-pub blank_shows : (c : Image) → IsBlank c.zero → Shows c fresh
+pub blank_shows : (c : Image) → IsBlank c.zero → Shows c new_store
 blank_shows c blank = inl (blank, refl)
 
 pub not_short : (side : Side) (header : List ℕ) (size : ℕ) → header_fault side header size ≡ None → 24 ≤ size → 24 < size
@@ -140,17 +140,17 @@ says_there side R size header (Base epoch) is low there looks = (
 module _ (is_closed : Bool) (x y : Seen) (ready : IsReady is_closed x.disks) where
   pub create_moments : Writing Zero 1 x y → Keeping x y
   create_moments works = works_weaker _ _ x y (λ d on c image. inr (record {
-    shown = fresh;
+    shown = new_store;
     here = shows c (on.images c.zero image.zero);
     there = blank_shows (reads_of x.disks) ready.blank;
   })) works
     where
-      shows : (c : Image) → (c.zero ≡ x.disks.zero.reads) ⊎ (IsBlank c.zero ⊎ (c.zero ≡ base_bytes 1 x.disks.zero.reads)) → Shows c fresh
+      shows : (c : Image) → (c.zero ≡ x.disks.zero.reads) ⊎ (IsBlank c.zero ⊎ (c.zero ≡ base_bytes 1 x.disks.zero.reads)) → Shows c new_store
       shows c (inl same) = blank_shows c (subst IsBlank (sym same) ready.blank)
       shows c (inr (inl blank)) = blank_shows c blank
-      shows c (inr (inr whole)) = inr (subst (λ (l : List ℕ). ShowsBase Zero l fresh) (sym whole) (base_shows x.disks.zero.reads))
+      shows c (inr (inr whole)) = inr (subst (λ (l : List ℕ). ShowsBase Zero l new_store) (sym whole) (base_shows x.disks.zero.reads))
 
-  pub create_opens : Becomes Zero (base_bytes 1) x y → Opens fresh x y
+  pub create_opens : Becomes Zero (base_bytes 1) x y → Opens new_store x y
   create_opens becomes =
       let r = x.disks.zero.reads in
       let zero : y.disks.zero ≡ settled_disk (base_bytes 1 r) = ap (λ (d : Disks). d.zero) becomes in
@@ -159,7 +159,7 @@ module _ (is_closed : Bool) (x y : Seen) (ready : IsReady is_closed x.disks) whe
       let one_settled : y.disks.one ≡ settled_disk y.disks.one.reads = one ∙ ready.one ∙ ap (λ (d : Disk). settled_disk d.reads) (sym one) in
       record {
         before = blank_shows (reads_of x.disks) ready.blank;
-        stored = record { shows = subst (λ (d : Disk). ShowsBase Zero d.reads fresh) (sym zero) (base_shows r); settled = λ i. record { zero = zero_settled i; one = one_settled i } };
+        stored = record { shows = subst (λ (d : Disk). ShowsBase Zero d.reads new_store) (sym zero) (base_shows r); settled = λ i. record { zero = zero_settled i; one = one_settled i } };
       }
 
 -- from the start of the opening

@@ -21,7 +21,7 @@ use Rattle.wot_journal.specs.Next.{HasRecord, IsCut, length_at}
 use Rattle.wot_journal.proofs.Nexts.{record_there}
 use Rattle.wot_store.specs.Base.{IsOpened, base_fault, header_of, epoch_of}
 use Rattle.wot_store.specs.Journal.{Reaches, Ends, Makes, IsBadRecord, Fails}
-use Rattle.wot_store.specs.Shows.{Shows, IsBad, fresh}
+use Rattle.wot_store.specs.Shows.{Shows, IsBad, new_store}
 use Rattle.wot_store.specs.declared.error.BadStore.{BadStore}
 use Rattle.wot_store.specs.declared.error.BadStore.TheVariants.{Short, BadPayload, BadEdit}
 use Rattle.wot_store.proofs.Replaying.{reaches_start, reaches_made, record_fault}
@@ -120,9 +120,9 @@ module _ (side : Side) (bytes : List ℕ) (each : AreBytes bytes) (start : ℕ) 
 -- side Zero alone decides
 pub shows_some : (c : Image) → AreBytes c.zero → ((a : Store) × Shows c a) ⊎ ((bad : BadStore) × IsBad c bad)
 shows_some c each = elim (cases_lt (length c.zero) 24) [
-  | inl short ↦ inl (fresh, blank_shows c (inl short))
+  | inl short ↦ inl (new_store, blank_shows c (inl short))
   | inr long ↦ elim (cases_eq (get_or c.zero 0 0) open_gate) [
-    | inr shut ↦ inl (fresh, blank_shows c (inr shut))
+    | inr shut ↦ inl (new_store, blank_shows c (inr shut))
     | inl gate ↦ opened (record { long = long; gate = gate }) (base_fault Zero c.zero) refl
   ]
 ]

@@ -10,8 +10,8 @@ use Rattle.wot_store.specs.Base.{IsBlank, IsOpened, base_fault, header_of, epoch
 use Rattle.wot_store.specs.Journal.{Ends, Fails}
 
 -- what a new store shows
-abbrev pub fresh : Store
-fresh = record { state = opening_state; epoch = 1; end = 24 }
+abbrev pub new_store : Store
+new_store = record { state = opening_state; epoch = 1; end = 24 }
 
 -- a side that isn't blank shows this
 pub record ShowsBase (side : Side) (bytes : List ℕ) (shown : Store) : Type 0 where
@@ -22,7 +22,7 @@ pub record ShowsBase (side : Side) (bytes : List ℕ) (shown : Store) : Type 0 w
 
 -- a pair of sides is sound and shows this
 abbrev pub Shows : Image → Store → Type 0
-Shows image shown = (IsBlank image.zero × (shown ≡ fresh)) ⊎ ShowsBase Zero image.zero shown
+Shows image shown = (IsBlank image.zero × (shown ≡ new_store)) ⊎ ShowsBase Zero image.zero shown
 
 -- a pair of sides has this fault first
 pub record IsBad (image : Image) (bad : BadStore) : Type 0 where

@@ -20,7 +20,7 @@ use Rattle.wot_types.specs.Fields.{field, has_fewer}
 use Rattle.wot_types.specs.Fingerprint.{fingerprint, key_id_of}
 use Rattle.wot_types.specs.Limits.{longest_scope, most_certs, most_users}
 use Rattle.wot_types.specs.Numbers.{capped, depth_and_amount, number_or_0}
-use Rattle.wot_types.specs.Quotes.{unquoted}
+use Rattle.wot_types.specs.Quotes.{text_of_quoted}
 use Rattle.wot_types.specs.Records as record_of
 use Rattle.wot_types.specs.Records.{kind_of, is_primary, is_fingerprint_record, is_user_id, is_signature, is_subkey, key_id, key_id_at, class_of, class_at, is_kept_class, is_good, is_revoked_at, cert_of, number_at, date_at, text_at, fingerprint_at, hash_at, capabilities_at}
 use Rattle.wot_types.specs.Runs.{Run, alone, open_run, runs, up_to}
@@ -131,7 +131,7 @@ abbrev pub is_bad_date : ℕ → Line → Bool
 is_bad_date n line = is_none (date_or_0 (field n line))
 
 abbrev pub is_bad_quote : ℕ → Line → Bool
-is_bad_quote n line = is_none (unquoted (field n line))
+is_bad_quote n line = is_none (text_of_quoted (field n line))
 
 abbrev pub lacks_fingerprint : Option (Run Line) → Bool
 lacks_fingerprint None = false

@@ -1,7 +1,6 @@
-use Rattle.std.proofs.Common.{ℕ, ◌≡◌, ◌∙◌, ◌≤◌, ap, subst, rules, arith, length, sym, take, List}
-use Rattle.wot_site.specs.Disk.{Range}
+use Rattle.std.proofs.Common.{◌∙◌, ap, arith, length}
 use Rattle.wot_site.specs.MemorySide.{Bytes, disk}
-use Rattle.wot_site.proofs.Pending.{Filling, filling_next, filling_whole, filling_image, filling_filled}
+use Rattle.wot_site.proofs.Pending.{filling_next, filling_whole, filling_image, filling_filled}
 use Rattle.wot_site.proofs.memory.side.MemorySide.with_fill.Goals as goal
 
 pub loop-range-preserved : goal.loop-range-preserved

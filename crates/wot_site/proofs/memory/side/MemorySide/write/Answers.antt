@@ -1,4 +1,4 @@
-use Rattle.std.proofs.Common.{◌≡◌, ◌∙◌, ap, rules, arith, length, sym}
+use Rattle.std.proofs.Common.{ap, arith, length}
 use Rattle.wot_site.specs.MemorySide.{Bytes}
 use Rattle.wot_site.proofs.Pending.{kept_here}
 use Rattle.wot_site.proofs.memory.side.MemorySide.write.Goals as goal
