@@ -18,7 +18,7 @@ use Rattle.std.specs.Ordering.{is_lt}
 use Rattle.wot_types.specs.Fingerprint.{IsFprLength, fpr_cmp}
 use Rattle.wot_types.specs.Keyring.{id_of, key_certs}
 use Rattle.wot_types.specs.Listing.{is_same_user}
-use Rattle.wot_types.specs.Limits.{most_certs, most_sample, most_users}
+use Rattle.wot_types.specs.Limits.{least_completes, least_depth, least_level, least_marginals, least_sample, most_certs, most_level, most_sample, most_users}
 use Rattle.wot_types.specs.Records.{is_capability, is_hash_byte, is_kept_class}
 use Rattle.wot_types.specs.WellFormed.{AreDistinctUsers, IsScope, IsCert, IsUser, IsWellFormed}
 use Rattle.wot_spelling.specs.Checks.{has_scope, is_cert, is_user, are_distinct, is_marked_once, has_few_certs, is_well_formed, is_rising, are_importable, is_in_range, is_sample_count, are_rising_entries, are_settable}
@@ -147,13 +147,13 @@ pub in_range_tells : (o : Options) → Tells (is_in_range o) (IsInRange o)
 unfolding is_in_range
 in_range_tells o =
     reads _ _ (IsInRange o)
-    (both _ _ _ _ (at_most 1 o.completes) (both _ _ _ _ (at_most 2 o.marginals) (both _ _ _ _ (at_most 1 o.depth) (both _ _ _ _ (at_most 1 o.level) (at_most o.level 3)))))
+    (both _ _ _ _ (at_most least_completes o.completes) (both _ _ _ _ (at_most least_marginals o.marginals) (both _ _ _ _ (at_most least_depth o.depth) (both _ _ _ _ (at_most least_level o.level) (at_most o.level most_level)))))
     (λ h. record { completes = h.0; marginals = h.1.0; depth = h.1.1.0; least_level = h.1.1.1.0; most_level = h.1.1.1.1 })
     (λ h. (h.completes, (h.marginals, (h.depth, (h.least_level, h.most_level)))))
 
-pub sample_count_tells : (count : ℕ) → Tells (is_sample_count count) ((1 ≤ count) × (count ≤ most_sample))
+pub sample_count_tells : (count : ℕ) → Tells (is_sample_count count) ((least_sample ≤ count) × (count ≤ most_sample))
 unfolding is_sample_count
-sample_count_tells count = both _ _ _ _ (at_most 1 count) (at_most count most_sample)
+sample_count_tells count = both _ _ _ _ (at_most least_sample count) (at_most count most_sample)
 
 less : (o : Ordering) → Tells (is_lt o) (o ≡ Less)
 less Less = record { is = λ e. refl; yes = λ h. refl }

@@ -11,7 +11,7 @@ use Rattle.wot_types.specs.Ownertrust.{is_unset, kept_of}
 use Rattle.std.specs.Ordering.{is_lt}
 use Rattle.wot_types.specs.Keyring.{id_of, key_certs}
 use Rattle.wot_types.specs.Listing.{is_same_user}
-use Rattle.wot_types.specs.Limits.{longest_scope, most_certs, most_sample, most_users}
+use Rattle.wot_types.specs.Limits.{least_completes, least_depth, least_level, least_marginals, least_sample, longest_scope, most_certs, most_level, most_sample, most_users}
 use Rattle.wot_types.specs.Records.{is_capability, is_hash_byte, is_kept_class}
 
 -- a regular expression has 1 to 255 bytes
@@ -61,11 +61,11 @@ are_importable keys = list_all is_well_formed keys && is_rising keys
 
 -- options in their ranges
 unfoldable pub is_in_range : Options → Bool
-is_in_range o = nat_le 1 o.completes && (nat_le 2 o.marginals && (nat_le 1 o.depth && (nat_le 1 o.level && nat_le o.level 3)))
+is_in_range o = nat_le least_completes o.completes && (nat_le least_marginals o.marginals && (nat_le least_depth o.depth && (nat_le least_level o.level && nat_le o.level most_level)))
 
--- how many keys a sample has: 1 to 100,000
+-- how many keys a sample has
 unfoldable pub is_sample_count : ℕ → Bool
-is_sample_count count = nat_le 1 count && nat_le count most_sample
+is_sample_count count = nat_le least_sample count && nat_le count most_sample
 
 -- fingerprints strictly rise
 unfoldable pub are_rising_entries : List Entry → Bool

@@ -13,7 +13,7 @@ use Rattle.wot_types.specs.declared.trust.Trust.TheVariants.{Unknown}
 use Rattle.wot_types.specs.Bytes.{is_word}
 use Rattle.wot_types.specs.Dates.{date}
 use Rattle.wot_types.specs.Fingerprint.{fingerprint}
-use Rattle.wot_types.specs.Limits.{most_sample}
+use Rattle.wot_types.specs.Limits.{least_completes, least_depth, least_level, least_marginals, least_sample, most_depth, most_level, most_sample}
 use Rattle.wot_types.specs.Numbers.{number, number_up_to}
 use Rattle.wot_types.specs.Trust.{trust_of_letter}
 
@@ -79,25 +79,25 @@ model word =
     if is_word (codes "pgp") word then Some true else
     if is_word (codes "classic") word then Some false else None
 
--- the options in their ranges: at least 1, at least 2, 1 to 255, 1 to 3
+-- the options in their ranges
 abbrev pub completes : List ℕ → Option ℕ
-completes word = number_within 1 (2 ^ 32 - 1) word
+completes word = number_within least_completes (2 ^ 32 - 1) word
 
 abbrev pub marginals : List ℕ → Option ℕ
-marginals word = number_within 2 (2 ^ 32 - 1) word
+marginals word = number_within least_marginals (2 ^ 32 - 1) word
 
 abbrev pub depth : List ℕ → Option ℕ
-depth word = number_within 1 255 word
+depth word = number_within least_depth most_depth word
 
 abbrev pub level : List ℕ → Option ℕ
-level word = number_within 1 3 word
+level word = number_within least_level most_level word
 
--- the number that a sample is made from, and how many keys it has: 1 to 100,000
+-- the number that a sample is made from, and how many keys it has
 abbrev pub seed : List ℕ → Option ℕ
 seed word = number_up_to (2 ^ 64 - 1) word
 
 abbrev pub sample_count : List ℕ → Option ℕ
-sample_count word = number_within 1 most_sample word
+sample_count word = number_within least_sample most_sample word
 
 -- the place of a user ID in its key's block, counted from 1
 abbrev pub place : List ℕ → Option ℕ
