@@ -23,6 +23,7 @@ use Rattle.wot_types.specs.Listing.{Line, cert_checks, certifies, first_failing,
 use Rattle.wot_types.specs.Limits.{longest_scope, most_certs, most_users}
 use Rattle.wot_types.specs.Numbers.{depth_and_amount}
 use Rattle.wot_types.specs.Records.{cert_of, class_at, class_of, fingerprint_at, is_capability, is_good, is_hash_byte, is_kept_class, is_revoked_at, key_id, key_id_at, text_at}
+use Rattle.wot_types.specs.Keyring.{user_certs}
 use Rattle.wot_types.specs.WellFormed.{AreDistinctUsers, IsCert, IsScope, IsUser}
 use Rattle.wot_listing.specs.declared.key_block.KeyBlock.{KeyBlock}
 use Rattle.wot_listing.specs.Machine.{and_cert, at_sub, at_primary, primary_of, repeats_user, users_of, with_cert, with_fpr, with_user}
@@ -31,9 +32,6 @@ use Rattle.wot_listing.specs.Machine.{and_cert, at_sub, at_primary, primary_of, 
 abbrev pub IsFpr : ℕ → Option (List ℕ) → Type 0
 IsFpr id None = Unit {0}
 IsFpr id (Some fpr) = IsFprLength fpr × (key_id_of fpr ≡ id)
-
-abbrev certs_of : List User → ℕ
-certs_of users = sum_by (λ user. length user.certs) users
 
 -- user IDs that a key with this key ID may have
 pub record AreSound (id : ℕ) (revoked : Bool) (users : List User) : Type 0 where
@@ -47,7 +45,7 @@ pub record IsSoundBlock (b : KeyBlock) : Type 0 where
   pub fpr : IsFpr b.primary.id b.fpr
   pub caps : list_all is_capability b.primary.caps ≡ true
   pub users : AreSound b.primary.id b.primary.revoked (users_of b)
-  pub counted : certs_of (users_of b) ≡ b.certs
+  pub counted : user_certs (users_of b) ≡ b.certs
   pub few_certs : b.certs ≤ most_certs
 
 not_false : (b : Bool) → not b ≡ false → b ≡ true
@@ -153,7 +151,7 @@ sub_sound b h = record {
   fpr = h.fpr;
   caps = h.caps;
   users = subst (AreSound b.primary.id b.primary.revoked) (sym (append-nil (users_of b))) h.users;
-  counted = ap certs_of (append-nil (users_of b)) ∙ h.counted;
+  counted = ap user_certs (append-nil (users_of b)) ∙ h.counted;
   few_certs = h.few_certs;
 }
 
@@ -176,7 +174,7 @@ certified_users id revoked users (Some u) cert c h = record {
   marks = λ e. all_replaced (λ user. user.revoked ≡ false) users u (and_cert cert u) (λ p. p) (h.marks e);
 }
 
-certified_count : (users : List User) (o : Option User) (cert : Cert) → is_some o ≡ true → certs_of (users ++ option_to_list (option_map (and_cert cert) o)) ≡ certs_of (users ++ option_to_list o) + 1
+certified_count : (users : List User) (o : Option User) (cert : Cert) → is_some o ≡ true → user_certs (users ++ option_to_list (option_map (and_cert cert) o)) ≡ user_certs (users ++ option_to_list o) + 1
 certified_count users None cert e = cc
 certified_count users (Some u) cert e =
     sum_by-append (λ user. length user.certs) users (and_cert cert u ∷ [])

@@ -15,6 +15,7 @@ use Rattle.wot_types.specs.declared.limit.Limit.TheVariants.{Users as UsersLimit
 use Rattle.wot_types.specs.declared.fault.ListingWhat.TheVariants.{ShortRecord, BadHex, RepeatedUser, LimitReached}
 use Rattle.wot_types.specs.Fingerprint.{key_id_of}
 use Rattle.wot_types.specs.Listing.{Line, begins_keyblock, begins_user, block_id, cert_checks, cert_count, certifications, checks_of, ends_keyblock, ends_user, fault_at, first_failing, fpr_checks, in_block, is_certification, is_repeated_user, is_same_user, open_block, open_user, same_kind, sig_checks, user_checks, user_kind, user_of, user_runs, wants_fpr}
+use Rattle.wot_types.specs.Keyring.{user_certs}
 use Rattle.wot_types.specs.Limits.{most_certs, most_users}
 use Rattle.wot_types.specs.Records as record_of
 use Rattle.wot_types.specs.Records.{class_at, is_good, is_kept_class, is_primary, is_user_id, key_id_at, kind_of}
@@ -79,10 +80,7 @@ length_sigs [] (line ∷ lines) h = absurd h
 length_sigs (cert ∷ certs) [] h = absurd h
 length_sigs (cert ∷ certs) (line ∷ lines) h = omega (arith, length_sigs certs lines h.1)
 
-abbrev pub certs_on : List User → ℕ
-certs_on users = sum_by (λ user. length user.certs) users
-
-kept_le : (t : Line → Bool) (marked : Bool) (users : List User) (rs : List (Run Line)) → AreUsers marked users rs → sum_by (λ r. length (filter t r.rest)) rs ≤ certs_on users
+kept_le : (t : Line → Bool) (marked : Bool) (users : List User) (rs : List (Run Line)) → AreUsers marked users rs → sum_by (λ r. length (filter t r.rest)) rs ≤ user_certs users
 kept_le t marked [] [] h = omega arith
 kept_le t marked [] (r ∷ rs) h = absurd h
 kept_le t marked (user ∷ users) [] h = absurd h
@@ -199,7 +197,7 @@ module _ (before : List Line) (p f : Line) (id : ℕ) (key : Key) (pub_is : IsPu
         ap (λ l. is_some (open_user (record { first = p; rest = f ∷ l }))) (flat_map-append (λ r. r.first ∷ r.rest) rs (run_so_far lines ∷ []) ∙ ap (λ l. pieces rs ++ u ∷ l) (append-nil lines))
         ∙ ap is_some (open_last begins_user ends_user user_ends (f ∷ pieces rs) u lines (ap is_user_id is.kind) (sigs_free record_of.ends_user refl certs lines ss))
 
-    few_kept : (certs : List Cert) (lines : List Line) → AreSigs certs lines → certs_on users + length certs < most_certs → cert_count (block_of p f (rs ++ run_so_far lines ∷ [])) < most_certs
+    few_kept : (certs : List Cert) (lines : List Line) → AreSigs certs lines → user_certs users + length certs < most_certs → cert_count (block_of p f (rs ++ run_so_far lines ∷ [])) < most_certs
     few_kept certs lines ss few =
         let block = block_of p f (rs ++ run_so_far lines ∷ []) in
         let counted : cert_count block ≡ sum_by (λ r. length (filter (is_certification block) r.rest)) (rs ++ run_so_far lines ∷ []) =
@@ -212,7 +210,7 @@ module _ (before : List Line) (p f : Line) (id : ℕ) (key : Key) (pub_is : IsPu
           sum_by-append (λ (x : User). length x.certs) users (with_certs user certs ∷ []),
         )
 
-    sig_passes : (certs : List Cert) (lines : List Line) → AreSigs certs lines → (cert : Cert) (line : Line) → IsSig cert line → IsCert id cert → certs_on users + length certs < most_certs
+    sig_passes : (certs : List Cert) (lines : List Line) → AreSigs certs lines → (cert : Cert) (line : Line) → IsSig cert line → IsCert id cert → user_certs users + length certs < most_certs
         → failing (so_far (rs ++ run_so_far lines ∷ [])) line ≡ None
     sig_passes certs lines ss cert line s w few =
         let block = block_of p f (rs ++ run_so_far lines ∷ []) in
@@ -228,7 +226,7 @@ module _ (before : List Line) (p f : Line) (id : ℕ) (key : Key) (pub_is : IsPu
 
     -- the certifications of a user ID
     sigs_faultless : (certs : List Cert) (lines : List Line) → AreSigs certs lines → (more : List Cert) (next : List Line) → AreSigs more next → All (IsCert id) more
-        → certs_on users + length certs + length more ≤ most_certs → (rest : List Line)
+        → user_certs users + length certs + length more ≤ most_certs → (rest : List Line)
         → fault_after (so_far (rs ++ run_so_far (lines ++ next) ∷ [])) rest ≡ None
         → fault_after (so_far (rs ++ run_so_far lines ∷ [])) (next ++ rest) ≡ None
     sigs_faultless certs lines ss [] [] ns w few rest h = ap (λ l. fault_after (so_far (rs ++ run_so_far l ∷ [])) rest) (sym (append-nil lines)) ∙ h
@@ -244,7 +242,7 @@ module _ (before : List Line) (p f : Line) (id : ℕ) (key : Key) (pub_is : IsPu
 
   -- the user IDs of a key
   users_faultless : (users : List User) (rs : List (Run Line)) → AreUsers key.revoked users rs → (more : List User) (next : List (Run Line)) → AreUsers key.revoked more next
-      → All (IsUser id) more → Fresh users more → length users + length more ≤ most_users → certs_on users + certs_on more ≤ most_certs → (rest : List Line)
+      → All (IsUser id) more → Fresh users more → length users + length more ≤ most_users → user_certs users + user_certs more ≤ most_certs → (rest : List Line)
       → fault_after (so_far (rs ++ next)) rest ≡ None
       → fault_after (so_far rs) (pieces next ++ rest) ≡ None
   users_faultless users rs us [] [] ns w d few fits rest h = ap (λ l. fault_after (so_far l) rest) (sym (append-nil rs)) ∙ h
@@ -263,7 +261,7 @@ module _ (before : List Line) (p f : Line) (id : ℕ) (key : Key) (pub_is : IsPu
 
   -- the lines of a key
   pub block_faultless : failing before p ≡ None → (rs : List (Run Line)) → AreUsers key.revoked key.users rs → All (IsUser id) key.users → AreDistinctUsers key.users
-      → length key.users ≤ most_users → certs_on key.users ≤ most_certs → (rest : List Line)
+      → length key.users ≤ most_users → user_certs key.users ≤ most_certs → (rest : List Line)
       → fault_after (so_far rs) rest ≡ None → fault_after before (p ∷ f ∷ pieces rs ++ rest) ≡ None
   block_faultless first rs us w d few fits rest h =
       fault_step before p (f ∷ pieces rs ++ rest) first

@@ -1,11 +1,11 @@
 //! A key and a user ID as the table holds them.
 
-ghost use Rattle.std.specs.Prelude.{◌≡◌, ℕ, ◌+◌, ◌≤◌, IfOk, length, slice_get, sum_by};
+ghost use Rattle.std.specs.Prelude.{◌≡◌, ℕ, ◌+◌, ◌≤◌, IfOk, length, slice_get};
 ghost use Rattle.std.specs.List.Sorted.{IsPermutation};
 ghost use Rattle.std.specs.List.{flat_map};
 ghost use Rattle.std.specs.Option.{option_copied};
 ghost use Rattle.wot_types.specs.Arrangement.{IsRising};
-ghost use Rattle.wot_types.specs.Keyring.{key_certs};
+ghost use Rattle.wot_types.specs.Keyring.{key_certs, user_certs};
 ghost use Rattle.wot_types.specs.Limits.{most_certs, most_users};
 ghost use Rattle.wot_types.specs.NextCheck.{key_expiries, user_expiries, soonest_after};
 ghost use Rattle.wot_types.specs.Selection.{placed_from, spots_from};
@@ -209,7 +209,7 @@ fn soonest_of_users(users: &[HeldUser], date: u32) -> u32
 
 /// The user IDs of a key; places are counted over the whole block.
 fn hold_all(alloc: Global, users: Users) -> Result<Vec<HeldUser>, Mem>
-    requires few { sum_by (λ user. length user.certs) users ≤ most_certs }
+    requires few { user_certs users ≤ most_certs }
     ensures { IfOk result (λ held. held.items ≡ spots_from 0 users) }
 {
     let mut left = users.into_vec();
