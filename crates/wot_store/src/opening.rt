@@ -137,10 +137,7 @@ pub fn open_store<S: Site>(alloc: Global, site: &mut S) -> Result<Opened, StoreE
         Err(DiskFault) => return Err(StoreError::DiskFault),
     };
     match inspect(alloc, site, size) {
-        Ok(Look::Blank) => match create(alloc, site, 24 <= size) {
-            Ok(opened) => Ok(opened),
-            Err(e) => Err(e),
-        },
+        Ok(Look::Blank) => create(alloc, site, 24 <= size),
         Ok(Look::Bad(bad)) => Err(StoreError::Bad(bad)),
         Ok(Look::Base(epoch)) => {
             match resume(alloc, site, size) {

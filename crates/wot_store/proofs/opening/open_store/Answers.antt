@@ -13,16 +13,8 @@ use Rattle.wot_store.proofs.Errors.{err_of}
 use Rattle.wot_store.proofs.Openings.{opening_then, opening_stays, settling_still, finds_bad, finds_fault}
 use Rattle.wot_store.proofs.opening.open_store.Goals as goal
 
-pub returns-in-Ok-create-clause-any_moment : goal.returns-in-Ok-create-clause-any_moment
-returns-in-Ok-create-clause-any_moment g c =
-    let n = c.in-Ok.size in
-    honest_then (Then (And Settling (Settles n)) (Inspects Zero Blank)) Keeping Opening _ _ _
-    (honest_joined (And Settling (Settles n)) (Inspects Zero Blank) _ _ _ (honest_and Settling (Settles n) _ _ c.settle.ensures.any_moment c.in-Ok.ensures.settled) (rw c.in-Ok-Blank.field-0-is at c.in-Ok-Blank.ensures.says))
-    c.create.ensures.any_moment
-    (λ x z w t q. opening_then x z w (settling_still x t.0 z t.1.0 t.2.stays) (ap (λ (s : Seen). s.disks) t.2.stays ∙ t.1.1.disks) q)
-
-pub returns-in-Err-create-clause-any_moment : goal.returns-in-Err-create-clause-any_moment
-returns-in-Err-create-clause-any_moment g c =
+pub returns-in-Ok-Blank-clause-any_moment : goal.returns-in-Ok-Blank-clause-any_moment
+returns-in-Ok-Blank-clause-any_moment g c =
     let n = c.in-Ok.size in
     honest_then (Then (And Settling (Settles n)) (Inspects Zero Blank)) Keeping Opening _ _ _
     (honest_joined (And Settling (Settles n)) (Inspects Zero Blank) _ _ _ (honest_and Settling (Settles n) _ _ c.settle.ensures.any_moment c.in-Ok.ensures.settled) (rw c.in-Ok-Blank.field-0-is at c.in-Ok-Blank.ensures.says))
