@@ -5,8 +5,8 @@ use Rattle.std.specs.Prelude.{is_none, unwrap_or}
 use Rattle.std.specs.Result.{result_err}
 use Rattle.wot_types.specs.declared.command_name.CommandName.{CommandName}
 use Rattle.wot_types.specs.declared.command_name.CommandName.TheVariants as named
-use Rattle.wot_types.specs.declared.edit.Head.{Head}
-use Rattle.wot_types.specs.declared.edit.Head.TheVariants.{Import, Ownertrust}
+use Rattle.wot_types.specs.declared.head.Head.{Head}
+use Rattle.wot_types.specs.declared.head.Head.TheVariants.{Import, Ownertrust}
 use Rattle.wot_types.specs.declared.refusal.Refusal.{Refusal}
 use Rattle.wot_types.specs.declared.refusal.Refusal.TheVariants.{LineTooLong}
 use Rattle.wot_types.specs.Commands.{ReadLine, block_texts}

@@ -3,9 +3,9 @@ use Rattle.std.proofs.Common.{◌≡◌, ℕ, Bool, true, false, ◌||◌, List,
 use Rattle.std.specs.Prelude.{is_none, unwrap_or}
 use Rattle.std.specs.List.{list_any}
 use Rattle.std.specs.Result.{result_err}
-use Rattle.wot_types.specs.declared.edit.Head.{Head}
+use Rattle.wot_types.specs.declared.head.Head.{Head}
 use Rattle.wot_types.specs.declared.fault.OwnertrustFault.{OwnertrustFault}
-use Rattle.wot_types.specs.declared.edit.Head.TheVariants.{Import, Ownertrust}
+use Rattle.wot_types.specs.declared.head.Head.TheVariants.{Import, Ownertrust}
 use Rattle.wot_types.specs.declared.refusal.Refusal.{Refusal}
 use Rattle.wot_types.specs.declared.refusal.Refusal.TheVariants.{LineTooLong, UnendedBlock}
 use Rattle.wot_types.specs.Commands.{Command, begun_command, block_texts, of_line}

@@ -4,7 +4,7 @@ use Rattle.std.specs.Prelude.{nat_lt, slice_get, option_and_then}
 use Rattle.std.specs.FinMap as finmap
 use Rattle.std.specs.Option.{is_some, option_map_or}
 use Rattle.std.proofs.lemmas.Bool.Decides.{nat_tests}
-use Rattle.wot_types.specs.declared.edit.Query.TheVariants.{Why}
+use Rattle.wot_types.specs.declared.query.Query.TheVariants.{Why}
 use Rattle.wot_types.specs.declared.key.Key.{Key}
 use Rattle.wot_types.specs.declared.refusal.Refusal.TheVariants.{NoSuchKey, NoSuchUser}
 use Rattle.wot_types.specs.State.{State}

@@ -2,8 +2,8 @@
 use Rattle.std.specs.Prelude.{◌≡◌, ℕ, Bool, true, List, if◌then◌else◌, Option, Some, None, is_none, Result, Ok}
 use Rattle.std.specs.List.{list_any}
 use Rattle.std.specs.Result.{result_err}
-use Rattle.wot_types.specs.declared.edit.Head.{Head}
-use Rattle.wot_types.specs.declared.edit.Head.TheVariants.{Import, Ownertrust}
+use Rattle.wot_types.specs.declared.head.Head.{Head}
+use Rattle.wot_types.specs.declared.head.Head.TheVariants.{Import, Ownertrust}
 use Rattle.wot_types.specs.declared.refusal.Refusal.{Refusal}
 use Rattle.wot_types.specs.declared.refusal.Refusal.TheVariants.{LineTooLong}
 use Rattle.wot_types.specs.Commands.{Command, ReadLine, block_texts}

@@ -2,7 +2,7 @@
 
 ghost use Rattle.std.specs.Prelude.{◌≡◌, ◌∷◌, [], ◌++◌, ◌&&◌, not, true, List, Result, Some, IfOk, OnOk};
 ghost use Rattle.std.specs.Option.{option_copied};
-ghost use Rattle.wot_types.specs.declared.edit.Head.{Head};
+ghost use Rattle.wot_types.specs.declared.head.Head.{Head};
 ghost use Rattle.wot_types.specs.Commands.{Command, ReadLine, ends_block, with_line};
 ghost use Rattle.wot_types.specs.Grammar.{command_of, has_block};
 ghost use Rattle.wot_answer.specs.Block.{HasHad, IsBlockOf};

@@ -11,10 +11,10 @@ use Rattle.std.proofs.lemmas.List.Elements.{All-cons, All-head, All-nil, All-tai
 use Rattle.std.proofs.lemmas.List.Splits.{slice_split_at}
 use Rattle.wot_types.specs.declared.edit.Edit.{Edit}
 use Rattle.wot_types.specs.declared.edit.Edit.TheVariants.{Import, Ownertrust, Set, Flag, Delete, Date, Options, Sample}
-use Rattle.wot_types.specs.declared.edit.Head.{Head}
-use Rattle.wot_types.specs.declared.edit.Head.TheVariants.{Edit as EditHead, Query as QueryHead, DeleteKey, Import as ImportHead, Ownertrust as OwnertrustHead}
-use Rattle.wot_types.specs.declared.edit.Query.{Query}
-use Rattle.wot_types.specs.declared.edit.Query.TheVariants.{List as ListAll, ListOne, Sigs, SigsOne, Export, Why, Quit}
+use Rattle.wot_types.specs.declared.head.Head.{Head}
+use Rattle.wot_types.specs.declared.head.Head.TheVariants.{Edit as EditHead, Query as QueryHead, DeleteKey, Import as ImportHead, Ownertrust as OwnertrustHead}
+use Rattle.wot_types.specs.declared.query.Query.{Query}
+use Rattle.wot_types.specs.declared.query.Query.TheVariants.{List as ListAll, ListOne, Sigs, SigsOne, Export, Why, Quit}
 use Rattle.wot_types.specs.declared.fault.ListingFault.{ListingFault}
 use Rattle.wot_types.specs.declared.fault.ListingWhat.{ListingWhat}
 use Rattle.wot_types.specs.declared.fault.ListingWhat.TheVariants.{ShortRecord, BadNumber, BadDate, BadHex, BadQuote, NoFingerprint, KeyIdDiffers, RepeatedKey, RepeatedUser, BadTrustField, LimitReached}

@@ -1,9 +1,16 @@
 //! The fields of a colon listing: where they stand in a line, the numbers, dates and texts that they spell, and how they are printed.
 #![tactic(auto)]
 
-pub mod date; // seconds since 1970, and civil dates
-pub mod fields; // a line cut at its colons
-pub mod number; // decimal numbers
-pub mod printed; // numbers and bytes as a field prints them
-pub mod quote; // texts as a quoted field prints them
-pub mod unquote; // the text that a quoted field spells
+mod dates; // seconds since 1970, and civil dates
+mod fields; // a line cut at its colons
+mod numbers; // decimal numbers
+mod printed; // numbers and bytes as a field prints them
+mod quoting; // texts as a quoted field prints them
+mod unquoting; // the text that a quoted field spells
+
+pub use dates::{date, date_or_0};
+pub use fields::{Fields, field};
+pub use numbers::{long, number, number_or_0};
+pub use printed::{push_hex, push_number};
+pub use quoting::quote;
+pub use unquoting::{QuoteError, unquote};

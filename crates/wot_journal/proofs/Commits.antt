@@ -7,7 +7,7 @@ use Rattle.wot_site.specs.Disk.{Disk, Disks, IsImage, disk_of, with_disk, after_
 use Rattle.wot_site.specs.Seen.{Seen}
 use Rattle.wot_site.specs.Site.{on_disk}
 use Rattle.wot_site.specs.Work.{Works}
-use Rattle.wot_site.specs.declared.site.Side.{Side}
+use Rattle.wot_site.specs.declared.side.Side.{Side}
 use Rattle.wot_site.proofs.Images.{settled_image, torn_image, take_written, drop_written, length_written, length_written_end}
 use Rattle.wot_site.proofs.Sides.{disk_with, with_with, with_same}
 use Rattle.wot_site.proofs.Works.{works_start, works_push, works_to, works_then}

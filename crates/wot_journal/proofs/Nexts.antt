@@ -4,7 +4,7 @@ use Rattle.std.specs.Int.{to_be_bytes, w32}
 use Rattle.std.proofs.lemmas.List.{drop_more, drop-drop, take-append-drop, get_or-take, get_or-drop}
 use Rattle.wot_site.specs.Disk.{disk_of}
 use Rattle.wot_site.specs.Seen.{Seen}
-use Rattle.wot_site.specs.declared.site.Side.{Side}
+use Rattle.wot_site.specs.declared.side.Side.{Side}
 use Rattle.wot_journal.specs.Record.{open_gate, most}
 use Rattle.wot_journal.specs.Range.{IsRange}
 use Rattle.wot_journal.specs.Next.{HasRecord}

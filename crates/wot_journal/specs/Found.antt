@@ -2,7 +2,7 @@
 use Rattle.std.specs.Prelude.{ℕ, ◌≡◌, ◌+◌, ◌<◌, List, length}
 use Rattle.wot_site.specs.Disk.{disk_of}
 use Rattle.wot_site.specs.Seen.{Seen}
-use Rattle.wot_site.specs.declared.site.Side.{Side}
+use Rattle.wot_site.specs.declared.side.Side.{Side}
 use Rattle.wot_journal.specs.Record.{IsClosed, most}
 use Rattle.wot_journal.specs.Next.{HasRecord, IsCut}
 use Rattle.wot_journal.specs.declared.reading.Step.{Step}

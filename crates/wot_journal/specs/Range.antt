@@ -2,7 +2,7 @@
 use Rattle.std.specs.Prelude.{ℕ, ◌≡◌, ◌+◌, ◌<◌, List, length, take, drop}
 use Rattle.wot_site.specs.Disk.{disk_of}
 use Rattle.wot_site.specs.Seen.{Seen}
-use Rattle.wot_site.specs.declared.site.Side.{Side}
+use Rattle.wot_site.specs.declared.side.Side.{Side}
 
 -- these are the bytes of the side from a place on, and nothing was changed
 pub record IsRange (side : Side) (at len : ℕ) (bytes : List ℕ) (old new : Seen) : Type 0 where

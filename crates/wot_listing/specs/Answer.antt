@@ -2,8 +2,8 @@
 use Rattle.std.specs.Prelude.{◌≡◌, Option, Some, None, Result, Ok, Err}
 use Rattle.wot_types.specs.declared.fault.ListingWhat.{ListingWhat}
 use Rattle.wot_types.specs.declared.fault.ListingWhat.TheVariants as what
-use Rattle.wot_fields.specs.declared.unquote.QuoteError.{QuoteError}
-use Rattle.wot_fields.specs.declared.unquote.QuoteError.TheVariants as quote_error
+use Rattle.wot_fields.specs.declared.unquoting.QuoteError.{QuoteError}
+use Rattle.wot_fields.specs.declared.unquoting.QuoteError.TheVariants as quote_error
 use Rattle.wot_listing.specs.declared.error.LineError.{LineError}
 use Rattle.wot_listing.specs.declared.error.LineError.TheVariants.{Failed, Memory}
 

@@ -9,7 +9,7 @@ ghost use Rattle.wot_listing.specs.Answer.{Answers};
 use crate::error::LineError;
 use crate::values::{class_in, date_in, is_kept_class, is_local, key_id_in, text_in, trust_in};
 use std::alloc::Global;
-use wot_fields::fields::Fields;
+use wot_fields::Fields;
 use wot_types::{Cert, KeyId, Limit, ListingWhat, MOST_CERTS, Text};
 
 /// The most bytes of a regular expression.

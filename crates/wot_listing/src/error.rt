@@ -2,7 +2,7 @@
 
 ghost use Rattle.std.specs.Prelude.{◌≡◌};
 
-use wot_fields::unquote::QuoteError;
+use wot_fields::QuoteError;
 use wot_types::{ListingFault, ListingWhat, Mem};
 
 /// Why a listing is refused.

@@ -13,7 +13,7 @@ use crate::primary::Primary;
 use crate::user::{is_among, is_same_user, read_user};
 use crate::values::{fingerprint_in, is_good};
 use std::alloc::Global;
-use wot_fields::fields::Fields;
+use wot_fields::Fields;
 use wot_types::{
     Cert, Fpr, Key, KeyId, Limit, List, ListingWhat, MOST_USERS, Mem, User, UserKind, Users,
 };

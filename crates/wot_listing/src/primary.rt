@@ -8,7 +8,7 @@ ghost use Rattle.wot_listing.specs.Machine.{primary_of};
 use crate::error::LineError;
 use crate::values::{capabilities_in, date_in, is_marked_revoked, key_id_in, number_in};
 use std::alloc::Global;
-use wot_fields::fields::Fields;
+use wot_fields::Fields;
 use wot_types::{KeyId, ListingWhat, Text};
 
 /// The values of a `pub` record, as they are kept until its block ends.

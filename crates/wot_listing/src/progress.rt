@@ -13,7 +13,7 @@ use crate::key_block::KeyBlock;
 use crate::primary::read_primary;
 use crate::values::kind_of;
 use std::alloc::Global;
-use wot_fields::fields::Fields;
+use wot_fields::Fields;
 use wot_types::{ListingWhat, RecordKind, UserKind};
 
 /// What is kept of the lines so far. The three numbers stand still at 2^64 - 1.

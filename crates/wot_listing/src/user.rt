@@ -8,7 +8,7 @@ ghost use Rattle.wot_listing.specs.Answer.{Answers};
 use crate::error::LineError;
 use crate::values::{date_in, hash_in, is_marked_revoked, text_in};
 use std::alloc::Global;
-use wot_fields::fields::Fields;
+use wot_fields::Fields;
 use wot_types::{List, ListingWhat, User, UserKind};
 
 /// Reads a `uid` or `uat` record of a key that is revoked or not.

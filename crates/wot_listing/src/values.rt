@@ -12,10 +12,7 @@ ghost use Rattle.wot_listing.specs.Answer.{Gives, Makes};
 use crate::error::LineError;
 use hex::FromHex;
 use std::alloc::Global;
-use wot_fields::date::date_or_0;
-use wot_fields::fields::Fields;
-use wot_fields::number::{number, number_or_0};
-use wot_fields::unquote::unquote;
+use wot_fields::{Fields, date_or_0, number, number_or_0, unquote};
 use wot_types::{Fpr, KeyId, ListingWhat, Mem, RecordKind, Text, UserKind};
 
 /// The type of a record, by its first field.

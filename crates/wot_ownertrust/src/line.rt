@@ -9,9 +9,7 @@ ghost use Rattle.wot_types.specs.Ownertrust.{kept_of, ownertrust_line};
 ghost use Rattle.wot_types.specs.OwnertrustText.{entry_by, entry_of_line, ownertrust_of_number};
 
 use std::alloc::Global;
-use wot_fields::fields::Fields;
-use wot_fields::number::number;
-use wot_fields::printed::{push_hex, push_number};
+use wot_fields::{Fields, number, push_hex, push_number};
 use wot_types::{Entry, Fpr, Mem, Ownertrust, OwnertrustFault, Text, Trust};
 
 /// The entry of a line, and None for a blank line, a comment or the number 0. The line has no newline.

@@ -6,8 +6,7 @@ ghost use Rattle.wot_types.specs.Printing.{ended_field, expiry_field, key_id_tex
 ghost use Rattle.wot_types.specs.Quotes.{printed_text};
 
 use std::alloc::Global;
-use wot_fields::printed::{push_hex, push_number};
-use wot_fields::quote::quote;
+use wot_fields::{push_hex, push_number, quote};
 use wot_types::{KeyId, Mem, Text};
 
 pub fn push_field(text: &mut Vec<u8>, field: &[u8]) -> Result<(), Mem>

@@ -4,7 +4,7 @@ ghost use Rattle.std.specs.Prelude.{◌≡◌, ◌++◌, IfOk, OnOk};
 ghost use Rattle.wot_types.specs.Ownertrust.{ownertrust_line, ownertrust_text};
 
 use std::alloc::Global;
-use wot_fields::printed::{push_hex, push_number};
+use wot_fields::{push_hex, push_number};
 use wot_live::Engine;
 use wot_types::{Fpr, Mem, Ownertrust};
 

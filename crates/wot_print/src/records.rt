@@ -10,7 +10,7 @@ use crate::fields::{
 };
 use crate::names::{cert_name, kind_text, letter_text, model_text, trust_text};
 use std::alloc::Global;
-use wot_fields::printed::push_number;
+use wot_fields::push_number;
 use wot_table::{KeyHead, UserHead};
 use wot_types::{Cert, Fpr, KeyId, Letter, Mem, Options, Ownertrust, Text};
 

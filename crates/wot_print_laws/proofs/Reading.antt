@@ -19,7 +19,7 @@ use Rattle.wot_types.specs.declared.options.Options.{Options}
 use Rattle.wot_types.specs.Accepted.{IsFiled}
 use Rattle.wot_types.specs.Bytes.{is_word}
 use Rattle.wot_types.specs.declared.edit.Edit.TheVariants.{Import}
-use Rattle.wot_types.specs.declared.edit.Head.TheVariants.{Import as ImportHead}
+use Rattle.wot_types.specs.declared.head.Head.TheVariants.{Import as ImportHead}
 use Rattle.wot_types.specs.Commands.{block_texts, ends_block}
 use Rattle.wot_types.specs.Lines.{lines, longest_line, read_line, without_return}
 use Rattle.wot_types.specs.Outcome.{block_outcome, edit_outcome, import_line, listing_outcome}

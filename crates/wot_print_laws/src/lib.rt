@@ -7,7 +7,7 @@ ghost use Rattle.std.specs.FinMap as finmap;
 ghost use Rattle.wot_types.specs.State.{State};
 ghost use Rattle.wot_types.specs.Accepted.{IsFiled};
 ghost use Rattle.wot_types.specs.declared.edit.Edit.TheVariants.{Import};
-ghost use Rattle.wot_types.specs.declared.edit.Head.TheVariants.{Import as ImportHead};
+ghost use Rattle.wot_types.specs.declared.head.Head.TheVariants.{Import as ImportHead};
 ghost use Rattle.wot_types.specs.Commands.{block_texts, ends_block};
 ghost use Rattle.wot_types.specs.Keyring.{cert_total, with_keys};
 ghost use Rattle.wot_types.specs.Lines.{lines, read_line};

@@ -12,7 +12,7 @@ use Rattle.wot_site.specs.Seen.{Moment, Seen}
 use Rattle.wot_site.specs.Site.{asked_at}
 use Rattle.wot_site.specs.Work.{Since, moment_of}
 use Rattle.wot_site.proofs.Works.{since_start, since_then, since_weaker}
-use Rattle.wot_site.specs.declared.site.Asked.{Asked}
+use Rattle.wot_site.specs.declared.asked.Asked.{Asked}
 use Rattle.wot_store.specs.Shows.{IsStored}
 use Rattle.wot_session.specs.declared.stop.Stop.{Stop}
 use Rattle.wot_session.specs.AtEnd.{at_end, last_commands}

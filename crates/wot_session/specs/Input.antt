@@ -7,7 +7,7 @@ use Rattle.wot_types.specs.LineByLine.{Position}
 use Rattle.wot_types.specs.Session.{Progress, after_all, replies}
 use Rattle.wot_site.specs.Seen.{Seen}
 use Rattle.wot_site.specs.Work.{Since, moment_of}
-use Rattle.wot_site.specs.declared.site.Asked.{Asked}
+use Rattle.wot_site.specs.declared.asked.Asked.{Asked}
 use Rattle.wot_store.specs.Shows.{IsStored}
 use Rattle.wot_session.specs.Kept.{IsPrefixOf, IsWhole, Kept}
 use Rattle.wot_session.specs.Turn.{IsBetween}

@@ -4,7 +4,7 @@ use Rattle.wot_site.specs.Disk.{Disk, Disks, disk_of, with_disk, after_write, af
 use Rattle.wot_site.specs.Seen.{Seen}
 use Rattle.wot_site.specs.Site.{on_disk, Writes, WritesOrNot, Syncs, Stays}
 use Rattle.wot_site.specs.Work.{Works}
-use Rattle.wot_site.specs.declared.site.Side.{Side}
+use Rattle.wot_site.specs.declared.side.Side.{Side}
 use Rattle.wot_site.proofs.Sides.{disk_with, with_with}
 use Rattle.wot_site.proofs.Works.{works_start, works_push, works_to}
 

@@ -1,8 +1,8 @@
 -- The two sides.
 use Rattle.std.proofs.Common.{◌≡◌, refl}
 use Rattle.wot_site.specs.Disk.{Disk, Disks, disk_of, with_disk}
-use Rattle.wot_site.specs.declared.site.Side.{Side}
-use Rattle.wot_site.specs.declared.site.Side.TheVariants.{Zero, One}
+use Rattle.wot_site.specs.declared.side.Side.{Side}
+use Rattle.wot_site.specs.declared.side.Side.TheVariants.{Zero, One}
 
 pub disk_with : (side : Side) (d : Disk) (ds : Disks) → disk_of side (with_disk side d ds) ≡ d
 disk_with Zero d ds = refl

@@ -1,8 +1,8 @@
 -- The disk model: what a side of the store holds, and what a crash may leave of it.
 use Rattle.std.specs.Prelude.{ℕ, ◌≡◌, ◌⊎◌, ◌+◌, ◌<◌, ◌≤◌, min, List, [], ◌∷◌, ◌++◌, length, take, drop, slice_index, All}
-pub use Rattle.wot_site.specs.declared.site.Range.{Range}
-use Rattle.wot_site.specs.declared.site.Side.{Side}
-use Rattle.wot_site.specs.declared.site.Side.TheVariants.{Zero, One}
+pub use Rattle.wot_site.specs.declared.range.Range.{Range}
+use Rattle.wot_site.specs.declared.side.Side.{Side}
+use Rattle.wot_site.specs.declared.side.Side.TheVariants.{Zero, One}
 
 -- a side: what a read gives, how many bytes there were at the last sync that succeeded, and the ranges written since
 pub record Disk : Type 0 where

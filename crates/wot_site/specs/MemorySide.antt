@@ -3,8 +3,8 @@ use Rattle.std.specs.Prelude.{ℕ, ◌≡◌, ◌<◌, List, [], ◌∷◌, ◌+
 use Rattle.wot_site.specs.Disk.{Disk, Disks, Range, IsOutside, bytes_after_write}
 use Rattle.wot_site.specs.declared.memory.crash.Pick.{Pick}
 use Rattle.wot_site.specs.declared.memory.crash.Pick.TheVariants.{Nothing, All, Fill}
-use Rattle.wot_site.specs.declared.site.Side.{Side}
-use Rattle.wot_site.specs.declared.site.Side.TheVariants.{Zero, One}
+use Rattle.wot_site.specs.declared.side.Side.{Side}
+use Rattle.wot_site.specs.declared.side.Side.TheVariants.{Zero, One}
 
 -- what a read gives, what one gave at the last sync that succeeded, and the ranges written since
 pub record Bytes : Type 0 where

@@ -1,7 +1,7 @@
 -- What a site tells of itself: what was read, told and written, what a crash might have left, and how often its calls failed.
 use Rattle.std.specs.Prelude.{ℕ, List, Option, Some, None}
 use Rattle.wot_site.specs.Disk.{Disks}
-use Rattle.wot_site.specs.declared.site.Asked.{Asked}
+use Rattle.wot_site.specs.declared.asked.Asked.{Asked}
 
 -- a point of the one clock: the sides, and the bytes told by then
 pub record Moment : Type 0 where

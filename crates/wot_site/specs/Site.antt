@@ -2,8 +2,8 @@
 use Rattle.std.specs.Prelude.{ℕ, ◌≡◌, ◌⊎◌, ◌+◌, ◌-◌, ◌^◌, ◌<◌, ◌≤◌, List, [], ◌∷◌, ◌++◌, length, take, drop, Result, IsErr, OnOk}
 use Rattle.wot_site.specs.Disk.{Disk, Disks, disk_of, with_disk, after_write, after_sync}
 use Rattle.wot_site.specs.Seen.{Seen, Moment, Faults}
-use Rattle.wot_site.specs.declared.site.Asked.{Asked}
-use Rattle.wot_site.specs.declared.site.Side.{Side}
+use Rattle.wot_site.specs.declared.asked.Asked.{Asked}
+use Rattle.wot_site.specs.declared.side.Side.{Side}
 
 -- a call of `take` here
 abbrev pub asked_at : Seen → Asked

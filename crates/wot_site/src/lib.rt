@@ -4,9 +4,17 @@
 //! sees and does, its calls fail where they are planned to, and it gives what a crash may leave of its sides.
 #![tactic(auto)]
 
+mod asked; // when input was asked for
 mod bytes; // the bytes of one call
+mod failed; // calls that failed
 mod memory; // the outside in memory
+mod range; // ranges of bytes
+mod side; // the sides of the store
 mod site; // the calls, and what each tells of itself
 
+pub use asked::Asked;
+pub use failed::{DiskFault, Failed};
 pub use memory::{CallKind, MemorySite, Pick};
-pub use site::{Asked, DiskFault, Failed, Range, Side, Site};
+pub use range::Range;
+pub use side::Side;
+pub use site::Site;

@@ -9,13 +9,16 @@ mod notes; // the record of calls
 mod plan; // which calls fail
 mod side; // a side of the store
 
+use crate::asked::Asked;
 use crate::bytes::{copy_front, passed, read_at};
+use crate::failed::Failed;
 use crate::memory::calls::Calls;
 use crate::memory::crash::image_of;
 use crate::memory::notes::Note;
 use crate::memory::plan::Plan;
 use crate::memory::side::MemorySide;
-use crate::site::{Asked, Failed, Side, Site};
+use crate::side::Side;
+use crate::site::Site;
 pub use crash::Pick;
 pub use plan::CallKind;
 use std::alloc::Global;

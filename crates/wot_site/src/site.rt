@@ -5,34 +5,8 @@ ghost use Rattle.wot_site.specs.Seen.{Seen, Faults, Honestly, IfHonest};
 ghost use Rattle.wot_site.specs.Disk.{disk_of};
 ghost use Rattle.wot_site.specs.Site.{Takes, TakesNothing, Tells, Stays, Sizes, Reads, Writes, WritesOrNot, Syncs, HasCause, take_faults, tell_faults, disk_faults};
 
-/// One of the two sides of the store.
-#[derive(Clone, Copy, Debug, PartialEq, Eq)]
-pub enum Side {
-    Zero,
-    One,
-}
-
-/// A call of `take`: how many bytes were taken and told before it.
-#[derive(Clone, Copy, Debug, PartialEq, Eq)]
-pub struct Asked {
-    pub taken: usize,
-    pub told: usize,
-}
-
-/// So many bytes from a place on.
-#[derive(Clone, Copy, Debug, PartialEq, Eq)]
-pub struct Range {
-    pub at: u64,
-    pub len: usize,
-}
-
-/// A call that the input, the output, the disk or memory failed.
-#[derive(Clone, Copy, Debug, PartialEq, Eq)]
-pub struct Failed;
-
-/// A call of the disk failed.
-#[derive(Clone, Copy, Debug, PartialEq, Eq)]
-pub struct DiskFault;
+use crate::failed::Failed;
+use crate::side::Side;
 
 /// The input, the output and the two sides of the store as one object, so that what was told and what a crash
 /// may leave have one clock.

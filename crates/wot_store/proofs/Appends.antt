@@ -10,8 +10,8 @@ use Rattle.wot_types.specs.State.{opening_state}
 use Rattle.wot_site.specs.Disk.{Disk, Disks, Image, settled_disk}
 use Rattle.wot_site.specs.Seen.{Seen}
 use Rattle.wot_site.specs.Work.{Works}
-use Rattle.wot_site.specs.declared.site.Side.{Side}
-use Rattle.wot_site.specs.declared.site.Side.TheVariants.{Zero}
+use Rattle.wot_site.specs.declared.side.Side.{Side}
+use Rattle.wot_site.specs.declared.side.Side.TheVariants.{Zero}
 use Rattle.wot_site.proofs.Works.{works_weaker}
 use Rattle.wot_journal.specs.Record.{Framed, IsClosed, record_of, with_record, open_gate, most}
 use Rattle.wot_journal.specs.Commit.{IsUnchanged, IsCommitting, Commits}

@@ -4,12 +4,12 @@ use Rattle.std.specs.Prelude.{slice_index, All}
 use Rattle.std.proofs.lemmas.Bool.{cases_eq, cases_lt}
 use Rattle.std.proofs.lemmas.List.{drop-drop, get_or-take, length-append, length-take, length-take-le, take_at, take-take}
 use Rattle.std.proofs.lemmas.List.Elements.{All-nil, All-push}
-use Rattle.wot_site.specs.declared.site.Range.{Range}
+use Rattle.wot_site.specs.declared.range.Range.{Range}
 use Rattle.wot_site.specs.Disk.{Disk, Disks, IsImage, disk_of, with_disk, after_write, after_sync, settled_disk, bytes_after_write}
 use Rattle.wot_site.specs.Seen.{Seen}
 use Rattle.wot_site.specs.Site.{Writes, WritesOrNot, Syncs, Stays}
 use Rattle.wot_site.specs.Work.{Works}
-use Rattle.wot_site.specs.declared.site.Side.{Side}
+use Rattle.wot_site.specs.declared.side.Side.{Side}
 use Rattle.wot_site.proofs.Calls.{IsAlone, alone_disk, alone_over, alone_then, wrote_alone, synced_alone, writes_work, writes_not_work, syncs_work, stays_work}
 use Rattle.wot_site.proofs.Images.{reads_image, settled_image, torn_image, image_front, take_written, back_written, length_written, length_written_end}
 use Rattle.wot_site.proofs.Works.{works_then, works_weaker}

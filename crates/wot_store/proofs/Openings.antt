@@ -9,8 +9,8 @@ use Rattle.wot_site.specs.Disk.{Disk, Disks, Image, IsImage, IsImageOf, with_dis
 use Rattle.wot_site.specs.Seen.{Honestly, IfHonest, Moment, Seen}
 use Rattle.wot_site.specs.Site.{Syncs, Stays, on_disk}
 use Rattle.wot_site.specs.Work.{Quiet}
-use Rattle.wot_site.specs.declared.site.Side.{Side}
-use Rattle.wot_site.specs.declared.site.Side.TheVariants.{Zero, One}
+use Rattle.wot_site.specs.declared.side.Side.{Side}
+use Rattle.wot_site.specs.declared.side.Side.TheVariants.{Zero, One}
 use Rattle.wot_site.proofs.Images.{reads_image, settled_image}
 use Rattle.wot_site.proofs.Works.{works_weaker, works_start, works_to}
 use Rattle.wot_store.specs.Base.{IsBlank, header_fault, epoch_of}

@@ -10,7 +10,7 @@ use Rattle.wot_types.specs.State.{State}
 use Rattle.wot_types.specs.Payload.{IsPayload, payload}
 use Rattle.wot_site.specs.Disk.{disk_of}
 use Rattle.wot_site.specs.Seen.{Seen}
-use Rattle.wot_site.specs.declared.site.Side.{Side}
+use Rattle.wot_site.specs.declared.side.Side.{Side}
 use Rattle.wot_journal.specs.Record.{record_of, most}
 use Rattle.wot_journal.specs.Next.{HasRecord, IsCut}
 use Rattle.wot_journal.specs.Found.{Finds, IsCutAt}

@@ -14,8 +14,8 @@ use Rattle.wot_types.specs.Store.{Store}
 use Rattle.wot_spelling.specs.Edits.{edit_of}
 use Rattle.wot_spelling.proofs.Payloads.{found, none}
 use Rattle.wot_site.specs.Disk.{Image}
-use Rattle.wot_site.specs.declared.site.Side.{Side}
-use Rattle.wot_site.specs.declared.site.Side.TheVariants.{Zero}
+use Rattle.wot_site.specs.declared.side.Side.{Side}
+use Rattle.wot_site.specs.declared.side.Side.TheVariants.{Zero}
 use Rattle.wot_journal.specs.Record.{open_gate, most}
 use Rattle.wot_journal.specs.Next.{HasRecord, IsCut, length_at}
 use Rattle.wot_journal.proofs.Nexts.{record_there}

@@ -14,8 +14,8 @@ use Rattle.wot_types.specs.Outcome.{refusal_of, state_after}
 use Rattle.wot_types.specs.Payload.{IsPayload, payload}
 use Rattle.wot_spelling.proofs.Payloads.{one_payload}
 use Rattle.wot_site.specs.Disk.{Image}
-use Rattle.wot_site.specs.declared.site.Side.{Side}
-use Rattle.wot_site.specs.declared.site.Side.TheVariants.{Zero}
+use Rattle.wot_site.specs.declared.side.Side.{Side}
+use Rattle.wot_site.specs.declared.side.Side.TheVariants.{Zero}
 use Rattle.wot_journal.specs.Record.{record_of, open_gate, most, IsClosed}
 use Rattle.wot_journal.specs.Next.{HasRecord, IsCut, length_at}
 use Rattle.wot_store.specs.Base.{IsBlank, IsOpened, base_fault}

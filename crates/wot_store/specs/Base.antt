@@ -2,7 +2,7 @@
 use Rattle.std.specs.Prelude.{ℕ, ◌≡◌, ◌≢◌, ◌⊎◌, ◌<◌, ◌≤◌, ◌==◌, nat_eq, not, Bool, List, ◌++◌, length, take, drop, slice_index, codes, if◌then◌else◌, Option, Some, None}
 use Rattle.std.specs.Int.{to_be_bytes, from_be_bytes, w64}
 use Rattle.std.specs.Cmp.Lexicographic.{pointwise}
-use Rattle.wot_site.specs.declared.site.Side.{Side}
+use Rattle.wot_site.specs.declared.side.Side.{Side}
 use Rattle.wot_journal.specs.Record.{open_gate}
 use Rattle.wot_store.specs.declared.error.BadStore.{BadStore}
 use Rattle.wot_store.specs.declared.error.BadStore.TheVariants.{Magic, Short, Spelling}

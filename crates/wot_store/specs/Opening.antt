@@ -3,7 +3,7 @@ use Rattle.std.specs.Prelude.{ℕ, Bool, ◌≡◌, ◌≢◌, ◌⊎◌, ◌<�
 use Rattle.wot_site.specs.Disk.{Disks, IsImageOf, Leaves, settled_disk, disk_of, reads_of}
 use Rattle.wot_site.specs.Seen.{Seen}
 use Rattle.wot_site.specs.Work.{Works}
-use Rattle.wot_site.specs.declared.site.Side.{Side}
+use Rattle.wot_site.specs.declared.side.Side.{Side}
 use Rattle.wot_journal.specs.Record.{open_gate}
 use Rattle.wot_store.specs.Base.{IsBlank, IsOpened, header_fault, base_fault, header_of, epoch_of}
 use Rattle.wot_store.specs.Writing.{IsKnown}

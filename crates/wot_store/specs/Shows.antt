@@ -3,8 +3,8 @@ use Rattle.std.specs.Prelude.{ℕ, ◌≡◌, ◌⊎◌, List, None, MatchOption
 use Rattle.wot_types.specs.State.{opening_state}
 use Rattle.wot_types.specs.Store.{Store}
 use Rattle.wot_site.specs.Disk.{Disks, Image, after_sync}
-use Rattle.wot_site.specs.declared.site.Side.{Side}
-use Rattle.wot_site.specs.declared.site.Side.TheVariants.{Zero}
+use Rattle.wot_site.specs.declared.side.Side.{Side}
+use Rattle.wot_site.specs.declared.side.Side.TheVariants.{Zero}
 use Rattle.wot_store.specs.declared.error.BadStore.{BadStore}
 use Rattle.wot_store.specs.Base.{IsBlank, IsOpened, base_fault, header_of, epoch_of}
 use Rattle.wot_store.specs.Journal.{Ends, Fails}

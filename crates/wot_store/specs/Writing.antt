@@ -3,7 +3,7 @@ use Rattle.std.specs.Prelude.{ℕ, Bool, true, false, ◌≡◌, ◌⊎◌, ◌<
 use Rattle.wot_site.specs.Disk.{Disk, Disks, IsImage, disk_of, with_disk, settled_disk, bytes_after_write}
 use Rattle.wot_site.specs.Seen.{Seen}
 use Rattle.wot_site.specs.Work.{Works}
-use Rattle.wot_site.specs.declared.site.Side.{Side}
+use Rattle.wot_site.specs.declared.side.Side.{Side}
 use Rattle.wot_journal.specs.Record.{open_gate, IsClosed}
 use Rattle.wot_store.specs.Base.{IsBlank, header_tail}
 

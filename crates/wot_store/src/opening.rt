@@ -4,7 +4,7 @@ ghost use Rattle.std.specs.Prelude.{◌≡◌, ◌<◌, length, IfOk, OnErr, IsE
 ghost use Rattle.wot_site.specs.Seen.{Honestly, IfHonest};
 ghost use Rattle.wot_site.specs.Site.{HasCause, disk_faults, Rose, NoneFell, Stays};
 ghost use Rattle.wot_site.specs.Disk.{disk_of};
-ghost use Rattle.wot_site.specs.declared.site.Side.TheVariants.{Zero};
+ghost use Rattle.wot_site.specs.declared.side.Side.TheVariants.{Zero};
 ghost use Rattle.wot_types.specs.State.{opening_state};
 ghost use Rattle.wot_store.specs.Journal.{Replays, FailsAt};
 ghost use Rattle.wot_store.specs.Opening.{Settles, Settling, Inspects, Leads, IsReady, Keeping, Opening, Opens, FindsBad, IsSettled, shown_of};

@@ -11,7 +11,7 @@ use crate::command_line::{WORD, WORKERS, command_line};
 use crate::error::WordsError;
 use clap::ArgMatches;
 use std::alloc::Global;
-use wot_fields::number::number;
+use wot_fields::number;
 use wot_types::{Text, Words};
 
 /// What the program's words ask for.

@@ -5,7 +5,7 @@ ghost use Rattle.wot_site.specs.Disk.{disk_of, after_write, after_sync};
 ghost use Rattle.wot_site.specs.Site.{on_disk, after_tell};
 
 use crate::memory::MemorySite;
-use crate::site::Side;
+use crate::side::Side;
 use wot_types::Mem;
 
 /// A call that told, wrote or synced.

@@ -5,7 +5,7 @@ ghost use Rattle.wot_site.specs.Disk.{IsImage};
 ghost use Rattle.wot_site.specs.MemorySide.{IsFilled, disk, at_rest, after_writing, synced_now};
 
 use crate::bytes::{fill_range, written_over};
-use crate::site::Range;
+use crate::range::Range;
 use std::alloc::Global;
 use std::marker::Model;
 use wot_types::Mem;

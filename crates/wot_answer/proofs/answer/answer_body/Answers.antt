@@ -1,6 +1,6 @@
 use Rattle.std.proofs.Common.{refl, sym, subst, ◌∙◌}
 use Rattle.std.proofs.lemmas.Result.{IfOk-weaker}
-use Rattle.wot_types.specs.declared.edit.Head.TheVariants.{Import, Ownertrust}
+use Rattle.wot_types.specs.declared.head.Head.TheVariants.{Import, Ownertrust}
 use Rattle.wot_types.specs.Commands.{block_texts, closed_command}
 use Rattle.wot_types.specs.Grammar.{command_of}
 use Rattle.wot_answer.specs.Answer.{Ends}

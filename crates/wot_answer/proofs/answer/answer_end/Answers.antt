@@ -1,6 +1,6 @@
 use Rattle.std.proofs.Common.{sym, ap, subst, ◌∙◌}
 use Rattle.std.proofs.lemmas.Result.{IfOk-weaker}
-use Rattle.wot_types.specs.declared.edit.Head.TheVariants.{Import, Ownertrust}
+use Rattle.wot_types.specs.declared.head.Head.TheVariants.{Import, Ownertrust}
 use Rattle.wot_types.specs.Outcome.{outcome}
 use Rattle.wot_answer.specs.Answer.{Ends}
 use Rattle.wot_answer.specs.Block.{HasHad}

@@ -1,7 +1,7 @@
 use Rattle.wot_types.specs.Outcome.{edited_store}
 use Rattle.wot_site.specs.Seen.{Seen}
 use Rattle.wot_site.specs.Work.{Works}
-use Rattle.wot_site.specs.declared.site.Side.TheVariants.{Zero}
+use Rattle.wot_site.specs.declared.side.Side.TheVariants.{Zero}
 use Rattle.wot_site.proofs.Honest.{honest_with}
 use Rattle.wot_journal.specs.Commit.{Commits, IsCommitting}
 use Rattle.wot_store.specs.Shows.{IsStored}

@@ -18,7 +18,7 @@ pub enum QuoteError {
 }
 
 impl From<AllocError> for QuoteError {
-    ghost use Rattle.wot_fields.specs.declared.unquote.QuoteError.TheVariants as quote_error;
+    ghost use Rattle.wot_fields.specs.declared.unquoting.QuoteError.TheVariants as quote_error;
 
     ghost from_gives = { λ _ e. e ≡ quote_error.Memory };
 
@@ -28,7 +28,7 @@ impl From<AllocError> for QuoteError {
 }
 
 impl<T: Drop> From<AllocFailed<T>> for QuoteError {
-    ghost use Rattle.wot_fields.specs.declared.unquote.QuoteError.TheVariants as quote_error;
+    ghost use Rattle.wot_fields.specs.declared.unquoting.QuoteError.TheVariants as quote_error;
 
     ghost from_gives = { λ _ e. e ≡ quote_error.Memory };
 
