@@ -57,8 +57,14 @@ fn a_stop_in_the_opening_leaves_a_store_that_opens(rt: HostRuntime) -> Result<()
     Ok(())
 }
 
+// The first fault of a side, where it has one.
+fn fault(alloc: Global, zero: &[u8]) -> Result<Option<StoreError>, Fail> {
+    let mut site = over(alloc, zero)?;
+    Ok(opened(alloc, &mut site).err())
+}
+
 #[test]
-fn the_first_fault_is_told(rt: HostRuntime) -> Result<(), Fail> {
+fn the_first_fault_of_a_header_is_told(rt: HostRuntime) -> Result<(), Fail> {
     let alloc = rt.alloc();
     // The place of a byte of a fresh side that is changed, what it becomes, and the fault.
     let changes = [
@@ -71,16 +77,18 @@ fn the_first_fault_is_told(rt: HostRuntime) -> Result<(), Fail> {
         if place < 25 {
             bytes[place] = byte;
         }
-        let mut site = over(alloc, &bytes)?;
-        assert_eq!(rt; opened(alloc, &mut site), Err(StoreError::Bad(bad)));
+        assert_eq!(rt; fault(alloc, &bytes)?, Some(StoreError::Bad(bad)));
     }
     // No gate behind the header.
-    let mut site = over(alloc, &FRESH[..24])?;
-    assert_eq!(rt;
-        opened(alloc, &mut site),
-        Err(StoreError::Bad(BadStore::Short(Side::Zero, 24)))
-    );
-    // Records behind the header: one that spells nothing, and one that takes away a key which isn't there.
+    let short = StoreError::Bad(BadStore::Short(Side::Zero, 24));
+    assert_eq!(rt; fault(alloc, &FRESH[..24])?, Some(short));
+    Ok(())
+}
+
+#[test]
+fn the_first_fault_of_the_records_is_told(rt: HostRuntime) -> Result<(), Fail> {
+    let alloc = rt.alloc();
+    // One that spells nothing, and one that takes away a key which isn't there.
     let records: [(&[u8], BadStore); 2] = [
         (&[0xa5, 0, 0, 0, 0, 0], BadStore::BadPayload(1)),
         (
@@ -89,8 +97,8 @@ fn the_first_fault_is_told(rt: HostRuntime) -> Result<(), Fail> {
         ),
     ];
     for (record, bad) in records {
-        let mut site = over(alloc, &side_with(alloc, record)?)?;
-        assert_eq!(rt; opened(alloc, &mut site), Err(StoreError::Bad(bad)));
+        let side = side_with(alloc, record)?;
+        assert_eq!(rt; fault(alloc, &side)?, Some(StoreError::Bad(bad)));
     }
     Ok(())
 }
