@@ -31,6 +31,35 @@ fn bytes_pass_in_pieces(rt: HostRuntime) -> Result<(), Fail> {
     Ok(())
 }
 
+// A call: told is a line, and written are two bytes, at the begin of a side.
+#[derive(Clone, Copy)]
+enum Call {
+    Take,
+    Tell,
+    Size(Side),
+    Read(Side),
+    Write(Side),
+    Sync(Side),
+}
+
+// How many bytes it moved or found, and 0 for what moves none.
+fn answer(site: &mut MemorySite, call: Call, buf: &mut [u8]) -> Result<usize, Failed> {
+    match call {
+        Call::Take => site.take(buf),
+        Call::Tell => site.tell(b"ok\n"),
+        Call::Size(side) => Ok(site.size(side)? as usize),
+        Call::Read(side) => site.read(side, 0, buf),
+        Call::Write(side) => {
+            site.write(side, 0, b"ab")?;
+            Ok(0)
+        }
+        Call::Sync(side) => {
+            site.sync(side)?;
+            Ok(0)
+        }
+    }
+}
+
 #[test]
 fn planned_calls_fail(rt: HostRuntime) -> Result<(), Fail> {
     let plan = vec![in rt.alloc();
@@ -41,17 +70,22 @@ fn planned_calls_fail(rt: HostRuntime) -> Result<(), Fail> {
     ]?;
     let mut site = start(rt.alloc())?.with_failures(plan);
     let mut buf = [0u8; 6];
-    assert_eq!(rt; site.take(&mut buf), Ok(6));
-    assert_eq!(rt; site.tell(b"ok\n"), Err(Failed));
-    assert_eq!(rt; site.take(&mut buf), Err(Failed));
-    assert_eq!(rt; site.take(&mut buf), Ok(5));
+    let calls = [
+        (Call::Take, Ok(6)),
+        (Call::Tell, Err(Failed)),
+        (Call::Take, Err(Failed)),
+        (Call::Take, Ok(5)),
+        (Call::Tell, Ok(3)),
+        (Call::Tell, Err(Failed)),
+        (Call::Sync(Side::One), Ok(0)),
+        (Call::Sync(Side::One), Err(Failed)),
+        (Call::Sync(Side::Zero), Ok(0)),
+    ];
+    for (i, (call, wanted)) in calls.iter().enumerate() {
+        assert_eq!(rt; answer(&mut site, *call, &mut buf), *wanted, "call {i}");
+    }
     assert_eq!(rt; buf, *b"00 u\n ");
-    assert_eq!(rt; site.tell(b"ok\n"), Ok(3));
-    assert_eq!(rt; site.tell(b"ok\n"), Err(Failed));
     assert_eq!(rt; site.told(), b"ok\n".as_slice());
-    assert_eq!(rt; site.sync(Side::One), Ok(()));
-    assert_eq!(rt; site.sync(Side::One), Err(Failed));
-    assert_eq!(rt; site.sync(Side::Zero), Ok(()));
     assert_eq!(rt; site.starved(), 0);
     Ok(())
 }
@@ -60,13 +94,18 @@ fn planned_calls_fail(rt: HostRuntime) -> Result<(), Fail> {
 fn a_stop_covers_all_calls_of_the_device(rt: HostRuntime) -> Result<(), Fail> {
     let mut site = start(rt.alloc())?.with_stop(3);
     let mut buf = [0u8; 4];
-    assert_eq!(rt; site.size(Side::Zero), Ok(0));
-    assert_eq!(rt; site.write(Side::Zero, 0, b"ab"), Ok(()));
-    assert_eq!(rt; site.sync(Side::Zero), Err(Failed));
-    assert_eq!(rt; site.read(Side::Zero, 0, &mut buf), Err(Failed));
-    assert_eq!(rt; site.size(Side::One), Err(Failed));
-    assert_eq!(rt; site.take(&mut buf), Ok(4));
-    assert_eq!(rt; site.tell(b"ok\n"), Ok(3));
+    let calls = [
+        (Call::Size(Side::Zero), Ok(0)),
+        (Call::Write(Side::Zero), Ok(0)),
+        (Call::Sync(Side::Zero), Err(Failed)),
+        (Call::Read(Side::Zero), Err(Failed)),
+        (Call::Size(Side::One), Err(Failed)),
+        (Call::Take, Ok(4)),
+        (Call::Tell, Ok(3)),
+    ];
+    for (i, (call, wanted)) in calls.iter().enumerate() {
+        assert_eq!(rt; answer(&mut site, *call, &mut buf), *wanted, "call {i}");
+    }
     Ok(())
 }
 
