@@ -163,7 +163,12 @@ pub fn rows<L: Ledger>(
 {
     let mut rows = first_rows(table, trusts, now)?;
     for level in 1..options.depth {
-        rows = next_rows(table, trusts, now, options, &rows, level, steps)?;
+        let next = next_rows(table, trusts, now, options, &rows, level, steps)?;
+        // A level that adds no key is the last: no later one would add any.
+        if next.len() == rows.len() {
+            return Ok(next);
+        }
+        rows = next;
     }
     Ok(rows)
 }

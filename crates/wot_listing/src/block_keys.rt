@@ -58,7 +58,7 @@ impl BlockKeys {
         ensures { IfOk result (λ keys. keys ≡ map.values self) }
     {
         let BlockKeys { keys } = self;
-        let mut all = List::new(alloc);
+        let mut all = List::with_capacity(alloc, keys.len())?;
         for (_, key) in keys {
             all.push(key)?;
         }

@@ -1,6 +1,6 @@
 //! The block that is being read.
 
-ghost use Rattle.std.specs.Prelude.{◌≡◌, ◌∷◌, [], ◌++◌, ◌<◌, ◌&&◌, is_none, is_some, length, nat_le, OnOk, if◌then◌else◌};
+ghost use Rattle.std.specs.Prelude.{◌≡◌, ◌∷◌, [], ◌++◌, ◌<◌, ◌&&◌, is_none, is_some, length, nat_le, IfOk, OnOk, if◌then◌else◌};
 ghost use Rattle.wot_types.specs.Listing.{certifies, first_failing, fpr_checks, sig_checks, user_at, user_checks};
 ghost use Rattle.wot_types.specs.Limits.{most_users, most_certs};
 ghost use Rattle.wot_types.specs.Records.{cert_of, fingerprint_at, is_good};
@@ -34,18 +34,18 @@ pub struct KeyBlock {
 }
 
 impl KeyBlock {
-    /// A block at its `pub`.
-    pub fn new(alloc: Global, primary: Primary) -> KeyBlock
-        ensures { result ≡ at_primary primary }
+    /// A block at its `pub`, with room for one user ID, as most keys have.
+    pub fn new(alloc: Global, primary: Primary) -> Result<KeyBlock, Mem>
+        ensures { IfOk result (λ block. block ≡ at_primary primary) }
     {
-        KeyBlock {
+        Ok(KeyBlock {
             primary,
             fpr: None,
             wants_fpr: true,
-            users: List::new(alloc),
+            users: List::with_capacity(alloc, 1)?,
             user: None,
             certs: 0,
-        }
+        })
     }
 
     /// Ends the block: its key ID and its key.

@@ -99,7 +99,7 @@ impl Progress {
         if self.keys.contains(primary.id) {
             return Err(LineError::Failed(ListingWhat::RepeatedKey));
         }
-        self.block = Some(KeyBlock::new(alloc, primary));
+        self.block = Some(KeyBlock::new(alloc, primary)?);
         Ok(())
     }
 

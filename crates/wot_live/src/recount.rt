@@ -26,7 +26,7 @@ fn counts_at<L: Ledger>(
     requires there { IsSome (map.get table.now id) }
     ensures { (key : Key) → map.get table.now id ≡ Some key → IfOk result (λ counts. counts ≡ key_counts options.now now rows.now key) }
 {
-    let mut counts = List::new(table.alloc());
+    let mut counts = List::with_capacity(table.alloc(), users as usize)?;
     for user in 0..users {
         counts.push(verdict(table, now, options, rows, id, user, steps))?;
     }

@@ -107,9 +107,16 @@ impl HeldUser {
     }
 }
 
-/// A key with the user IDs that are held, and what the limits count on it.
+/// A key as the table holds it. It is boxed, since a B-tree whose keys come in rising order
+/// leaves half the room of its nodes empty, and so wants small values.
 #[derive(Drop)]
 pub struct Held {
+    parts: Box<HeldKey>,
+}
+
+/// A key with the user IDs that are held, and what the limits count on it.
+#[derive(Drop)]
+struct HeldKey {
     fpr: Fpr,
     bits: u32,
     algo: u32,
@@ -132,9 +139,9 @@ impl Model for Held {
 
     ghost coded = { key_struct.the_row.coded };
 
-    ghost view = { λ h. record { fpr = h.fpr; bits = h.bits; algo = h.algo; made = h.made; expires = h.expires; revoked = h.revoked; caps = h.caps; users = map (λ s. s.user) h.users.items } };
+    ghost view = { λ h. record { fpr = h.parts.value.fpr; bits = h.parts.value.bits; algo = h.parts.value.algo; made = h.parts.value.made; expires = h.parts.value.expires; revoked = h.parts.value.revoked; caps = h.parts.value.caps; users = map (λ s. s.user) h.parts.value.users.items } };
 
-    ghost invariant = { λ h. IsHeld h.users.items h.caps h.weight };
+    ghost invariant = { λ h. IsHeld h.parts.value.users.items h.parts.value.caps h.parts.value.weight };
 }
 
 impl Held {
@@ -144,7 +151,7 @@ impl Held {
         ensures { IfOk result (λ held. held ≡ key) }
     {
         let weight = Weight::of(&key);
-        Ok(Held {
+        let parts = HeldKey {
             fpr: key.fpr,
             bits: key.bits,
             algo: key.algo,
@@ -154,27 +161,30 @@ impl Held {
             caps: key.caps,
             users: hold_all(alloc, key.users)?,
             weight,
+        };
+        Ok(Held {
+            parts: Box::new(alloc, parts)?,
         })
     }
 
     pub fn weight(&self) -> Weight
         ensures { result ≡ weight_of self.now }
     {
-        self.weight
+        self.parts.weight
     }
 
     pub fn head(&self) -> KeyHead<'_>
         ensures { IsKeyHead self.now result }
     {
         KeyHead {
-            fpr: &self.fpr,
-            bits: self.bits,
-            algo: self.algo,
-            made: self.made,
-            expires: self.expires,
-            revoked: self.revoked,
-            caps: &self.caps,
-            users: self.users.len() as u32,
+            fpr: &self.parts.fpr,
+            bits: self.parts.bits,
+            algo: self.parts.algo,
+            made: self.parts.made,
+            expires: self.parts.expires,
+            revoked: self.parts.revoked,
+            caps: &self.parts.caps,
+            users: self.parts.users.len() as u32,
         }
     }
 
@@ -183,8 +193,8 @@ impl Held {
         ensures { result ≡ soonest_after date (key_expiries self.now) }
     {
         sooner(
-            if_after(date, self.expires),
-            soonest_of_users(&self.users, date),
+            if_after(date, self.parts.expires),
+            soonest_of_users(&self.parts.users, date),
         )
     }
 
@@ -192,7 +202,7 @@ impl Held {
     pub fn user(&self, user: u32) -> Option<&HeldUser>
         ensures { option_copied result ≡ slice_get (spots_from 0 self.now.users) user }
     {
-        self.users.get(user as usize)
+        self.parts.users.get(user as usize)
     }
 }
 
