@@ -3,13 +3,13 @@ use Rattle.std.proofs.Common.{◌≡◌, ℕ, List, [], ◌∷◌, ◌++◌, Opt
 use Rattle.std.proofs.lemmas.List.{append-nil}
 use Rattle.std.specs.List.{slice_split}
 use Rattle.wot_types.specs.Lines.{is_newline}
-use Rattle.wot_types.specs.Commands as lines
 use Rattle.wot_types.specs.Commands.{Command, ReadLine, cut_after, made_by, whole_commands}
-use Rattle.wot_types.specs.Commands.Cut.{between, over, within}
+use Rattle.wot_types.specs.Commands.Cut.{over}
 use Rattle.wot_types.specs.LineByLine.{Position, after_line, after_lines, commands_in}
 use Rattle.wot_types.specs.Session.{after_all}
 use Rattle.wot_types.proofs.Cuts.{after_one, lines_append, none_over, one_line, stays_over, whole_append}
 use Rattle.wot_answer.specs.Answer.{IsCut}
+use Rattle.wot_answer.proofs.Answering as answering
 use Rattle.wot_answer.specs.declared.cut.Cut.{Cut}
 use Rattle.wot_answer.specs.declared.cut.Cut.TheVariants.{Between, Over, Within}
 use Rattle.wot_site.specs.Seen.{Seen, Honestly, IfHonest}
@@ -24,13 +24,8 @@ use Rattle.wot_session.proofs.Parts.{whole_at, open_at, whole_none, open_none}
 use Rattle.wot_session.proofs.Sayings.{said_none, said_prefix, said_prefix_more, said_then, said_then_prefix}
 
 -- a session that is over stands behind `quit`
-pub over_is : (cut : lines.Cut) → IsCut Over cut → cut ≡ over
-over_is between is = absurd is
-over_is (within command) is = absurd is
-over_is over is = refl
-
 pub is_over : (session : Session) (p : Position) → IsAt session p → IsOver session → p.cut ≡ over
-is_over session p at ended = over_is p.cut (subst (λ cut. IsCut cut p.cut) ended at.cut)
+is_over session p at ended = answering.is_over p.cut (subst (λ cut. IsCut cut p.cut) ended at.cut)
 
 over_cut : (cut : Cut) → IsCut cut over → cut ≡ Over
 over_cut Between is = absurd is

@@ -7,12 +7,13 @@ use Rattle.wot_types.specs.LineByLine.{at_first}
 use Rattle.wot_types.specs.Session.{acknowledged_count, at_start, commands_of, end_of, output_of}
 use Rattle.wot_site.specs.Disk.{Leaves, reads_of}
 use Rattle.wot_site.specs.Seen.{Faults, Moment, Seen}
-use Rattle.wot_site.specs.Site.{NoneFell, Rose, Stays}
+use Rattle.wot_site.specs.Site.{NoneFell, Stays}
 use Rattle.wot_site.specs.Work.{Quiet, moment_of}
 use Rattle.wot_store.specs.Opening.{FindsBad, IsSettled, IsUnwritten, Opening}
 use Rattle.wot_store.specs.Shows.{IsStored, Shows}
 use Rattle.wot_session.specs.Input.{IsPunctual, cut_at, so_far_at}
 use Rattle.wot_session.specs.Kept.{IsPrefixOf, IsSafe, ShowsState}
+use Rattle.wot_session.specs.Stop.{Causes}
 use Rattle.wot_session.specs.Turn.{IsBetween}
 use Rattle.wot_session.specs.Words.{IsUnread, Read}
 use Rattle.wot_session.specs.declared.stop.Stop.{Stop}
@@ -87,13 +88,6 @@ Ran words most status.DiskFault = λ old new. Unopened words old new ⊎ Stopped
 Ran words most (status.BadStore bad) = λ old new. Unopened words old new × FindsBad bad old new
 Ran words most status.Memory = λ old new. Stays old new ⊎ (Unopened words old new × IsSettled old new) ⊎ Stopped words most Memory old new
 Ran words most status.TooLong = Stopped words most TooLong
-
--- a fault ends a run only where the count of such faults rose, and no other status comes where one rose
-abbrev pub Causes : Status → Faults → Faults → Type 0
-Causes status.ReadFault old new = Rose old.take new.take
-Causes status.TellFault old new = Rose old.tell new.tell
-Causes status.DiskFault old new = Rose old.disk new.disk
-Causes other old new = new ≡ old
 
 -- no count fell, and the status has its cause
 pub record HasCauses (old new : Faults) (status : Status) : Type 0 where

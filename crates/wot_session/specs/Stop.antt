@@ -14,10 +14,13 @@ status_of DiskFault = status.DiskFault
 status_of Memory = status.Memory
 status_of TooLong = status.TooLong
 
--- a fault stops a session only where the count of such faults rose, and nothing else stops it where one rose
-abbrev pub Causes : Stop → Faults → Faults → Type 0
-Causes ReadFault old new = Rose old.take new.take
-Causes TellFault old new = Rose old.tell new.tell
-Causes DiskFault old new = Rose old.disk new.disk
-Causes Memory old new = new ≡ old
-Causes TooLong old new = new ≡ old
+-- a fault ends a run only where the count of such faults rose, and no other status comes where one rose
+abbrev pub Causes : Status → Faults → Faults → Type 0
+Causes status.ReadFault old new = Rose old.take new.take
+Causes status.TellFault old new = Rose old.tell new.tell
+Causes status.DiskFault old new = Rose old.disk new.disk
+Causes other old new = new ≡ old
+
+-- a session stops by the cause of its status
+abbrev pub StopCauses : Stop → Faults → Faults → Type 0
+StopCauses stop = Causes (status_of stop)

@@ -8,7 +8,7 @@ use Rattle.wot_site.specs.Seen.{Faults, Moment, Seen}
 use Rattle.wot_site.specs.Site.{NoneFell}
 use Rattle.wot_site.specs.Work.{Since, moment_of}
 use Rattle.wot_session.specs.Kept.{IsAround, IsPrefixOf, IsWhole, Kept}
-use Rattle.wot_session.specs.Stop.{Causes}
+use Rattle.wot_session.specs.Stop.{StopCauses}
 use Rattle.wot_session.specs.declared.stop.Stop.{Stop}
 use Rattle.wot_session.specs.declared.stop.Stop.TheVariants.{DiskFault, TellFault, Memory}
 
@@ -71,7 +71,7 @@ pub record SaidPrefix (p : Progress) (commands : List Command) (stop : Stop) (ol
 pub record HasStopCause {T : Type 0} (old new : Faults) (result : Result T Stop) : Type 0 where
   pub counts : NoneFell old new
   pub quiet : OnOk result (new ≡ old)
-  pub cause : IfErr result (λ stop. Causes stop old new)
+  pub cause : IfErr result (λ stop. StopCauses stop old new)
 
 -- giving an answer takes no memory
 abbrev pub IsGiving : Stop → Type 0

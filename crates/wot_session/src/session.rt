@@ -205,10 +205,7 @@ impl Session {
         if self.line.is_empty() {
             return Ok(());
         }
-        match self.answer(site) {
-            Ok(()) => Ok(()),
-            Err(stop) => Err(stop),
-        }
+        self.answer(site)
     }
 
     // Answers the command whose block is unfinished, if there is one; the answer is to be given.
@@ -283,10 +280,7 @@ impl Session {
         if let Err(stop) = self.answer_last(site) {
             return Err(stop);
         }
-        match self.answer_unfinished(site) {
-            Ok(()) => Ok(()),
-            Err(stop) => Err(stop),
-        }
+        self.answer_unfinished(site)
     }
 
     // Answers a run of one command that takes no block; the answer is to be given.

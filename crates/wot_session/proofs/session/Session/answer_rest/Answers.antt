@@ -1,7 +1,9 @@
+use Rattle.std.proofs.lemmas.Result.{on_ok_weaker}
 use Rattle.wot_types.specs.Commands.{unfinished_commands}
 use Rattle.wot_types.specs.LineByLine.{after_lines, commands_in}
 use Rattle.wot_session.specs.Fed.{last_lines}
 use Rattle.wot_site.proofs.Honest.{honest_then, honest_weaker}
+use Rattle.wot_session.proofs.Outcomes.{if_err_weaker}
 use Rattle.wot_session.proofs.Sayings.{said_prefix_more, said_then, said_then_prefix}
 use Rattle.wot_session.proofs.session.Session.answer_rest.Goals as goal
 
@@ -14,17 +16,20 @@ returns-in-Err-clause-prefix g c p here =
 pub answer_unfinished-requires : goal.answer_unfinished-requires
 answer_unfinished-requires g c = (_, c.in_default.ensures.at c.requires.0 c.requires.1)
 
-pub returns-in-Ok-clause-at : goal.returns-in-Ok-clause-at
-returns-in-Ok-clause-at g c p here = c.in-Ok.ensures.at _ (c.in_default.ensures.at p here)
+pub returns-clause-at : goal.returns-clause-at
+returns-clause-at g c = on_ok_weaker c.answer_unfinished.result (λ at p here. at _ (c.in_default.ensures.at p here)) c.answer_unfinished.ensures.at
 
-pub returns-in-Ok-clause-told : goal.returns-in-Ok-clause-told
-returns-in-Ok-clause-told g c p here =
+pub returns-clause-told : goal.returns-clause-told
+returns-clause-told g c =
     let line = c.args.self.now.line in
-    honest_then _ _ _ _ _ _ (c.in_default.ensures.told p here) (c.in-Ok.ensures.told _ (c.in_default.ensures.at p here))
-    (λ x y z. said_then p.progress (commands_in p (last_lines line)) (unfinished_commands (after_lines p (last_lines line)).cut) x y z)
+    on_ok_weaker c.answer_unfinished.result
+    (λ told p here. honest_then _ _ _ _ _ _ (c.in_default.ensures.told p here) (told _ (c.in_default.ensures.at p here))
+    (λ x y z. said_then p.progress (commands_in p (last_lines line)) (unfinished_commands (after_lines p (last_lines line)).cut) x y z))
+    c.answer_unfinished.ensures.told
 
-pub returns-in-Err-answer_unfinished-clause-prefix : goal.returns-in-Err-answer_unfinished-clause-prefix
-returns-in-Err-answer_unfinished-clause-prefix g c p here =
+pub returns-clause-prefix : goal.returns-clause-prefix
+returns-clause-prefix g c =
     let line = c.args.self.now.line in
-    honest_then _ _ _ _ _ _ (c.in_default.ensures.told p here) (c.in-Err-answer_unfinished.ensures.prefix _ (c.in_default.ensures.at p here))
-    (λ x y z. said_then_prefix p.progress (commands_in p (last_lines line)) (unfinished_commands (after_lines p (last_lines line)).cut) x y c.in-Err-answer_unfinished.stop z)
+    if_err_weaker _ _ c.answer_unfinished.result c.answer_unfinished.ensures.prefix
+    (λ stop prefix p here. honest_then _ _ _ _ _ _ (c.in_default.ensures.told p here) (prefix _ (c.in_default.ensures.at p here))
+    (λ x y z. said_then_prefix p.progress (commands_in p (last_lines line)) (unfinished_commands (after_lines p (last_lines line)).cut) x y stop z))
