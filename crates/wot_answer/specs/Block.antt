@@ -9,7 +9,7 @@ use Rattle.wot_types.specs.declared.refusal.Refusal.TheVariants.{LineTooLong}
 use Rattle.wot_types.specs.Commands.{Command, ReadLine, block_texts}
 use Rattle.wot_types.specs.Grammar.{command_of, has_block}
 use Rattle.wot_listing.specs.Reading.{HasRead}
-use Rattle.wot_ownertrust.specs.Reading.{reading}
+use Rattle.wot_ownertrust.specs.Reading.{reading_of}
 use Rattle.wot_answer.specs.declared.block.Block.{Block}
 use Rattle.wot_answer.specs.declared.block.Body.{Body}
 use Rattle.wot_answer.specs.declared.block.Body.TheVariants as body
@@ -25,7 +25,7 @@ refused_for head lines = if has_long lines then Some LineTooLong else result_err
 abbrev pub HasHad : Body → Result Head Refusal → List ReadLine → Type 0
 HasHad (body.Refused why) head lines = refused_for head lines ≡ Some why
 HasHad (body.Listing listing) head lines = (refused_for head lines ≡ None) × (head ≡ Ok Import) × HasRead listing (block_texts lines)
-HasHad (body.Ownertrust text) head lines = (refused_for head lines ≡ None) × (head ≡ Ok Ownertrust) × (text ≡ reading (block_texts lines))
+HasHad (body.Ownertrust text) head lines = (refused_for head lines ≡ None) × (head ≡ Ok Ownertrust) × (text ≡ reading_of (block_texts lines))
 
 -- it is read for this command
 pub record IsReadFor (body : Body) (command : Command) : Type 0 where

@@ -12,7 +12,7 @@ ghost use Rattle.wot_types.specs.Outcome.{delete_outcome, entries_outcome, listi
 ghost use Rattle.wot_types.specs.OwnertrustText.{ownertrust_fault};
 ghost use Rattle.wot_types.specs.Store.{Store};
 ghost use Rattle.wot_listing.specs.Reading.{HasRead};
-ghost use Rattle.wot_ownertrust.specs.Reading.{reading};
+ghost use Rattle.wot_ownertrust.specs.Reading.{reading_of};
 ghost use Rattle.wot_answer.specs.Answer.{Answers, Ends, IsCut, reads_on};
 ghost use Rattle.wot_answer.specs.Block.{IsBlockOf, IsReadFor};
 ghost use Rattle.wot_answer.specs.declared.cut.Cut.TheVariants.{Between};
@@ -175,9 +175,9 @@ fn set_entries(
     end: u64,
     text: OwnertrustText,
 ) -> Result<Answered, Mem>
-    requires known { (lines : List Line) × (text ≡ reading lines) }
+    requires known { (lines : List Line) × (text ≡ reading_of lines) }
     ensures ends { IfOk result (λ answered. (s : Store) (lines : List Line) → engine ≡ s.state → end ≡ s.end
-        → text ≡ reading lines → Ends answered s (entries_outcome (ownertrust_fault lines) s lines)) }
+        → text ≡ reading_of lines → Ends answered s (entries_outcome (ownertrust_fault lines) s lines)) }
     ensures cut { IfOk result (λ answered. answered.cut ≡ Between) }
 {
     match text.into_entries(alloc) {

@@ -65,7 +65,7 @@ fn unquoted_bytes(alloc: Global, f: &[u8]) -> Result<Vec<u8>, QuoteError>
     let mut text = Vec::with_capacity(alloc, f.len())?;
     let mut rest = f;
     while !rest.is_empty() {
-        let Some((b, after)) = front(rest) else {
+        let Some((b, after)) = first_byte(rest) else {
             return Err(QuoteError::BadQuote);
         };
         text.push(b)?;
@@ -75,7 +75,7 @@ fn unquoted_bytes(alloc: Global, f: &[u8]) -> Result<Vec<u8>, QuoteError>
 }
 
 /// The byte that the front of a field spells, and what follows its spelling.
-fn front(f: &[u8]) -> Option<(u8, &[u8])>
+fn first_byte(f: &[u8]) -> Option<(u8, &[u8])>
     ensures value { option_map (λ w. (w.0, w.1.now)) result ≡ quotes.quoted_front f.now }
     ensures shorter { IfSome result (λ w. length w.1.now < length f.now) }
 {

@@ -66,7 +66,7 @@ fn is_earlier(p: &Placed, q: &Placed) -> bool
     p.cert.made < q.cert.made || p.cert.made == q.cert.made && p.place < q.place
 }
 
-fn later<'a>(p: &'a Placed, q: &'a Placed) -> &'a Placed
+fn later_cert<'a>(p: &'a Placed, q: &'a Placed) -> &'a Placed
     ensures { result.now ≡ later_cert p.now (Some q.now) }
 {
     if is_earlier(p, q) { q } else { p }
@@ -80,7 +80,7 @@ pub fn later_of<'a>(p: Option<&'a Placed>, q: Option<&'a Placed>) -> Option<&'a 
         None => q,
         Some(p) => match q {
             None => Some(p),
-            Some(q) => Some(later(p, q)),
+            Some(q) => Some(later_cert(p, q)),
         },
     }
 }

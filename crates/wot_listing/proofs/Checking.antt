@@ -15,7 +15,7 @@ use Rattle.wot_types.specs.declared.fault.ListingWhat.TheVariants.{LimitReached,
 use Rattle.wot_types.specs.declared.record.RecordKind.{RecordKind}
 use Rattle.wot_types.specs.declared.record.RecordKind.TheVariants.{Primary, Fingerprint, UserId, Signature, Subkey, Foreign, Other}
 use Rattle.wot_types.specs.Keyring.{Keyring}
-use Rattle.wot_types.specs.Listing.{Line, begins_keyblock, block_id, blocks, cert_count, checks_of, ends_keyblock, failing, first_failing, fpr_checks, fpr_line, in_block, is_repeated_key, is_repeated_user, is_same_user, keys_of, lacks_fingerprint, open_block, open_user, pub_checks, sig_checks, user_at, user_checks, user_kind, user_of, user_runs, wants_fpr, with_keyblock}
+use Rattle.wot_types.specs.Listing.{Line, begins_keyblock, block_id, blocks, cert_count, checks_of, ends_keyblock, failed_check, first_failing, fpr_checks, fpr_line, in_block, is_repeated_key, is_repeated_user, is_same_user, keys_of, lacks_fingerprint, open_block, open_user, pub_checks, sig_checks, user_at, user_checks, user_kind, user_of, user_runs, wants_fpr, with_keyblock}
 use Rattle.wot_types.specs.Limits.{most_users}
 use Rattle.wot_types.specs.Records.{fingerprint_at, is_good, is_revoked_at, key_id_at, kind_of}
 use Rattle.wot_types.specs.Runs.{Run, alone}
@@ -105,7 +105,7 @@ checks_are lines line Subkey e = refl
 checks_are lines line Other e = refl
 
 -- the first check that fails
-pub failing_is : (lines : List Line) (line : Line) → failing lines line ≡ failing_in (progress_of lines) line
+pub failing_is : (lines : List Line) (line : Line) → failed_check lines line ≡ failing_in (progress_of lines) line
 failing_is lines line = ap first_failing (checks_are lines line (kind_of line) refl)
 
 -- the open block lacks its fingerprint

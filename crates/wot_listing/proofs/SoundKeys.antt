@@ -24,7 +24,7 @@ use Rattle.wot_types.specs.declared.record.RecordKind.TheVariants.{Primary, Fing
 use Rattle.wot_types.specs.Fields.{has_fewer}
 use Rattle.wot_types.specs.Fingerprint.{IsFprLength, key_id_of}
 use Rattle.wot_types.specs.Keyring.{Keyring}
-use Rattle.wot_types.specs.Listing.{Line, Spells, blocks, certifies, failing, fault, fault_at, fault_at_end, first_failing, fpr_checks, is_bad_date, is_bad_quote, keys_of, lacks_fingerprint, open_block, sig_checks, user_at, user_checks}
+use Rattle.wot_types.specs.Listing.{Line, Spells, blocks, certifies, failed_check, fault, fault_at, fault_at_end, first_failing, fpr_checks, is_bad_date, is_bad_quote, keys_of, lacks_fingerprint, open_block, sig_checks, user_at, user_checks}
 use Rattle.wot_types.specs.Limits.{most_users}
 use Rattle.wot_types.specs.Records.{cert_of, class_at, is_good, is_kept_class, key_id_at, kind_of}
 use Rattle.wot_types.specs.Accepted.{AreImportable}
@@ -138,8 +138,8 @@ nothing_kept = record { keys = λ q key e. absurd (let f : ◌≡◌ {A = Option
 
 line_sound : (lines : List Line) (line : Line) → (fault lines ≡ None → IsSound (progress_of lines)) → fault (lines ++ line ∷ []) ≡ None → IsSound (progress_of (lines ++ line ∷ []))
 line_sound lines line ih e =
-    let parts = both_none (fault lines) (option_map (fault_at (length lines + 1)) (failing lines line)) (sym (fault_more lines line) ∙ e) in
-    let passes = sym (failing_is lines line) ∙ map_none (fault_at (length lines + 1)) (failing lines line) parts.1 in
+    let parts = both_none (fault lines) (option_map (fault_at (length lines + 1)) (failed_check lines line)) (sym (fault_more lines line) ∙ e) in
+    let passes = sym (failing_is lines line) ∙ map_none (fault_at (length lines + 1)) (failed_check lines line) parts.1 in
     let after_kind = fed_sound (kind_of line) (progress_of lines) line (ih parts.0) passes in
     let after : IsSound (after_line (progress_of lines) line) = record { keys = after_kind.keys; block = after_kind.block } in
     subst IsSound (sym (progress_next lines line)) after

@@ -15,12 +15,12 @@ unless_fault None s = Ok s
 unless_fault (Some f) s = Err (Fault f)
 
 -- after these lines a reader is this: what is kept of them, or their first fault
-unfoldable pub reading : List Line → Result Progress ListingError
-reading lines = unless_fault (fault lines) (progress_of lines)
+unfoldable pub reading_of : List Line → Result Progress ListingError
+reading_of lines = unless_fault (fault lines) (progress_of lines)
 
 -- the reader has read these lines, or is out of memory
 abbrev pub HasRead : Result Progress ListingError → List Line → Type 0
-HasRead reader lines = (reader ≡ reading lines) ⊎ (reader ≡ Err Memory)
+HasRead reader lines = (reader ≡ reading_of lines) ⊎ (reader ≡ Err Memory)
 
 -- what stops the reader, if anything does
 abbrev pub answer_of : Result Progress ListingError → Result (Unit {0}) ListingError

@@ -2,7 +2,7 @@
 
 ghost use Rattle.std.specs.Prelude.{◌≡◌, ◌∷◌, ◌++◌, [], ℕ, List, IfErr, IfOk};
 ghost use Rattle.wot_types.specs.Accepted.{AreImportable};
-ghost use Rattle.wot_listing.specs.Reading.{Finishes, HasRead, answer_of, reading, stop_of};
+ghost use Rattle.wot_listing.specs.Reading.{Finishes, HasRead, answer_of, reading_of, stop_of};
 
 use crate::blocks::Blocks;
 use crate::error::{LineError, ListingError};
@@ -37,7 +37,7 @@ impl Model for Listing {
 impl Listing {
     /// A reader that has read no line.
     pub fn new(alloc: Global) -> Result<Listing, Mem>
-        ensures { IfOk result (λ listing. listing ≡ reading []) }
+        ensures { IfOk result (λ listing. listing ≡ reading_of []) }
     {
         Ok(Listing {
             alloc,

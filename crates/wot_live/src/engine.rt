@@ -52,7 +52,7 @@ impl Model for Engine {
 }
 
 /// The engine of these parts.
-pub fn recounted<L: Ledger>(
+pub fn count_anew<L: Ledger>(
     table: Table,
     trusts: Trusts,
     date: u32,

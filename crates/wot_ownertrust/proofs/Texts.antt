@@ -21,7 +21,7 @@ use Rattle.wot_types.proofs.Fingerprints.{fpr_cmp_total, fpr_cmp-IsAntisymmetric
 use Rattle.wot_types.proofs.Optionals.{or_none, or_assoc}
 use Rattle.wot_types.proofs.Tests.{first_part, second_part, less_from}
 use Rattle.wot_types.proofs.Capped.{capped_add}
-use Rattle.wot_ownertrust.specs.Reading.{SoFar, so_far_after, by_line, reading, so_far}
+use Rattle.wot_ownertrust.specs.Reading.{SoFar, so_far_after, by_line, reading_of, so_far}
 use Rattle.wot_ownertrust.proofs.Lines.{line_sets}
 
 -- ---- one more line
@@ -54,7 +54,7 @@ step_after : (o : Option (ℕ × OwnertrustFault)) (line : List ℕ) (m : Ownert
 step_after (Some fault) line m k = refl
 step_after None line m k = ap (λ (number : ℕ). by_line (entry_of_line line) m number) (sym (capped_add k 1))
 
-pub after_one : (lines : List (List ℕ)) (line : List ℕ) → reading (lines ++ line ∷ []) ≡ so_far_after (reading lines) line
+pub after_one : (lines : List (List ℕ)) (line : List ℕ) → reading_of (lines ++ line ∷ []) ≡ so_far_after (reading_of lines) line
 after_one lines line =
     let number : 0 + length lines + 1 ≡ length lines + 1 = omega arith in
     let count : length (lines ++ line ∷ []) ≡ length lines + 1 = omega (arith, length-append lines (line ∷ [])) in
@@ -71,7 +71,7 @@ after_one lines line =
 -- ---- the end
 
 -- where nothing is faulty, the map is the one of the lines
-pub whole : (m : OwnertrustMap) (k : ℕ) (lines : List (List ℕ)) → Ok (m, k) ≡ reading lines → (ownertrust_fault lines ≡ None) × (m ≡ text_entries lines)
+pub whole : (m : OwnertrustMap) (k : ℕ) (lines : List (List ℕ)) → Ok (m, k) ≡ reading_of lines → (ownertrust_fault lines ≡ None) × (m ≡ text_entries lines)
 whole m k lines h = go (ownertrust_fault lines) h
   where
     go : (o : Option (ℕ × OwnertrustFault)) → Ok (m, k) ≡ so_far o (text_entries lines) (capped (length lines)) → (o ≡ None) × (m ≡ text_entries lines)
@@ -79,7 +79,7 @@ whole m k lines h = go (ownertrust_fault lines) h
     go None h = (refl, (let same : (m, k) ≡ (text_entries lines, capped (length lines)) = cc in ap (λ (p : OwnertrustMap × ℕ). p.0) same))
 
 -- and where something is, it is the fault of the lines
-pub faulty : (fault : ℕ × OwnertrustFault) (lines : List (List ℕ)) → Err fault ≡ reading lines → ownertrust_fault lines ≡ Some fault
+pub faulty : (fault : ℕ × OwnertrustFault) (lines : List (List ℕ)) → Err fault ≡ reading_of lines → ownertrust_fault lines ≡ Some fault
 faulty fault lines h = go (ownertrust_fault lines) h
   where
     go : (o : Option (ℕ × OwnertrustFault)) → Err fault ≡ so_far o (text_entries lines) (capped (length lines)) → o ≡ Some fault

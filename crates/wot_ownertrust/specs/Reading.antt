@@ -15,8 +15,8 @@ abbrev pub so_far : Option (ℕ × OwnertrustFault) → OwnertrustMap → ℕ �
 so_far (Some fault) entries count = Err fault
 so_far None entries count = Ok (entries, count)
 
-abbrev pub reading : List (List ℕ) → SoFar
-reading lines = so_far (ownertrust_fault lines) (text_entries lines) (capped (length lines))
+abbrev pub reading_of : List (List ℕ) → SoFar
+reading_of lines = so_far (ownertrust_fault lines) (text_entries lines) (capped (length lines))
 
 -- after one more line, which is the line of this number
 abbrev pub by_line : Result (Option Entry) OwnertrustFault → OwnertrustMap → ℕ → SoFar

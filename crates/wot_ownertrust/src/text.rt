@@ -6,7 +6,7 @@ ghost use Rattle.wot_types.specs.declared.fault.OwnertrustFault.{OwnertrustFault
 ghost use Rattle.wot_types.specs.OwnertrustText.{listed_entries, ownertrust_fault};
 ghost use Rattle.wot_types.specs.Payload.{AreSettable};
 ghost use Rattle.wot_ownertrust.specs.declared.text.TextError.TheVariants.{Fault, Memory};
-ghost use Rattle.wot_ownertrust.specs.Reading.{so_far_after, reading};
+ghost use Rattle.wot_ownertrust.specs.Reading.{so_far_after, reading_of};
 ghost use Rattle.wot_types.specs.Ownertrust.{entry_of};
 
 use crate::line::read_line;
@@ -58,7 +58,7 @@ impl Model for OwnertrustText {
 impl OwnertrustText {
     /// A text of no lines, which takes no memory.
     pub fn new(alloc: Global) -> OwnertrustText
-        ensures { result ≡ reading [] }
+        ensures { result ≡ reading_of [] }
     {
         OwnertrustText {
             entries: Trusts::new(alloc),
@@ -71,7 +71,7 @@ impl OwnertrustText {
     #[tactic(auto, using(crate::proofs::Texts::after_one))]
     pub fn add_line(&mut self, line: &[u8]) -> Result<(), Mem>
         // the text has then one more line, whatever the lines before it were
-        ensures ok { OnOk result ((lines : List (List ℕ)) → self.old ≡ reading lines → self.new ≡ reading (lines ++ line.now ∷ [])) }
+        ensures ok { OnOk result ((lines : List (List ℕ)) → self.old ≡ reading_of lines → self.new ≡ reading_of (lines ++ line.now ∷ [])) }
         ensures err { OnErr result (self.new ≡ self.old) }
     {
         self.add(line)
@@ -105,11 +105,11 @@ impl OwnertrustText {
     /// Ends the text: its entries in rising order of their fingerprints, or its first fault.
     #[tactic(auto, using(crate::proofs::Texts::settable, crate::proofs::Texts::whole, crate::proofs::Texts::faulty))]
     pub fn into_entries(self, alloc: Global) -> Result<Entries, TextError>
-        ensures entries { (lines : List (List ℕ)) → self ≡ reading lines → IfOk result (λ entries. entries ≡ listed_entries lines) }
-        ensures fault { (lines : List (List ℕ)) → self ≡ reading lines → (line : ℕ) (what : OwnertrustFault)
+        ensures entries { (lines : List (List ℕ)) → self ≡ reading_of lines → IfOk result (λ entries. entries ≡ listed_entries lines) }
+        ensures fault { (lines : List (List ℕ)) → self ≡ reading_of lines → (line : ℕ) (what : OwnertrustFault)
             → (result ≡ Err (Fault line what)) ↔ (ownertrust_fault lines ≡ Some (line, what)) }
         // entries that an edit may set
-        ensures settable { (lines : List (List ℕ)) → self ≡ reading lines → IfOk result (λ entries. AreSettable entries) }
+        ensures settable { (lines : List (List ℕ)) → self ≡ reading_of lines → IfOk result (λ entries. AreSettable entries) }
     {
         let OwnertrustText { entries, fault, .. } = self;
         match fault {

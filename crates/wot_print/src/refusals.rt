@@ -9,7 +9,7 @@ use wot_fields::push_number;
 use wot_types::{KeyId, Limit, ListingFault, ListingWhat, Mem, OwnertrustFault, Refusal};
 
 /// The whole `err` line that says why a command is refused.
-pub fn refused(alloc: Global, refusal: &Refusal) -> Result<Vec<u8>, Mem>
+pub fn refusal_line(alloc: Global, refusal: &Refusal) -> Result<Vec<u8>, Mem>
     ensures { IfOk result (λ text. text.items ≡ reply_line (refusal_text refusal.now)) }
 {
     let mut text = refusal_text(alloc, refusal)?;
@@ -154,7 +154,7 @@ mod tests {
                 b"err key-id-taken 00000000000000A1\n".as_slice(),
             ),
         ] {
-            let text = refused(alloc, &refusal)?;
+            let text = refusal_line(alloc, &refusal)?;
             assert_eq!(rt; text.as_slice(), want);
         }
         Ok(())

@@ -21,7 +21,7 @@ use Rattle.wot_types.specs.Records as record_of
 use Rattle.wot_types.specs.Records.{class_at, is_good, is_kept_class, is_primary, is_user_id, key_id_at, kind_of}
 use Rattle.wot_types.specs.Runs.{Run, alone}
 use Rattle.wot_types.specs.WellFormed.{AreDistinctUsers, IsCert, IsUser}
-use Rattle.wot_types.specs.Listing.{failing, fault_after}
+use Rattle.wot_types.specs.Listing.{failed_check, fault_after}
 use Rattle.wot_types.proofs.RunEnds.{block_ends, user_ends}
 use Rattle.wot_types.proofs.LineChecks.{passes_more}
 use Rattle.wot_print_laws.proofs.BlockLemmas.{AreSigs, AreUsers, block_of, of_kind, sigs_free, user_runs_are, users_free}
@@ -31,7 +31,7 @@ use Rattle.wot_print_laws.proofs.RunLemmas.{open_last, pieces}
 -- ---- checks one after the other
 
 -- a line without a fault
-pub fault_step : (before : List Line) (line : Line) (rest : List Line) → failing before line ≡ None → fault_after (before ++ line ∷ []) rest ≡ None → fault_after before (line ∷ rest) ≡ None
+pub fault_step : (before : List Line) (line : Line) (rest : List Line) → failed_check before line ≡ None → fault_after (before ++ line ∷ []) rest ≡ None → fault_after before (line ∷ rest) ≡ None
 fault_step before line rest h r = λ i. option_or (option_map (fault_at (length before + 1)) (h i)) (r i)
 
 -- ---- lists that grow at their ends
@@ -157,7 +157,7 @@ module _ (before : List Line) (p f : Line) (id : ℕ) (key : Key) (pub_is : IsPu
   so_far_more : (rs : List (Run Line)) (ss : List (Run Line)) (line : Line) → pieces ss ≡ pieces rs ++ line ∷ [] → so_far rs ++ line ∷ [] ≡ so_far ss
   so_far_more rs ss line e = append_assoc before (p ∷ f ∷ pieces rs) (line ∷ []) ∙ ap (λ l. before ++ p ∷ f ∷ l) (sym e)
 
-  fpr_passes : failing (before ++ p ∷ []) f ≡ None
+  fpr_passes : failed_check (before ++ p ∷ []) f ≡ None
   fpr_passes =
       ap (λ k. first_failing (checks_of k (before ++ p ∷ []) f)) fpr_is.kind
       ∙ ap (λ o. first_failing (in_block o (λ block. if wants_fpr block then fpr_checks (block_id block) f else []))) (open_last begins_keyblock ends_keyblock block_ends before p [] begun refl)
@@ -173,7 +173,7 @@ module _ (before : List Line) (p f : Line) (id : ℕ) (key : Key) (pub_is : IsPu
     runs_are : user_runs (block_of p f rs) ≡ rs
     runs_are = user_runs_are p f key.revoked users rs fpr_is.kind us
 
-    user_passes : (again : Bool) (user : User) (line : Line) → IsUid again user line → Apart users user → length users < most_users → failing (so_far rs) line ≡ None
+    user_passes : (again : Bool) (user : User) (line : Line) → IsUid again user line → Apart users user → length users < most_users → failed_check (so_far rs) line ≡ None
     user_passes again user line u d few =
         let block = block_of p f rs in
         let repeated : is_repeated_user block line ≡ false =
@@ -211,7 +211,7 @@ module _ (before : List Line) (p f : Line) (id : ℕ) (key : Key) (pub_is : IsPu
         )
 
     sig_passes : (certs : List Cert) (lines : List Line) → AreSigs certs lines → (cert : Cert) (line : Line) → IsSig cert line → IsCert id cert → user_certs users + length certs < most_certs
-        → failing (so_far (rs ++ run_so_far lines ∷ [])) line ≡ None
+        → failed_check (so_far (rs ++ run_so_far lines ∷ [])) line ≡ None
     sig_passes certs lines ss cert line s w few =
         let block = block_of p f (rs ++ run_so_far lines ∷ []) in
         let room : nat_le most_certs (cert_count block) ≡ false = lt-leb most_certs (cert_count block) (few_kept certs lines ss few) in
@@ -260,7 +260,7 @@ module _ (before : List Line) (p f : Line) (id : ℕ) (key : Key) (pub_is : IsPu
       (ap (λ l. fault_after (so_far l) rest) (append_assoc rs (r ∷ []) next) ∙ h)))
 
   -- the lines of a key
-  pub block_faultless : failing before p ≡ None → (rs : List (Run Line)) → AreUsers key.revoked key.users rs → All (IsUser id) key.users → AreDistinctUsers key.users
+  pub block_faultless : failed_check before p ≡ None → (rs : List (Run Line)) → AreUsers key.revoked key.users rs → All (IsUser id) key.users → AreDistinctUsers key.users
       → length key.users ≤ most_users → user_certs key.users ≤ most_certs → (rest : List Line)
       → fault_after (so_far rs) rest ≡ None → fault_after before (p ∷ f ∷ pieces rs ++ rest) ≡ None
   block_faultless first rs us w d few fits rest h =

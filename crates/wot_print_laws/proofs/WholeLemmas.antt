@@ -16,7 +16,7 @@ use Rattle.wot_types.specs.declared.fault.ListingWhat.TheVariants.{NoFingerprint
 use Rattle.wot_types.specs.declared.record.RecordKind.TheVariants.{Other}
 use Rattle.wot_types.specs.Fingerprint.{key_id_of}
 use Rattle.wot_types.specs.Keyring as keyring
-use Rattle.wot_types.specs.Listing.{Line, begins_keyblock, block_id, blocks, checks_of, ends_keyblock, failing, fault_after, fault_at, fault_at_end, first_failing, is_repeated_key, keys_of, lacks_fingerprint, listed_keys, open_block, pub_checks, with_keyblock}
+use Rattle.wot_types.specs.Listing.{Line, begins_keyblock, block_id, blocks, checks_of, ends_keyblock, failed_check, fault_after, fault_at, fault_at_end, first_failing, is_repeated_key, keys_of, lacks_fingerprint, listed_keys, open_block, pub_checks, with_keyblock}
 use Rattle.wot_types.specs.Records as record_of
 use Rattle.wot_types.specs.Records.{is_primary, key_id_at, kind_of}
 use Rattle.wot_types.specs.Runs.{Run}
@@ -149,7 +149,7 @@ none_repeated (x ∷ es) (w ∷ ws) p id n e h =
 
 -- ---- faults
 
-pub_passes : (before : List Line) (id : ℕ) (key : Key) (p : Line) → IsPub id key p → lacks_fingerprint (open_block before) ≡ false → is_repeated_key before p ≡ false → failing before p ≡ None
+pub_passes : (before : List Line) (id : ℕ) (key : Key) (p : Line) → IsPub id key p → lacks_fingerprint (open_block before) ≡ false → is_repeated_key before p ≡ false → failed_check before p ≡ None
 pub_passes before id key p h named new =
     ap (λ k. first_failing (checks_of k before p)) h.kind
     ∙ ap (λ b. first_failing ((b, NoFingerprint) ∷ pub_checks p ++ (is_repeated_key before p, RepeatedKey) ∷ [])) named

@@ -8,7 +8,7 @@ use std::alloc::Global;
 use wot_types::Mem;
 
 /// How many of n bytes pass in one call.
-pub fn passed(cut: Option<u32>, n: usize) -> usize
+pub fn bytes_per_call(cut: Option<u32>, n: usize) -> usize
     ensures { result ≡ bytes_per_call cut n }
 {
     match cut {

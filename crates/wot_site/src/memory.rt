@@ -10,7 +10,7 @@ mod plan; // which calls fail
 mod side; // a side of the store
 
 use crate::asked::Asked;
-use crate::bytes::{copy_front, passed, read_at};
+use crate::bytes::{bytes_per_call, copy_front, read_at};
 use crate::failed::Failed;
 use crate::memory::calls::Calls;
 use crate::memory::crash::image_of;
@@ -224,7 +224,7 @@ impl Site for MemorySite {
             return Err(Failed);
         }
         let left = &self.input[self.taken..];
-        let n = passed(self.plan.cut, buf.len().min(left.len()));
+        let n = bytes_per_call(self.plan.cut, buf.len().min(left.len()));
         copy_front(buf, left, n);
         self.taken += n;
         Ok(n)
@@ -252,7 +252,7 @@ impl Site for MemorySite {
             self.tell_faults = self.tell_faults.saturating_add(1);
             return Err(Failed);
         }
-        let n = passed(self.plan.cut, bytes.len());
+        let n = bytes_per_call(self.plan.cut, bytes.len());
         if self.note_told(&bytes[..n]).is_err() {
             self.starved = self.starved.saturating_add(1);
             self.tell_faults = self.tell_faults.saturating_add(1);

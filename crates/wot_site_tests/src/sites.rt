@@ -245,7 +245,7 @@ fn is_image(made: &Made, bytes: &[u8]) -> bool {
 }
 
 // The list of that length with this number among those of the bytes 0, 1 and 9.
-fn numbered(alloc: Global, len: usize, number: u32) -> Result<Vec<u8>, Fail> {
+fn numbered_payload(alloc: Global, len: usize, number: u32) -> Result<Vec<u8>, Fail> {
     let mut bytes = Vec::new(alloc);
     let mut rest = number;
     for _ in 0..len {
@@ -262,7 +262,7 @@ fn count(alloc: Global, made: &Made, these: &[u8]) -> Result<(u32, u32), Fail> {
     let mut lists = 1u32;
     for len in 0..7usize {
         for number in 0..lists {
-            let bytes = numbered(alloc, len, number)?;
+            let bytes = numbered_payload(alloc, len, number)?;
             if is_image(made, &bytes) {
                 all = all.saturating_add(1);
                 if bytes.as_slice() == these {

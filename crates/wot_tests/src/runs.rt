@@ -25,7 +25,7 @@ fn session(alloc: Global, site: &mut MemorySite) -> Status {
 }
 
 // What `export` tells on the image that a crash leaves.
-fn exported(alloc: Global, site: &MemorySite, pick: Pick) -> Result<Vec<u8>, Fail> {
+fn exported_text(alloc: Global, site: &MemorySite, pick: Pick) -> Result<Vec<u8>, Fail> {
     let (zero, one) = site.crash(pick)?;
     let input = Vec::from_slice(alloc, b"export\n")?;
     let mut again = MemorySite::new(alloc, input, zero, one)?;
@@ -57,7 +57,7 @@ fn a_stop_at_any_call_leaves_a_prefix_of_the_edits(rt: HostRuntime) -> Result<()
                 Status::Done
             };
             assert_eq!(rt; session(alloc, &mut site), wanted, "stopped at call {n}");
-            let told = exported(alloc, &site, pick)?;
+            let told = exported_text(alloc, &site, pick)?;
             assert_eq!(rt; told.as_slice(), shown(n, pick), "stopped at call {n}");
         }
     }

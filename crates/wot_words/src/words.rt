@@ -30,11 +30,11 @@ pub fn program_words(alloc: Global, words: &[String]) -> Result<ProgramWords, Wo
     ensures usage { result ≡ Err Usage → program_words (map string_bytes words.now) ≡ None }
 {
     let matches = command_line(alloc)?.try_get_matches_from(words)?;
-    asked(alloc, &matches)
+    words_asked(alloc, &matches)
 }
 
 /// What the texts that `clap` found ask for.
-fn asked(alloc: Global, matches: &ArgMatches) -> Result<ProgramWords, WordsError>
+fn words_asked(alloc: Global, matches: &ArgMatches) -> Result<ProgramWords, WordsError>
     ensures read { IfOk result (λ read. asked_by (texts_of matches.now) ≡ Some read) }
     ensures usage { result ≡ Err Usage → asked_by (texts_of matches.now) ≡ None }
 {

@@ -14,7 +14,7 @@ const OWNER: KeyId = KeyId(0xaaaa_aaaa_aaaa_aaaa);
 
 #[test]
 fn filled_engine(rt: HostRuntime) -> Result<(), Fail> {
-    let engine = edited::<Brand>(rt.alloc(), Blank::new(1))?;
+    let engine = edited_engine::<Brand>(rt.alloc(), Blank::new(1))?;
     let Engine {
         table,
         trusts,
@@ -46,7 +46,7 @@ fn parts_counted_once(rt: HostRuntime) -> Result<(), Fail> {
 }
 
 /// The owner's key and an entry are put, then the date is set, then the classic model.
-fn edited<L: Ledger>(alloc: Global, blank: Blank) -> Result<Engine, Mem>
+fn edited_engine<L: Ledger>(alloc: Global, blank: Blank) -> Result<Engine, Mem>
     requires own { (blank.name ≡ L.name) × (blank.parts ≡ L.parts) × (0 < L.parts) }
 {
     let mut steps = Steps::<L>::open(blank);

@@ -11,8 +11,8 @@ returns-in_err-matches-clause-usage c = λ e.
 pub returns-clause-read : goal.returns-clause-read
 returns-clause-read c =
     let same = parsed _ _ (all_text c.args.words.now) c.in_ok-command_line.ensures c.in_ok-matches.matches c.in_ok-matches.ensures.matches c.in_ok-matches.ensures.kinds in
-    subst (λ (o : Option ProgramWords). IfOk c.asked.result (λ read. o ≡ Some read)) (sym same) c.asked.ensures.read
+    subst (λ (o : Option ProgramWords). IfOk c.words_asked.result (λ read. o ≡ Some read)) (sym same) c.words_asked.ensures.read
 
 pub returns-clause-usage : goal.returns-clause-usage
 returns-clause-usage c = λ e.
-    parsed _ _ (all_text c.args.words.now) c.in_ok-command_line.ensures c.in_ok-matches.matches c.in_ok-matches.ensures.matches c.in_ok-matches.ensures.kinds ∙ c.asked.ensures.usage e
+    parsed _ _ (all_text c.args.words.now) c.in_ok-command_line.ensures c.in_ok-matches.matches c.in_ok-matches.ensures.matches c.in_ok-matches.ensures.kinds ∙ c.words_asked.ensures.usage e
