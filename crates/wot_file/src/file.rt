@@ -46,6 +46,7 @@ impl<F: Files, I: Read, O: Write> FileSite<F, I, O> {
     // Hands a call of the disk on, and counts its error.
     fn count_error<T>(&mut self, answer: io::Result<T>) -> Result<T, Failed>
         ensures value { IfOk result (λ x. answer ≡ Ok x) }
+        ensures ok { IfOk answer (λ x. result ≡ Ok x) }
         ensures cause { HasCause disk_faults (faults_of self.old) (faults_of self.new) result }
         ensures input { input_of self.new ≡ input_of self.old }
         ensures output { output_of self.new ≡ output_of self.old }
