@@ -11,3 +11,4 @@ pub mod Sound
 pub mod SoundKeys
 pub mod TrustLemmas
 pub mod CertLemmas
+pub mod PlaceLemmas

@@ -1,4 +1,5 @@
 pub mod Answer
 pub mod EndedRuns
 pub mod Machine
+pub mod Places
 pub mod Reading

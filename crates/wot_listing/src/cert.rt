@@ -10,7 +10,7 @@ use crate::error::LineError;
 use crate::values::{class_in, date_in, is_kept_class, is_local, key_id_in, text_in, trust_in};
 use std::alloc::Global;
 use wot_fields::Fields;
-use wot_types::{Cert, KeyId, Limit, ListingWhat, MOST_CERTS, Text};
+use wot_types::{Cert, KeyId, Limit, ListingWhat, MOST_CERTS, Mem, Scope, Text};
 
 /// The most bytes of a regular expression.
 const LONGEST_SCOPE: usize = 255;
@@ -68,17 +68,17 @@ fn read_values(
         expires,
         depth,
         amount,
-        scope: scope_in(text),
+        scope: scope_in(alloc, text)?,
     })
 }
 
 /// A regular expression that is empty is none.
-fn scope_in(text: Text) -> Option<Text>
-    ensures { result ≡ scope_of text }
+fn scope_in(alloc: Global, text: Text) -> Result<Option<Scope>, Mem>
+    ensures { IfOk result (λ scope. scope ≡ scope_of text) }
 {
     if text.as_bytes().is_empty() {
-        None
+        Ok(None)
     } else {
-        Some(text)
+        Ok(Some(Scope::new(alloc, text)?))
     }
 }

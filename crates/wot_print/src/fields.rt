@@ -7,7 +7,7 @@ ghost use Rattle.wot_types.specs.Quotes.{printed_text};
 
 use std::alloc::Global;
 use wot_fields::{push_hex, push_number, quote};
-use wot_types::{KeyId, Mem, Text};
+use wot_types::{KeyId, Mem, Scope, Text};
 
 pub fn push_field(text: &mut Vec<u8>, field: &[u8]) -> Result<(), Mem>
     ensures { OnOk result (text.new.items ≡ text.old.items ++ ended_field field.now) }
@@ -74,11 +74,11 @@ pub fn push_quoted_field(alloc: Global, text: &mut Vec<u8>, field: &Text) -> Res
 }
 
 /// A regular expression, or nothing for none.
-pub fn push_scope(alloc: Global, text: &mut Vec<u8>, scope: &Option<Text>) -> Result<(), Mem>
+pub fn push_scope(alloc: Global, text: &mut Vec<u8>, scope: &Option<Scope>) -> Result<(), Mem>
     ensures { OnOk result (text.new.items ≡ text.old.items ++ ended_field (scope_text scope.now)) }
 {
     match scope {
-        Some(scope) => push_quoted_field(alloc, text, scope),
+        Some(scope) => push_quoted_field(alloc, text, scope.as_text()),
         None => push_field(text, b""),
     }
 }

@@ -10,7 +10,7 @@ ghost use Rattle.wot_print_laws.specs.Fits.{FitsCert, FitsKey, FitsState, FitsUs
 
 use wot_live::Engine;
 use wot_table::{KeyHead, UserHead};
-use wot_types::{Cert, KeyId, Text};
+use wot_types::{Cert, KeyId, Scope};
 
 fn bytes_fit(bytes: &[u8])
     ensures { IsBytes bytes.now }
@@ -30,11 +30,11 @@ fn id_fits(id: KeyId)
     let KeyId(_n) = id;
 }
 
-fn scope_fits(scope: &Option<Text>)
+fn scope_fits(scope: &Option<Scope>)
     ensures { IsScopeOfBytes scope.now }
 {
     match scope {
-        Some(scope) => bytes_fit(scope.as_bytes()),
+        Some(scope) => bytes_fit(scope.as_text().as_bytes()),
         None => (),
     }
 }

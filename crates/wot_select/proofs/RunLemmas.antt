@@ -2,7 +2,7 @@
 use Rattle.std.proofs.Common.{◌≡◌, ◌+◌, ◌<◌, ◌≤◌, ◌==◌, ◌&&◌, not, ℕ, Bool, true, false, cond, List, [], ◌∷◌, ◌++◌, filter, take, drop, length, get_or, ◌-◌, Some, option_and_then, refl, sym, ap, subst, ◌∙◌, arith}
 use Rattle.std.specs.List.{AllByRecursion}
 use Rattle.std.proofs.lemmas.Bool.Decides.{nat_tests}
-use Rattle.std.proofs.lemmas.List.{take_more, take-append-drop}
+use Rattle.std.proofs.lemmas.List.{append-nil, take_more, take-append-drop}
 use Rattle.std.proofs.lemmas.List.Elements.{filter-append}
 use Rattle.wot_types.specs.declared.placed.Placed.{Placed}
 use Rattle.wot_types.specs.Selection.{counts_for, in_force, is_disregarded, is_earlier, later_cert, latest_cert, usable}
@@ -62,15 +62,11 @@ pub disregarded_last : (now level issuer : ℕ) (ps : List Placed) (q : Placed) 
     → usable now level issuer (ps ++ q ∷ []) ≡ usable now level issuer ps
 disregarded_last now level issuer ps q h =
     ap (λ xs. option_and_then (in_force now) (latest_cert xs))
-    (filter-append (counts_for level issuer) ps (q ∷ []) ∙ ap (λ b. filter (counts_for level issuer) ps ++ cond b (q ∷ []) []) (left_out (q.cert.issuer == issuer) (is_disregarded level q.cert) h) ∙ append_none (filter (counts_for level issuer) ps))
+    (filter-append (counts_for level issuer) ps (q ∷ []) ∙ ap (λ b. filter (counts_for level issuer) ps ++ cond b (q ∷ []) []) (left_out (q.cert.issuer == issuer) (is_disregarded level q.cert) h) ∙ append-nil (filter (counts_for level issuer) ps))
   where
     left_out : (a b : Bool) → b ≡ true → (a && not b) ≡ false
     left_out true b h = ap not h
     left_out false b h = refl
-
-    append_none : (xs : List Placed) → xs ++ [] ≡ xs
-    append_none [] = refl
-    append_none (x ∷ xs) = ap (λ ys. x ∷ ys) (append_none xs)
 
 pub usable_last : (now level issuer : ℕ) (ps : List Placed) (q : Placed) → IsRising (ps ++ q ∷ []) → IsBy issuer (ps ++ q ∷ []) → is_disregarded level q.cert ≡ false
     → usable now level issuer (ps ++ q ∷ []) ≡ in_force now q

@@ -3,7 +3,7 @@ use Rattle.std.proofs.Common.{◌≡◌, ℕ, List, [], ◌∷◌, ◌++◌, Opt
 use Rattle.std.proofs.lemmas.List.{append-nil}
 use Rattle.std.specs.List.{slice_split}
 use Rattle.wot_types.specs.Lines.{is_newline}
-use Rattle.wot_types.specs.Commands.{Command, ReadLine, cut_after, made_by, whole_commands}
+use Rattle.wot_types.specs.Commands.{ReadLine, cut_after, made_by, whole_commands}
 use Rattle.wot_types.specs.Commands.Cut.{over}
 use Rattle.wot_types.specs.LineByLine.{Position, after_line, after_lines, commands_in}
 use Rattle.wot_types.specs.Session.{after_all}

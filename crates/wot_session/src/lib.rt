@@ -30,7 +30,8 @@ use wot_words::{WordsError, program_words};
 /// The longest input of the program, in bytes.
 const LONGEST_INPUT: u64 = 1 << 36;
 
-/// Opens the store and runs the commands of the input, or the one command that the words are.
+/// Opens the store and runs the commands of the input, or the one command that the words are. What a session held at its end
+/// is not freed: the system takes it back with the process.
 pub fn run<S: Site>(alloc: Global, words: &[String], site: &mut S) -> Status
     ensures usage { result ≡ Status.Usage → command_words (map string_bytes words.now) ≡ None }
     ensures unread { command_words (map string_bytes words.now) ≡ None → (result ≡ Status.Usage) ⊎ (result ≡ Status.Memory) }

@@ -11,6 +11,7 @@ use crate::running::run_session;
 use crate::session::Session;
 use crate::stop::Stop;
 use std::alloc::Global;
+use std::mem;
 use wot_answer::{Cut, begin_block, has_block};
 use wot_site::Site;
 use wot_store::Opened;
@@ -34,12 +35,18 @@ pub fn run_opened<S: Site>(
 {
     if words.as_slice().is_empty() {
         let mut session = Session::new(alloc, opened, Cut::Between);
-        return run_session(&mut session, site, most);
+        let ended = run_session(&mut session, site, most);
+        leave(session);
+        return ended;
     }
     if !has_block(words) {
         let mut session = Session::new(alloc, opened, Cut::Between);
         match session.answer_command(site, words) {
-            Ok(()) => return Ok(session.is_refused()),
+            Ok(()) => {
+                let refused = session.is_refused();
+                leave(session);
+                return Ok(refused);
+            }
             Err(stop) => return Err(stop),
         }
     }
@@ -48,5 +55,13 @@ pub fn run_opened<S: Site>(
         Err(Mem::Memory) => return Err(Stop::Memory),
     };
     let mut session = Session::new(alloc, opened, Cut::Within(block));
-    run_session(&mut session, site, most)
+    let ended = run_session(&mut session, site, most);
+    leave(session);
+    ended
+}
+
+/// Leaves the memory of a session that is over to the system, which takes it back at the end of the process: to free it
+/// key by key would take a good part of the time of an import.
+fn leave(session: Session) {
+    mem::forget(session);
 }

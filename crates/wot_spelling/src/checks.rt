@@ -8,7 +8,7 @@ ghost use Rattle.wot_types.specs.Records.{is_capability, is_hash_byte, is_kept_c
 ghost use Rattle.wot_spelling.specs.Checks.{are_rising_entries, are_settable, are_distinct, are_importable, has_few_certs, has_scope, is_cert, is_in_range, is_marked_once, is_rising, is_sample_count, is_user, is_well_formed};
 
 use wot_types::{
-    Cert, Entry, Key, KeyId, MOST_CERTS, MOST_SAMPLE, MOST_USERS, Options, Text, Trust, User,
+    Cert, Entry, Key, KeyId, MOST_CERTS, MOST_SAMPLE, MOST_USERS, Options, Scope, Trust, User,
 };
 
 fn is_hash_byte(b: u8) -> bool
@@ -29,12 +29,12 @@ fn is_kept_class(class: u8) -> bool
     matches!(class, 0x10..=0x13 | 0x30)
 }
 
-fn has_scope(scope: &Option<Text>) -> bool
+fn has_scope(scope: &Option<Scope>) -> bool
     ensures { result ≡ has_scope scope.now }
 {
     match scope {
         None => true,
-        Some(scope) => matches!(scope.as_bytes().len(), 1..=255),
+        Some(scope) => matches!(scope.as_text().as_bytes().len(), 1..=255),
     }
 }
 

@@ -7,7 +7,7 @@ use crate::stop::Stop;
 use crate::writer::Writer;
 use std::alloc::Global;
 use std::marker::Model;
-use wot_types::{Fpr, KeyId, List, Mem, Options, Ownertrust, Text, Trust, UserKind};
+use wot_types::{Fpr, KeyId, List, Mem, Options, Ownertrust, Scope, Text, Trust, UserKind};
 
 /// The bytes that are left to read.
 #[derive(Drop)]
@@ -128,13 +128,14 @@ impl<'a> Reader<'a> {
     }
 
     #[tactic(auto, unfolding(crate::specs::Reading::scope_at))]
-    pub fn scope(&mut self, alloc: Global) -> Result<Option<Text>, Stop>
+    pub fn scope(&mut self, alloc: Global) -> Result<Option<Scope>, Stop>
         ensures { Gives (scope_at self.old) result self.new }
     {
         if !self.flag()? {
             return Ok(None);
         }
-        Ok(Some(self.text(alloc)?))
+        let text = self.text(alloc)?;
+        Ok(Some(Scope::new(alloc, text)?))
     }
 
     #[tactic(auto, unfolding(crate::specs::Reading::fpr_at))]

@@ -5,15 +5,15 @@ ghost use Rattle.wot_types.specs.Payload.{payload};
 ghost use Rattle.wot_types.specs.Numbers.{capped};
 ghost use Rattle.wot_spelling.specs.Sizes.{cert_size, entry_size, key_size, payload_size, scope_size, user_size};
 
-use wot_types::{Cert, Edit, Entry, Key, Text, User};
+use wot_types::{Cert, Edit, Entry, Key, Scope, User};
 
 #[tactic(auto, unfolding(crate::specs::Sizes::scope_size))]
-fn scope_size(scope: &Option<Text>) -> u64
+fn scope_size(scope: &Option<Scope>) -> u64
     ensures { result ≡ capped (scope_size scope.now) }
 {
     match scope {
         None => 1,
-        Some(text) => 5u64.saturating_add(text.as_bytes().len() as u64),
+        Some(scope) => 5u64.saturating_add(scope.as_text().as_bytes().len() as u64),
     }
 }
 

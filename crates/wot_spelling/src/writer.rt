@@ -8,7 +8,7 @@ ghost use Rattle.wot_types.specs.Spelling.{IsShort, ListFits, OptionsFit, number
 use crate::reader::Part;
 use std::alloc::Global;
 use std::marker::Model;
-use wot_types::{Fpr, KeyId, List, Mem, Options, Ownertrust, Text, Trust, UserKind};
+use wot_types::{Fpr, KeyId, List, Mem, Options, Ownertrust, Scope, Text, Trust, UserKind};
 
 /// The bytes that are written.
 #[derive(Drop)]
@@ -92,15 +92,15 @@ impl Writer {
     }
 
     #[tactic(auto, unfolding(wot_types::specs::Spelling::scope_bytes))]
-    pub fn scope(&mut self, scope: &Option<Text>) -> Result<(), Mem>
+    pub fn scope(&mut self, scope: &Option<Scope>) -> Result<(), Mem>
         requires { IfSome scope.now IsShort }
         ensures { OnOk result (self.new ≡ self.old ++ scope_bytes scope.now) }
     {
         match scope {
             None => self.flag(false),
-            Some(text) => {
+            Some(scope) => {
                 self.flag(true)?;
-                self.text(text)
+                self.text(scope.as_text())
             }
         }
     }

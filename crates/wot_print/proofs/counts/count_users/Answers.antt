@@ -1,12 +1,11 @@
 use Rattle.std.proofs.Common.{◌+◌, ◌∷◌, [], ◌++◌, append-nil, drop, is_some, map, option_and_then, slice_get, refl, sym, ap, ◌∙◌, arith}
-use Rattle.std.proofs.lemmas.List.{drop_all}
+use Rattle.std.proofs.lemmas.List.{append_assoc, drop_all}
 use Rattle.wot_types.specs.declared.key.Key.{Key}
 use Rattle.wot_types.specs.Letters.{user_letter}
 use Rattle.wot_types.specs.Selection.{spots_from}
 use Rattle.wot_types.proofs.Optionals.{there_is}
 use Rattle.wot_table.proofs.Placement.{length_spots}
 use Rattle.wot_levels.proofs.SpotLemmas.{at_place}
-use Rattle.wot_live.proofs.CountLemmas.{append_more}
 use Rattle.wot_print.specs.Counts.{counts_of}
 use Rattle.wot_print.proofs.counts.count_users.Goals as goal
 
@@ -36,7 +35,7 @@ loop-user-preserved g c = λ key letters is counted.
     let letter = c.letter_over.ensures key at.0 head there in (
       so_far.0 ++ f at.0 ∷ [],
       c.add.ensures so_far.0 so_far.1 ∙ ap (λ x. counts_of (so_far.0 ++ x ∷ [])) letter,
-      append_more so_far.0 (f at.0) (map f (drop (i + 1) spots)) ∙ ap (λ xs. so_far.0 ++ map f xs) (sym at.2) ∙ so_far.2,
+      append_assoc so_far.0 (f at.0 ∷ []) (map f (drop (i + 1) spots)) ∙ ap (λ xs. so_far.0 ++ map f xs) (sym at.2) ∙ so_far.2,
     )
 
 pub returns : goal.returns

@@ -1,5 +1,6 @@
-use Rattle.std.proofs.Common.{◌≡◌, map}
+use Rattle.std.specs.FinMap.{values}
+use Rattle.wot_listing.proofs.PlaceLemmas.{IsTaking}
 use Rattle.wot_listing.proofs.block_keys.BlockKeys.into_keys.Given as goal
 
-abbrev pub invariant-loop-key : goal.invariant-loop-key
-invariant-loop-key l = l.all ≡ map (λ e. e.1) l.yielded
+abbrev pub invariant-loop-place : goal.invariant-loop-place
+invariant-loop-place l = IsTaking (values l.fn.self) l.all l.keys.items l.place-iterator
