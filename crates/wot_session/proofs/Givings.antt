@@ -1,5 +1,5 @@
 -- What an answer does to the store, and then its reply.
-use Rattle.std.proofs.Common.{◌≡◌, inl, inr, ℕ, List, [], ◌++◌, Option, Some, None, refl, sym, ap, ◌∙◌, subst, append_assoc}
+use Rattle.std.proofs.Common.{◌≡◌, inl, inr, ℕ, List, [], ◌++◌, Option, Some, None, refl, sym, ap, ◌∙◌, subst, append_assoc, arith}
 use Rattle.std.proofs.lemmas.List.{append-nil}
 use Rattle.wot_types.specs.Store.{Store}
 use Rattle.wot_types.specs.declared.edit.Edit.{Edit}
@@ -16,8 +16,10 @@ use Rattle.wot_store.specs.Appending.{Appending, Appends, IsNext, IsRecordOf}
 use Rattle.wot_store.specs.Shows.{IsStored}
 use Rattle.wot_session.specs.Here.{Holds}
 use Rattle.wot_session.specs.Kept.{AllShow, AllShowEither, IsAround}
+use Rattle.wot_session.specs.Rests.{Rests}
 use Rattle.wot_session.specs.Told.{Given, GivenPrefix, IsTelling, Telling, TellingPrefix}
 use Rattle.wot_session.proofs.Keeping.{stored_shows}
+use Rattle.wot_session.proofs.Resting.{rests_telling, rests_then}
 
 -- nothing is done to the store
 still : (s : Store) (seen : Option Seen) → Holds seen s → Honestly seen seen (Appending s s)
@@ -35,6 +37,10 @@ record_of built s t leads = record { place = leads.place; spells = leads.payload
 pub leads_next : (built : Framed) (s t : Store) (seen : Option Seen) → Leads built s t → Holds seen s → IfHonest seen (λ x. IsNext built x.disks)
 leads_next built s t None leads holds = tt
 leads_next built s t (Some x) leads holds = record { shown = s; edit = leads.edit; stored = holds; record_of = record_of built s t leads }
+
+-- the store after it is another: its journal's end is further on
+pub leads_on : (built : Framed) (s t : Store) → Leads built s t → t ≡ s → ⊥
+leads_on built s t leads same = omega (arith, ap (λ (store : Store). store.end) (sym leads.after ∙ same))
 
 -- what is stored after it
 pub appending_is : (built : Framed) (s t : Store) (a b : Option Seen) → Leads built s t
@@ -73,7 +79,7 @@ telling_around s t reply x y m same stored is =
       answered = inl shows;
     }
 
-module _ (s t : Store) (reply : List ℕ) (x y : Seen) (works : Appending s t x y) where
+module _ (s t : Store) (reply : List ℕ) (x y : Seen) (works : Appending s t x y) (rests : t ≡ s → Rests x y) where
   before_reply : Since (IsAround s t reply x.told) x y
   before_reply = since_weaker _ _ x y (λ m at. working_around s t reply x.told m at.told at.disks) works.since
 
@@ -87,6 +93,7 @@ module _ (s t : Store) (reply : List ℕ) (x y : Seen) (works : Appending s t x 
     };
     since = before_reply;
     here = working_around s t reply x.told (moment_of y) works.told works.last;
+    rests = rests;
   }
 
   module _ (z : Seen) (stored : IsStored t y.disks) where
@@ -108,6 +115,7 @@ module _ (s t : Store) (reply : List ℕ) (x y : Seen) (works : Appending s t x 
         asks = telling.told.asks ∙ works.asks;
       };
       since = since_then _ x y z before_reply (since_weaker _ _ y z (while_told reply ([], append-nil reply)) telling.since);
+      rests = λ same. rests_then x y z (rests same) (rests_telling reply y z telling);
     }
 
     -- a prefix of it
@@ -128,22 +136,33 @@ module _ (s t : Store) (reply : List ℕ) (x y : Seen) (works : Appending s t x 
           since = since_then _ x y z before_reply (since_weaker _ _ y z (while_told part.prefix part.is_prefix) telling.since);
           here = telling_around s t reply x y (moment_of z) works.told stored
               (record { disks = telling.disks; prefix = part.prefix; is_prefix = part.is_prefix; told = telling.told.told });
+          rests = λ same. rests_then x y z (rests same) (rests_telling part.prefix y z telling);
         }
 
 pub still_holds : (t : Store) (reply : List ℕ) (a b : Option Seen) → Holds a t → Honestly a b (Telling reply) → Holds b t
 still_holds t reply a b holds telling =
     honest_after _ (λ z. IsStored t z.disks) (Telling reply) a b holds telling (λ y z stored told. subst (IsStored t) (sym told.disks) stored)
 
+-- what is done to the store, and nothing is written where it stays
+abbrev pub Doing : Store → Store → Seen → Seen → Type 0
+Doing s t x y = Appending s t x y × (t ≡ s → Rests x y)
+
+pub doing : (s t : Store) (a b : Option Seen) → Honestly a b (Appending s t) → (t ≡ s → Honestly a b Rests) → Honestly a b (Doing s t)
+doing s t None None works rests = tt
+doing s t None (Some y) works rests = absurd works
+doing s t (Some x) None works rests = absurd works
+doing s t (Some x) (Some y) works rests = (works, rests)
+
 -- both steps of a site: the store, and then the reply
-module _ (s t : Store) (a b c : Option Seen) (holds : Holds b t) (works : Honestly a b (Appending s t)) where
+module _ (s t : Store) (a b c : Option Seen) (holds : Holds b t) (does : Honestly a b (Doing s t)) where
   pub giving_all : (text reply : List ℕ) → text ≡ reply → Honestly b c (Telling text) → Honestly a c (Given s t reply)
   giving_all text reply same tells =
-      honest_then _ _ _ a b c works
+      honest_then _ _ _ a b c does
       (honest_with (λ y. IsStored t y.disks) (Telling text) (λ y z. IsStored t y.disks × Telling text y z) b c holds tells (λ y z stored tells. (stored, tells)))
-      (λ x y z works told. subst (λ reply. Given s t reply x z) same (given_all s t text x y works z told.0 told.1))
+      (λ x y z does told. subst (λ reply. Given s t reply x z) same (given_all s t text x y does.0 does.1 z told.0 told.1))
 
   pub giving_prefix : (text reply : List ℕ) → text ≡ reply → Honestly b c (TellingPrefix text) → Honestly a c (GivenPrefix s t reply)
   giving_prefix text reply same tells =
-      honest_then _ _ _ a b c works
+      honest_then _ _ _ a b c does
       (honest_with (λ y. IsStored t y.disks) (TellingPrefix text) (λ y z. IsStored t y.disks × TellingPrefix text y z) b c holds tells (λ y z stored tells. (stored, tells)))
-      (λ x y z works told. subst (λ reply. GivenPrefix s t reply x z) same (given_prefix s t text x y works z told.0 told.1))
+      (λ x y z does told. subst (λ reply. GivenPrefix s t reply x z) same (given_prefix s t text x y does.0 does.1 z told.0 told.1))

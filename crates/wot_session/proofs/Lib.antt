@@ -7,6 +7,7 @@ mod Openings
 mod Outcomes
 mod Parts
 mod Prefixes
+mod Resting
 mod Runs
 mod Sayings
 mod Splits

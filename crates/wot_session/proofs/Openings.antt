@@ -13,7 +13,7 @@ use Rattle.wot_site.specs.Seen.{Honestly, Seen}
 use Rattle.wot_site.specs.Work.{Quiet, Since, moment_of}
 use Rattle.wot_site.proofs.Honest.{And, honest_and, honest_weaker}
 use Rattle.wot_store.specs.declared.error.BadStore.{BadStore}
-use Rattle.wot_store.specs.Opening.{FindsBad, Opening, Opens}
+use Rattle.wot_store.specs.Opening.{FindsBad, Opening, Opens, WritesOnlyBlank}
 use Rattle.wot_store.specs.Shows.{IsStored, Shows, ShowsAs}
 use Rattle.wot_store.proofs.Openings.{same_reads}
 use Rattle.wot_store.proofs.Unique.{shows_once}
@@ -26,7 +26,8 @@ use Rattle.wot_session.specs.Here.{Holds}
 use Rattle.wot_session.specs.Input as input
 use Rattle.wot_session.specs.Input.{HasQuit, IsOnTime, IsPunctual, IsRead, commands_at}
 use Rattle.wot_session.specs.Kept.{IsPrefixOf, IsSafe, IsWhole, Kept}
-use Rattle.wot_session.specs.Run.{Ended, IsCrashSafe, Ran, Stopped, Unopened}
+use Rattle.wot_session.specs.Rests.{Rests, edit_count}
+use Rattle.wot_session.specs.Run.{Ended, IsCrashSafe, Ran, Stopped, Unopened, WritesForEdits}
 use Rattle.wot_session.specs.Stop.{status_of}
 use Rattle.wot_session.specs.Told.{IsAnswering, Said, SaidPrefix}
 use Rattle.wot_session.specs.Words.{IsUnread, Read, WordsEnded, WordsStopped}
@@ -34,6 +35,7 @@ use Rattle.wot_session.specs.declared.stop.Stop.{Stop}
 use Rattle.wot_session.specs.declared.stop.Stop.TheVariants.{DiskFault, Memory, ReadFault, TellFault, TooLong}
 use Rattle.wot_session.proofs.Keeping.{kept_here, stored_shows, whole_here}
 use Rattle.wot_session.proofs.Prefixes.{kept_safe, whole_exact}
+use Rattle.wot_session.proofs.Resting.{rests_here, untouched_then}
 use Rattle.wot_session.proofs.Turns.{is_memory, no_long, no_read}
 
 -- an opening takes and tells nothing
@@ -103,8 +105,8 @@ safe_then store commands x y z told safe since = record {
 }
 
 -- the store was not opened
-pub unopened : (words : List (List ℕ)) (x y : Seen) → Opening x y → Unopened words x y
-unopened words x y opening =
+pub unopened : (words : List (List ℕ)) (x y : Seen) → Opening x y → WritesOnlyBlank x y → Unopened words x y
+unopened words x y opening unwritten =
     let quiet = still x y opening in
     record {
       opening = opening;
@@ -112,9 +114,10 @@ unopened words x y opening =
       left = quiet.left;
       asks = quiet.asks;
       safe = λ store shows. opening_safe store (commands_of words x.left) x y shows opening;
+      untouched = λ there. untouched_then x y y (unwritten there) (rests_here y);
     }
 
-module _ (store : Store) (words : List (List ℕ)) (x y : Seen) (opening : Opening x y) (opens : Opens store x y) where
+module _ (store : Store) (words : List (List ℕ)) (x y : Seen) (opening : Opening x y) (opens : Opens store x y) (unwritten : WritesOnlyBlank x y) where
   punctual_later : (z : Seen) → IsPunctual (at_first store words) y z → IsPunctual (at_first store words) x z
   punctual_later z punctual =
       let quiet = still x y opening in
@@ -132,6 +135,10 @@ module _ (store : Store) (words : List (List ℕ)) (x y : Seen) (opening : Openi
       safe_then store (commands_of words x.left) x y z quiet.told (opening_safe store (commands_of words x.left) x y opens.before opening)
       (subst (λ left. Since (Kept (at_start store) (commands_of words left) y.told) y z) quiet.left since)
 
+  untouched_later : (z : Seen) → (edit_count (at_start store) (commands_of words y.left) ≡ 0 → Rests y z) → WritesForEdits store (commands_of words x.left) x z
+  untouched_later z rests there none =
+      untouched_then x y z (unwritten there) (rests (subst (λ left. edit_count (at_start store) (commands_of words left) ≡ 0) (sym (still x y opening).left) none))
+
   -- the run came to its end
   pub opened_ended : (most : ℕ) (refused : Bool) (z : Seen) → WordsEnded store words most refused y z → Ended words most refused x z
   opened_ended most refused z ended =
@@ -145,6 +152,7 @@ module _ (store : Store) (words : List (List ℕ)) (x y : Seen) (opening : Openi
         stored = rw (← quiet.left) ended.stored;
         punctual = punctual_later z ended.punctual;
         safe = safe_later z ended.since;
+        untouched = untouched_later z ended.rests;
       }
     where
       read_later : Still x y → (b : Bool) → Read (at_first store words) b most y z → Read (at_first store words) b most x z
@@ -174,6 +182,7 @@ module _ (store : Store) (words : List (List ℕ)) (x y : Seen) (opening : Openi
         too_long = λ is. rw (← quiet.told, ← quiet.taken, ← quiet.left) (stopped.too_long is);
         punctual = punctual_later z stopped.punctual;
         safe = safe_later z stopped.since;
+        untouched = untouched_later z stopped.rests;
         here = kept_safe (at_start store) (commands_of words x.left) x.told (moment_of z) here;
         exact = λ between. whole_exact (at_start store) (commands_of words x.left) x.told stopped.text z told
             (subst (λ t. IsWhole (at_start store) (commands_of words x.left) t z) quiet.told (subst (λ left. IsWhole (at_start store) (commands_of words left) y.told z) quiet.left (stopped.whole between)));
@@ -192,6 +201,7 @@ module _ (store : Store) (words : List (List ℕ)) (takes : takes_input words �
     stored = subst (λ commands. IsStored (after_all (at_start store) commands).store z.disks) (same_input y.left) ended.stored;
     punctual = ended.punctual;
     since = subst (λ commands. Since (Kept (at_start store) commands y.told) y z) (same_input y.left) ended.since;
+    rests = subst (λ commands. edit_count (at_start store) commands ≡ 0 → Rests y z) (same_input y.left) ended.rests;
   }
 
   pub input_stopped : (most : ℕ) (stop : Stop) → input.Stopped (at_first store words) most stop y z → WordsStopped store words most stop y z
@@ -206,6 +216,7 @@ module _ (store : Store) (words : List (List ℕ)) (takes : takes_input words �
     since = subst (λ commands. Since (Kept (at_start store) commands y.told) y z) (same_input y.left) stopped.since;
     here = subst (λ commands. Kept (at_start store) commands y.told (moment_of z)) (same_input y.left) stopped.here;
     whole = λ between. subst (λ commands. IsWhole (at_start store) commands y.told z) (same_input y.left) (stopped.whole between);
+    rests = subst (λ commands. edit_count (at_start store) commands ≡ 0 → Rests y z) (same_input y.left) stopped.rests;
   }
 
 -- a run of one command without a block
@@ -233,6 +244,7 @@ module _ (store : Store) (words : List (List ℕ)) (some : words ≡ [] → ⊥)
         stored = subst (λ commands. IsStored (after_all (at_start store) commands).store z.disks) same stored;
         punctual = record { since = []; asks = said.told.asks ∙ sym (append-nil y.asks); each = All-nil _ };
         since = subst (λ commands. Since (Kept (at_start store) commands y.told) y z) same said.since;
+        rests = subst (λ commands. edit_count (at_start store) commands ≡ 0 → Rests y z) same said.rests;
       }
 
   pub one_stopped : (most : ℕ) (stop : Stop) → IsAnswering stop → SaidPrefix (at_start store) (begun_command words ∷ []) stop y z → WordsStopped store words most stop y z
@@ -250,6 +262,7 @@ module _ (store : Store) (words : List (List ℕ)) (some : words ≡ [] → ⊥)
         since = subst (λ commands. Since (Kept (at_start store) commands y.told) y z) same said.since;
         here = subst (λ commands. Kept (at_start store) commands y.told (moment_of z)) same said.here;
         whole = λ between. subst (λ commands. IsWhole (at_start store) commands y.told z) same (said.whole (is_memory stop kind between));
+        rests = subst (λ commands. edit_count (at_start store) commands ≡ 0 → Rests y z) same said.rests;
       }
 
 -- no memory for the block of the one command
@@ -267,6 +280,7 @@ words_nothing_at store words most x stored =
       since = record { first = here; moments = []; is = sym (append-nil x.moments); each = All-nil _ };
       here = here;
       whole = λ _. whole_here (at_start store) (commands_of words x.left) x.told x refl stored;
+      rests = λ _. rests_here x;
     }
 
 pub words_nothing : (store : Store) (words : List (List ℕ)) (most : ℕ) (a : Option Seen) → Holds a store → Honestly a a (WordsStopped store words most Memory)
@@ -304,8 +318,8 @@ first_block block [] some is = absurd (some refl)
 first_block block (name ∷ words) some is = is
 
 -- the store is bad
-pub bad_ran : (words : List (List ℕ)) (bad : BadStore) (a b : Option Seen) → Honestly a b Opening → Honestly a b (FindsBad bad)
+pub bad_ran : (words : List (List ℕ)) (bad : BadStore) (a b : Option Seen) → Honestly a b (And Opening WritesOnlyBlank) → Honestly a b (FindsBad bad)
     → Honestly a b (λ x y. Unopened words x y × FindsBad bad x y)
 bad_ran words bad a b opening finds =
-    honest_weaker (And Opening (FindsBad bad)) (λ x y. Unopened words x y × FindsBad bad x y) a b (honest_and Opening (FindsBad bad) a b opening finds)
-    (λ x y both. (unopened words x y both.0, both.1))
+    honest_weaker (And (And Opening WritesOnlyBlank) (FindsBad bad)) (λ x y. Unopened words x y × FindsBad bad x y) a b (honest_and (And Opening WritesOnlyBlank) (FindsBad bad) a b opening finds)
+    (λ x y both. (unopened words x y both.0.0 both.0.1, both.1))

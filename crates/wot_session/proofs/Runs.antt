@@ -18,11 +18,13 @@ use Rattle.wot_session.specs.declared.stop.Stop.{Stop}
 use Rattle.wot_session.specs.AtEnd.{at_end, last_commands}
 use Rattle.wot_session.specs.Fed.{open_from}
 use Rattle.wot_session.specs.Kept.{IsPrefixOf, IsWhole, Kept}
+use Rattle.wot_session.specs.Rests.{Rests, edit_count}
 use Rattle.wot_session.specs.Told.{IsAnswering, Said, SaidPrefix}
 use Rattle.wot_session.specs.Turn.{StoppedTurn, TookAll, Turned, commands_fed}
 use Rattle.wot_session.specs.Input.{Ended, IsOnTime, IsPunctual, Stopped, commands_at, cut_at, end_at, so_far_at, whole_at}
 use Rattle.wot_session.proofs.Inputs.{commands_end, commands_more, commands_over, cut_more, end_is, fed_cut, output_is, position_after, progress_after, so_far_append, so_far_prefix, whole_more}
 use Rattle.wot_session.proofs.Keeping.{kept_more, kept_then, stored_shows, whole_then, whole_more as whole_before}
+use Rattle.wot_session.proofs.Resting.{none_before, rests_both, rests_here}
 use Rattle.wot_session.proofs.Turns.{is_memory, no_long, no_read}
 
 -- a call of `take` after these bytes were fed, and all replies to the commands that are whole in them told
@@ -48,6 +50,7 @@ pub record Heard (s : Position) (fed : List ℕ) (first now : Seen) : Type 0 whe
   pub told : now.told ≡ first.told ++ so_far_at s fed
   pub timely : Timely s first now
   pub since : Since (Kept s.progress (whole_at s fed) first.told) first now
+  pub rests : edit_count s.progress (whole_at s fed) ≡ 0 → Rests first now
 
 -- the same, nothing else was taken, and `quit` did not come
 pub record Reached (s : Position) (fed : List ℕ) (first now : Seen) : Type 0 where
@@ -69,6 +72,7 @@ reached_start s x stored goes = record {
     told = sym (append-nil x.told);
     timely = record { since = []; asks = sym (append-nil x.asks); each = All-nil _ };
     since = since_start _ x (refl, stored_shows s.progress.store x.disks stored);
+    rests = λ _. rests_here x;
   };
   left = refl;
   taken = omega arith;
@@ -165,6 +169,12 @@ module _ (s : Position) where
       (since_weaker _ _ first now (kept_more s.progress (whole_at s fed) more first.told) heard.since)
       (since_weaker _ _ now next (λ m. kept_behind fed more first now m heard.told) later)
 
+  -- the same where nothing was written
+  rests_behind : (fed : List ℕ) (more : List Command) (first now next : Seen) → Heard s fed first now
+      → (edit_count (position_after s fed).progress more ≡ 0 → Rests now next) → edit_count s.progress (whole_at s fed ++ more) ≡ 0 → Rests first next
+  rests_behind fed more first now next heard later =
+      rests_both s.progress (whole_at s fed) more first now next heard.rests (λ none. later (subst (λ p. edit_count p more ≡ 0) (sym (progress_after s fed)) none))
+
   pub heard_more : (fed piece : List ℕ) (first now next : Seen) → Reached s fed first now
       → Turned (position_after s fed) (open_from (Some []) fed) piece now next → Heard s (fed ++ piece) first next
   heard_more fed piece first now next reached turned = record {
@@ -174,6 +184,8 @@ module _ (s : Position) where
     timely = timely_asked fed first now next _ reached turned.told (inl turned.asks);
     since = subst (λ commands. Since (Kept s.progress commands first.told) first next) (sym (whole_more s fed piece))
         (since_behind fed (commands_fed (position_after s fed) (open_from (Some []) fed) piece) first now next reached.heard turned.since);
+    rests = subst (λ commands. edit_count s.progress commands ≡ 0 → Rests first next) (sym (whole_more s fed piece))
+        (rests_behind fed (commands_fed (position_after s fed) (open_from (Some []) fed) piece) first now next reached.heard turned.rests);
   }
 
   pub reached_more : (fed piece : List ℕ) (first now next : Seen) → Reached s fed first now
@@ -213,6 +225,7 @@ module _ (s : Position) where
         stored = subst (λ (p : Progress). IsStored p.store next.disks) end stored;
         punctual = punctual first next heard.timely;
         since = subst (λ commands. Since (Kept s.progress commands first.told) first next) (sym all) heard.since;
+        rests = subst (λ commands. edit_count s.progress commands ≡ 0 → Rests first next) (sym all) heard.rests;
       }
 
   -- the turn stopped
@@ -246,6 +259,8 @@ module _ (s : Position) where
             (kept_behind fed (piece_commands ++ others) first now (moment_of next) heard.told (kept_more (position_after s fed).progress piece_commands others now.told (moment_of next) stopped.here));
         whole = λ between. subst (λ commands. IsWhole s.progress commands first.told next) (sym all)
             (whole_behind fed (piece_commands ++ others) first now next heard.told (whole_before (position_after s fed).progress piece_commands others now.told next (stopped.whole between)));
+        rests = subst (λ commands. edit_count s.progress commands ≡ 0 → Rests first next) (sym all)
+            (rests_behind fed (piece_commands ++ others) first now next heard (λ none. stopped.rests (none_before (position_after s fed).progress piece_commands others none)));
       }
     where
       piece_commands : List Command
@@ -297,6 +312,8 @@ module _ (s : Position) where
         punctual = punctual first next (timely_told first now next _ heard.timely said.told.told said.told.asks);
         since = subst (λ commands. Since (Kept s.progress commands first.told) first next) (sym (end_commands fed first now end))
             (since_behind fed _ first now next heard said.since);
+        rests = subst (λ commands. edit_count s.progress commands ≡ 0 → Rests first next) (sym (end_commands fed first now end))
+            (rests_behind fed _ first now next heard said.rests);
       }
 
   pub stop_end : (most : ℕ) (stop : Stop) (fed : List ℕ) (first now next : Seen) → IsAnswering stop
@@ -318,4 +335,5 @@ module _ (s : Position) where
         here = subst (λ commands. Kept s.progress commands first.told (moment_of next)) all (kept_behind fed _ first now (moment_of next) heard.told said.here);
         whole = λ between. subst (λ commands. IsWhole s.progress commands first.told next) all
             (whole_behind fed _ first now next heard.told (said.whole (is_memory stop kind between)));
+        rests = subst (λ commands. edit_count s.progress commands ≡ 0 → Rests first next) all (rests_behind fed _ first now next heard said.rests);
       }

@@ -18,11 +18,12 @@ use Rattle.wot_session.specs.Told.{Given, GivenPrefix, IsGiving, Said, SaidPrefi
 use Rattle.wot_session.specs.declared.stop.Stop.{Stop}
 use Rattle.wot_session.specs.declared.stop.Stop.TheVariants.{Memory}
 use Rattle.wot_session.proofs.Keeping.{kept_here, kept_more, kept_then, stored_shows, whole_here, whole_more, whole_then}
+use Rattle.wot_session.proofs.Resting.{no_edit, none_before, rests_both, rests_here}
 use Rattle.wot_session.proofs.Texts.{told_none, told_then, told_then_prefix, prefix_more}
 
 -- nothing was done yet
 pub said_none : (p : Progress) (x : Seen) → IsStored p.store x.disks → Said p [] x x
-said_none p x stored = record { told = told_none x; since = since_start _ x (refl, stored_shows p.store x.disks stored) }
+said_none p x stored = record { told = told_none x; since = since_start _ x (refl, stored_shows p.store x.disks stored); rests = λ _. rests_here x }
 
 -- where there is no reply and the store stays
 none_kept : (p : Progress) (told : List ℕ) (m : Moment) → IsAround p.store p.store [] told m → Kept p [] told m
@@ -75,6 +76,7 @@ pub given_said : (p : Progress) (commands : List Command) (x y : Seen) → AtMos
 given_said p commands x y one given = record {
   told = given.told;
   since = since_weaker _ _ x y (λ m. around_kept p commands x.told m one) given.since;
+  rests = λ none. given.rests (no_edit p commands none);
 }
 
 pub given_said_prefix : (p : Progress) (commands : List Command) (stop : Stop) (x y : Seen) → AtMostOne commands → IsGiving stop
@@ -84,6 +86,7 @@ given_said_prefix p commands stop x y one kind given = record {
   since = since_weaker _ _ x y (λ m. around_kept p commands x.told m one) given.since;
   here = around_kept p commands x.told (moment_of y) one given.here;
   whole = λ is. absurd (other kind is);
+  rests = λ none. given.rests (no_edit p commands none);
 }
   where
     other : IsGiving stop → stop ≡ Memory → ⊥
@@ -99,6 +102,7 @@ said_nothing p commands x stored =
       since = since_start _ x here;
       here = here;
       whole = λ _. whole_here p commands x.told x refl stored;
+      rests = λ _. rests_here x;
     }
 
 pub no_memory : (p : Progress) (commands : List Command) (a : Option Seen) → Holds a p.store → Honestly a a (SaidPrefix p commands Memory)
@@ -113,6 +117,7 @@ module _ (p : Progress) (xs ys : List Command) (x y : Seen) where
   said_then z before after = record {
     told = rw (commands_append p xs ys) (told_then _ _ x y z before.told after.told);
     since = since_then _ x y z (since_weaker _ _ x y (kept_more p xs ys x.told) before.since) (since_weaker _ _ y z (later before.told.told) after.since);
+    rests = rests_both p xs ys x y z before.rests after.rests;
   }
 
   pub said_then_prefix : (stop : Stop) (z : Seen) → Said p xs x y → SaidPrefix (after_all p xs) ys stop y z → SaidPrefix p (xs ++ ys) stop x z
@@ -121,6 +126,7 @@ module _ (p : Progress) (xs ys : List Command) (x y : Seen) where
     since = since_then _ x y z (since_weaker _ _ x y (kept_more p xs ys x.told) before.since) (since_weaker _ _ y z (later before.told.told) after.since);
     here = later before.told.told (moment_of z) after.here;
     whole = λ is. whole_then p xs ys x.told z (subst (λ t. IsWhole (after_all p xs) ys t z) before.told.told (after.whole is));
+    rests = rests_both p xs ys x y z before.rests after.rests;
   }
 
   -- some commands were answered, and there was no memory for the others
@@ -133,6 +139,7 @@ module _ (p : Progress) (xs ys : List Command) (x y : Seen) where
     since = since_weaker _ _ x y (kept_more p xs ys x.told) said.since;
     here = kept_more p xs ys x.told (moment_of y) said.here;
     whole = λ is. whole_more p xs ys x.told y (said.whole is);
+    rests = λ none. said.rests (none_before p xs ys none);
   }
 
 not_empty : (b : ℕ) (bytes : List ℕ) → (length (b ∷ bytes) == 0) ≡ false

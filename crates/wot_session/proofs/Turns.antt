@@ -19,9 +19,11 @@ use Rattle.wot_session.specs.declared.stop.Stop.TheVariants.{ReadFault, Memory, 
 use Rattle.wot_session.specs.declared.session.Session.{Session}
 use Rattle.wot_session.specs.Here.{Holds, IsHere}
 use Rattle.wot_session.specs.Kept.{IsWhole, Kept}
+use Rattle.wot_session.specs.Rests.{Rests}
 use Rattle.wot_session.specs.Told.{IsAnswering, Said, SaidPrefix}
 use Rattle.wot_session.specs.Turn.{IsBetween, StoppedTurn, TookAll, Turned, commands_fed, cut_fed}
 use Rattle.wot_session.proofs.Keeping.{kept_here, stored_shows, whole_all, whole_here, whole_kept}
+use Rattle.wot_session.proofs.Resting.{rests_still, rests_then}
 
 -- `take` leaves the store
 disks_asked : (store : Store) (x y : Seen) → IsStored store x.disks → TakesNothing x y → IsStored store y.disks
@@ -71,6 +73,7 @@ turn_failed p line room x y stored nothing =
       };
       here = kept_here p.progress commands x.told (moment_of y) (told_same nothing) (stored_shows _ y.disks after);
       whole = λ _. whole_here p.progress commands x.told y (told_same nothing) after;
+      rests = λ _. rests_still x y (disks_same nothing) (moments_same nothing);
     }
   where
     told_same : TakesNothing x y → y.told ≡ x.told
@@ -89,6 +92,10 @@ turn_failed p line room x y stored nothing =
     moments_same (inl noted) = ap (λ (s : Seen). s.moments) noted
     moments_same (inr stays) = ap (λ (s : Seen). s.moments) stays
 
+    disks_same : TakesNothing x y → y.disks ≡ x.disks
+    disks_same (inl noted) = ap (λ (s : Seen). s.disks) noted
+    disks_same (inr stays) = ap (λ (s : Seen). s.disks) stays
+
 module _ (n : ℕ) (buf : List ℕ) {x y : Seen} (takes : Takes n buf x y) where
   -- the first bytes of the buffer are the first of the input
   piece_is : (m : ℕ) → m ≤ n → take m buf ≡ take m x.left
@@ -106,6 +113,10 @@ module _ (n : ℕ) (buf : List ℕ) {x y : Seen} (takes : Takes n buf x y) where
       subst (λ (y : Seen). Since (Kept p.progress commands y.told) y z → Since (Kept p.progress commands x.told) x z) (sym takes.after)
       (λ since. record { first = since.first; moments = since.moments; is = since.is; each = since.each })
 
+  -- `take` writes nothing
+  rests_before : (z : Seen) → Rests y z → Rests x z
+  rests_before z rests = rests_then x y z (rests_still x y (ap (λ (s : Seen). s.disks) takes.after) (ap (λ (s : Seen). s.moments) takes.after)) rests
+
   module _ (m : ℕ) (within : m ≤ n) (p : Position) (line : Option (List ℕ)) where
     -- the lines of the first bytes that came were answered: of all, or up to `quit`
     pub turn_read : (z : Seen) → 0 < length buf → n ≤ length buf → (n ≡ m) ⊎ (cut_fed p line (take m buf) ≡ over)
@@ -121,6 +132,7 @@ module _ (n : ℕ) (buf : List ℕ) {x y : Seen} (takes : Takes n buf x y) where
           told = said.told.told ∙ ap (λ told. told ++ replies p.progress (commands_fed p line (take m buf))) told_same;
           asks = said.told.asks ∙ ap (λ (s : Seen). s.asks) takes.after;
           since = from_before p (commands_fed p line (take m buf)) z said.since;
+          rests = λ none. rests_before z (said.rests none);
         }
       where
         took_all : length (take m buf) ≡ m → z.left ≡ drop n x.left → z.taken ≡ x.taken + n → (n ≡ m) ⊎ (cut_fed p line (take m buf) ≡ over)
@@ -147,6 +159,7 @@ module _ (n : ℕ) (buf : List ℕ) {x y : Seen} (takes : Takes n buf x y) where
       since = from_before p (commands_fed p line (take m buf)) z said.since;
       here = subst (λ told. Kept p.progress (commands_fed p line (take m buf)) told (moment_of z)) told_same said.here;
       whole = λ between. subst (λ told. IsWhole p.progress (commands_fed p line (take m buf)) told z) told_same (said.whole (is_memory stop kind between));
+      rests = λ none. rests_before z (said.rests none);
     }
 
     -- more bytes came than there is room for, and no `quit` among those that there is room for
@@ -174,6 +187,7 @@ module _ (n : ℕ) (buf : List ℕ) {x y : Seen} (takes : Takes n buf x y) where
           since = from_before p commands z said.since;
           here = whole_kept p.progress commands x.told z whole;
           whole = λ _. whole;
+          rests = λ none. rests_before z (said.rests none);
         }
 
 pub few : (n room m : ℕ) → m ≡ min n room → m ≤ n

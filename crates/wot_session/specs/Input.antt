@@ -10,6 +10,7 @@ use Rattle.wot_site.specs.Work.{Since, moment_of}
 use Rattle.wot_site.specs.declared.asked.Asked.{Asked}
 use Rattle.wot_store.specs.Shows.{IsStored}
 use Rattle.wot_session.specs.Kept.{IsPrefixOf, IsWhole, Kept}
+use Rattle.wot_session.specs.Rests.{Rests, edit_count}
 use Rattle.wot_session.specs.Turn.{IsBetween}
 use Rattle.wot_session.specs.declared.stop.Stop.{Stop}
 use Rattle.wot_session.specs.declared.stop.Stop.TheVariants.{ReadFault, TooLong}
@@ -63,6 +64,7 @@ pub record Ended (s : Position) (most : ℕ) (refused : Bool) (old new : Seen) :
   pub stored : IsStored (end_at s old.left).store new.disks
   pub punctual : IsPunctual s old new
   pub since : Since (Kept s.progress (commands_at s old.left) old.told) old new
+  pub rests : edit_count s.progress (commands_at s old.left) ≡ 0 → Rests old new
 
 -- it stopped, and a prefix of the replies was told. The input is too long only where more bytes than the bound were taken
 pub record Stopped (s : Position) (most : ℕ) (stop : Stop) (old new : Seen) : Type 0 where
@@ -76,3 +78,4 @@ pub record Stopped (s : Position) (most : ℕ) (stop : Stop) (old new : Seen) : 
   pub since : Since (Kept s.progress (commands_at s old.left) old.told) old new
   pub here : Kept s.progress (commands_at s old.left) old.told (moment_of new)
   pub whole : IsBetween stop → IsWhole s.progress (commands_at s old.left) old.told new
+  pub rests : edit_count s.progress (commands_at s old.left) ≡ 0 → Rests old new

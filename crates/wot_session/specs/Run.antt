@@ -8,11 +8,13 @@ use Rattle.wot_types.specs.Session.{acknowledged_count, at_start, commands_of, e
 use Rattle.wot_site.specs.Disk.{Leaves, reads_of}
 use Rattle.wot_site.specs.Seen.{Faults, Moment, Seen}
 use Rattle.wot_site.specs.Site.{NoneFell, Stays}
-use Rattle.wot_site.specs.Work.{Quiet, moment_of}
+use Rattle.wot_site.specs.Work.{Quiet, Since, moment_of}
+use Rattle.wot_store.specs.Base.{IsBlank}
 use Rattle.wot_store.specs.Opening.{FindsBad, IsSettled, IsUnwritten, Opening}
 use Rattle.wot_store.specs.Shows.{IsStored, Shows}
 use Rattle.wot_session.specs.Input.{IsPunctual, cut_at, so_far_at}
 use Rattle.wot_session.specs.Kept.{IsPrefixOf, IsSafe, ShowsState}
+use Rattle.wot_session.specs.Rests.{edit_count}
 use Rattle.wot_session.specs.Stop.{Causes}
 use Rattle.wot_session.specs.Turn.{IsBetween}
 use Rattle.wot_session.specs.Words.{IsUnread, Read}
@@ -39,6 +41,15 @@ pub record IsCrashSafe (store : Store) (commands : List Command) (old new : Seen
   pub before : All (IsOfStart old) first
   pub each : All (IsSafe (at_start store) commands old.told) later
 
+-- nothing was written: at each moment and at the end the sides read as at the start, and each image is one of those that there were
+pub record IsUntouched (old new : Seen) : Type 0 where
+  pub since : Since (λ m. IsUnwritten old.disks m.disks) old new
+  pub last : IsUnwritten old.disks new.disks
+
+-- a first side is written where side Zero is blank, and a record for each accepted edit; without either nothing is
+abbrev pub WritesForEdits : Store → List Command → Seen → Seen → Type 0
+WritesForEdits store commands old new = (IsBlank old.disks.zero.reads → ⊥) → edit_count (at_start store) commands ≡ 0 → IsUntouched old new
+
 -- the run came to its end: the whole output was told, and every image shows the last store, with its journal's end and epoch
 pub record Ended (words : List (List ℕ)) (most : ℕ) (refused : Bool) (old new : Seen) : Type 0 where
   pub store : Store
@@ -49,6 +60,7 @@ pub record Ended (words : List (List ℕ)) (most : ℕ) (refused : Bool) (old ne
   pub stored : IsStored (end_of store words old.left).store new.disks
   pub punctual : IsPunctual (at_first store words) old new
   pub safe : IsCrashSafe store (commands_of words old.left) old new
+  pub untouched : WritesForEdits store (commands_of words old.left) old new
 
 -- the run stopped: a prefix of the output was told, and every image shows a state of the crash clause. Where reading failed,
 -- the input is too long or memory was wanted, it is the state after exactly the edits acknowledged. An input is too long only
@@ -66,6 +78,7 @@ pub record Stopped (words : List (List ℕ)) (most : ℕ) (stop : Stop) (old new
       × (cut_at (at_first store words) (take most old.left) ≡ over → ⊥)
   pub punctual : IsPunctual (at_first store words) old new
   pub safe : IsCrashSafe store (commands_of words old.left) old new
+  pub untouched : WritesForEdits store (commands_of words old.left) old new
   pub here : IsSafe (at_start store) (commands_of words old.left) old.told (moment_of new)
   pub exact : IsBetween stop → Leaves (ShowsState (at_start store) (commands_of words old.left) (acknowledged_count (at_start store) (commands_of words old.left) (length text))) new.disks
 
@@ -76,6 +89,7 @@ pub record Unopened (words : List (List ℕ)) (old new : Seen) : Type 0 where
   pub left : new.left ≡ old.left
   pub asks : new.asks ≡ old.asks
   pub safe : (store : Store) → Shows (reads_of old.disks) store → IsCrashSafe store (commands_of words old.left) old new
+  pub untouched : (IsBlank old.disks.zero.reads → ⊥) → IsUntouched old new
 
 -- what a run with these words and this bound did, by the status that it answers; words of the grammar are no wrong usage
 abbrev pub Ran : List (List ℕ) → ℕ → Status → Seen → Seen → Type 0

@@ -10,6 +10,7 @@ use Rattle.wot_site.specs.Work.{Since, moment_of}
 use Rattle.wot_store.specs.Shows.{IsStored}
 use Rattle.wot_session.specs.Input.{HasQuit, IsPunctual, IsRead, cut_at, so_far_at}
 use Rattle.wot_session.specs.Kept.{IsPrefixOf, IsWhole, Kept}
+use Rattle.wot_session.specs.Rests.{Rests, edit_count}
 use Rattle.wot_session.specs.Turn.{IsBetween}
 use Rattle.wot_session.specs.declared.stop.Stop.{Stop}
 use Rattle.wot_session.specs.declared.stop.Stop.TheVariants.{ReadFault, TooLong}
@@ -33,6 +34,7 @@ pub record WordsEnded (store : Store) (words : List (List ℕ)) (most : ℕ) (re
   pub stored : IsStored (end_of store words old.left).store new.disks
   pub punctual : IsPunctual (at_first store words) old new
   pub since : Since (Kept (at_start store) (commands_of words old.left) old.told) old new
+  pub rests : edit_count (at_start store) (commands_of words old.left) ≡ 0 → Rests old new
 
 -- it stopped. A run of one command without a block took nothing, and an input is too long only where more bytes than the bound were taken
 pub record WordsStopped (store : Store) (words : List (List ℕ)) (most : ℕ) (stop : Stop) (old new : Seen) : Type 0 where
@@ -48,3 +50,4 @@ pub record WordsStopped (store : Store) (words : List (List ℕ)) (most : ℕ) (
   pub since : Since (Kept (at_start store) (commands_of words old.left) old.told) old new
   pub here : Kept (at_start store) (commands_of words old.left) old.told (moment_of new)
   pub whole : IsBetween stop → IsWhole (at_start store) (commands_of words old.left) old.told new
+  pub rests : edit_count (at_start store) (commands_of words old.left) ≡ 0 → Rests old new

@@ -7,6 +7,7 @@ ghost use Rattle.wot_site.specs.Seen.{Honestly};
 ghost use Rattle.wot_site.specs.Site.{HasCause, disk_faults};
 ghost use Rattle.wot_store.specs.Appending.{Appending};
 ghost use Rattle.wot_session.specs.Here.{Holds, IsPlace, IsReadyFor};
+ghost use Rattle.wot_session.specs.Rests.{Rests};
 
 use wot_answer::Effect;
 use wot_site::{DiskFault, Site};
@@ -18,6 +19,7 @@ pub fn do_effect<S: Site>(site: &mut S, place: Place, effect: &Effect) -> Result
     ensures place { IfOk result (λ after. (s t : Store) → IsPlace place s → Does effect.now s t → IsPlace after t) }
     ensures holds { OnOk result ((s t : Store) → Does effect.now s t → Holds (S.seen site.old) s → Holds (S.seen site.new) t) }
     ensures any_moment { (s t : Store) → Does effect.now s t → Holds (S.seen site.old) s → Honestly (S.seen site.old) (S.seen site.new) (Appending s t) }
+    ensures rests { (s t : Store) → Does effect.now s t → t ≡ s → Honestly (S.seen site.old) (S.seen site.new) Rests }
     ensures cause { HasCause disk_faults (S.faults site.old) (S.faults site.new) result }
 {
     match effect {

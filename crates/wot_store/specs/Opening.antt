@@ -24,6 +24,14 @@ pub record IsUnwritten (start now : Disks) : Type 0 where
   pub reads : reads_of now ≡ reads_of start
   pub images : Leaves (IsImageOf start) now
 
+-- nothing was written: at each moment and at the end the sides read as at the start, and each image is one of the start's
+abbrev pub Unwritten : Seen → Seen → Type 0
+Unwritten old new = Works (IsUnwritten old.disks) old new
+
+-- nothing was written unless side Zero was blank
+abbrev pub WritesOnlyBlank : Seen → Seen → Type 0
+WritesOnlyBlank old new = (IsBlank old.disks.zero.reads → ⊥) → Unwritten old new
+
 -- nothing was written, and there were no more moments than the two opening syncs make
 pub record Settling (old new : Seen) : Type 0 where
   pub works : Works (IsUnwritten old.disks) old new

@@ -7,7 +7,7 @@ ghost use Rattle.wot_site.specs.Disk.{disk_of};
 ghost use Rattle.wot_site.specs.declared.side.Side.TheVariants.{Zero};
 ghost use Rattle.wot_types.specs.State.{opening_state};
 ghost use Rattle.wot_store.specs.Journal.{Replays, FailsAt};
-ghost use Rattle.wot_store.specs.Opening.{Settles, Settling, Inspects, Leads, IsReady, Keeping, Opening, Opens, FindsBad, IsSettled, shown_of};
+ghost use Rattle.wot_store.specs.Opening.{Settles, Settling, Inspects, Leads, IsReady, Keeping, Opening, Opens, FindsBad, IsSettled, WritesOnlyBlank, shown_of};
 
 use crate::creation::write_side;
 use crate::error::{BadStore, StoreError};
@@ -127,6 +127,7 @@ pub fn open_store<S: Site>(alloc: Global, site: &mut S) -> Result<Opened, StoreE
     ensures opened { IfOk result (λ o. Honestly (S.seen site.old) (S.seen site.new) (Opens (shown_of o))) }
     ensures bad { (b : _) → IsErrOf result (StoreError.Bad b) → Honestly (S.seen site.old) (S.seen site.new) (FindsBad b) }
     ensures memory { IsErrOf result StoreError.Memory → Honestly (S.seen site.old) (S.seen site.new) IsSettled }
+    ensures unwritten { Honestly (S.seen site.old) (S.seen site.new) WritesOnlyBlank }
     ensures any_moment { Honestly (S.seen site.old) (S.seen site.new) Opening }
     ensures cause { IsErrOf result StoreError.DiskFault → Rose (S.faults site.old).disk (S.faults site.new).disk }
     ensures counts { NoneFell (S.faults site.old) (S.faults site.new) }
