@@ -1,4 +1,0 @@
-pub mod PlainTexts
-pub mod ReplyLines
-pub mod ReplyEnds
-pub mod SessionReplies

@@ -1,2 +1,1 @@
 pub mod Keyrings
-pub mod Replies

@@ -1,19 +1,15 @@
 //! Worked examples of the rules of validity and of samples: each clause evaluates definitions.
 //!
-//! `replies` is a law of all commands: where a reply ends.
-//!
 //! A key is named by a number. Key 10 is ultimately trusted where it stands among the introducers.
 #![tactic(auto)]
 
 mod expiry;
-mod replies;
 mod samples;
 mod scopes;
 mod selection;
 mod trust_signatures;
 
 pub use expiry::{keys_end_at_their_expiry, next_check_is_at_the_next_expiry};
-pub use replies::{last_lines_count_the_replies, replies_end_at_their_last_line};
 pub use samples::{numbers_are_drawn_by_splitmix64, samples_are_made_from_their_seed};
 pub use scopes::scopes_admit_their_domain;
 pub use selection::{latest_certification_decides, low_levels_are_disregarded};

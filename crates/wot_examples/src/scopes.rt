@@ -3,7 +3,7 @@
 ghost use Rattle.std.specs.Prelude.{◌≡◌, true, false, Some, codes};
 ghost use Rattle.wot_types.specs.Scope.{admits};
 
-/// An expression of the domain form admits user IDs with an address in that domain or below it, and no other ones.
+/// Worked: an expression of the domain form admits a user ID with an address in its domain or below it, and none of these others.
 pub fn scopes_admit_their_domain()
     ensures inside { admits (Some (codes "<[^>]+[@.]example\\.org>$")) (codes "N <a@example.org>") ≡ true }
     ensures below { admits (Some (codes "<[^>]+[@.]example\\.org>$")) (codes "N <a@x.EXAMPLE.org>") ≡ true }

@@ -37,6 +37,8 @@ pub mod WhyText
 pub mod Tally
 pub mod Spelling
 pub mod Payload
+pub mod WellFormedState
+pub mod Image
 pub mod Grammar
 pub mod Commands
 pub mod Refusals
@@ -47,3 +49,6 @@ pub mod Soonest
 pub mod Next
 pub mod Rows
 pub mod LineByLine
+pub mod Indexes
+pub mod Touched
+pub mod Named

@@ -1,6 +1,6 @@
 use Rattle.std.proofs.Common.{ap, ◌∙◌, arith, rules}
 use Rattle.wot_types.specs.Fingerprint.{key_id_of}
-use Rattle.wot_gen.proofs.KeyIds.{key_id_of-sample_fpr}
+use Rattle.wot_types.proofs.KeyIds.{key_id_of-sample_fpr}
 use Rattle.wot_gen.proofs.names.fpr.Goals as goal
 
 pub returns-clause-made : goal.returns-clause-made

@@ -1,5 +1,5 @@
 use Rattle.std.proofs.Common.{arith}
-use Rattle.wot_gen.proofs.SoundKeys.{sound_made}
+use Rattle.wot_types.proofs.SoundKeys.{sound_made}
 use Rattle.wot_gen.proofs.one_key.key.Goals as goal
 
 pub returns-clause-made : goal.returns-clause-made

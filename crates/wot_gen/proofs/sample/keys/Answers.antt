@@ -1,7 +1,7 @@
 use Rattle.std.proofs.Common.{arith, rules}
 use Rattle.std.proofs.lemmas.List.FromFn.{map-range_with_len_more}
 use Rattle.wot_types.specs.Sample.{sample_key}
-use Rattle.wot_gen.proofs.SoundKeys.{importable}
+use Rattle.wot_types.proofs.SoundKeys.{importable}
 use Rattle.wot_gen.proofs.sample.keys.Goals as goal
 
 pub loop-i-preserved : goal.loop-i-preserved

@@ -52,9 +52,9 @@ use Rattle.wot_types.specs.Tally.{tally_line}
 use Rattle.wot_types.specs.WellFormed.{IsUser, IsWellFormed}
 use Rattle.wot_types.specs.WhyText.{by_line, letter_of, row_line, why_text}
 use Rattle.wot_types.proofs.FinMaps.{IfSome-get}
-use Rattle.wot_examples.specs.Replies.{AreWellFormed, IsReply, ends_reply, is_silent, tells}
-use Rattle.wot_examples.proofs.PlainTexts.{ArePlain, IsPlain, joined, plain_decimal, plain_joined, plain_key_id}
-use Rattle.wot_examples.proofs.ReplyLines.{GoesOn, all_plain, both, by_goes_on, cert_goes_on, cut_goes_on, each, each_of, entry_goes_on, fpr_goes_on, nothing, pub_goes_on, row_goes_on, tally_goes_on, tru_goes_on, user_goes_on, why_goes_on}
+use Rattle.wot_reply_laws.specs.Replies.{AreWellFormed, IsReply, ends_reply, is_silent, tells}
+use Rattle.wot_reply_laws.proofs.PlainTexts.{ArePlain, IsPlain, joined, plain_decimal, plain_joined, plain_key_id}
+use Rattle.wot_reply_laws.proofs.ReplyLines.{GoesOn, all_plain, both, by_goes_on, cert_goes_on, cut_goes_on, each, each_of, entry_goes_on, fpr_goes_on, nothing, pub_goes_on, row_goes_on, tally_goes_on, tru_goes_on, user_goes_on, why_goes_on}
 
 -- ---- whole lines, cut again
 

@@ -30,8 +30,8 @@ use Rattle.wot_types.specs.Tally.{letter_count, tally_line}
 use Rattle.wot_types.specs.Trust.{trust_text}
 use Rattle.wot_types.specs.WhyText.{by_line, count_fields, cut_line, row_line, why_line}
 use Rattle.wot_types.specs.WellFormed.{IsUser, IsWellFormed}
-use Rattle.wot_examples.specs.Replies.{ends_reply}
-use Rattle.wot_examples.proofs.PlainTexts.{ArePlain, IsPlain, at_place, joined, plain_append, plain_capabilities, plain_class, plain_class_text, plain_decimal, plain_depth, plain_expiry, plain_field, plain_joined, plain_key_id, plain_letter, plain_model, plain_number, plain_printed, plain_scope, plain_trust, plain_upper}
+use Rattle.wot_reply_laws.specs.Replies.{ends_reply}
+use Rattle.wot_reply_laws.proofs.PlainTexts.{ArePlain, IsPlain, at_place, joined, plain_append, plain_capabilities, plain_class, plain_class_text, plain_decimal, plain_depth, plain_expiry, plain_field, plain_joined, plain_key_id, plain_letter, plain_model, plain_number, plain_printed, plain_scope, plain_trust, plain_upper}
 
 -- whole lines, none of which ends a reply
 pub record GoesOn (text : List ℕ) : Type 0 where

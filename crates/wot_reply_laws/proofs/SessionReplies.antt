@@ -14,10 +14,10 @@ use Rattle.wot_types.specs.Refusals.{reply_line}
 use Rattle.wot_types.specs.Store.{Store}
 use Rattle.wot_types.specs.Session.{Progress, after_command, is_edit, replies, states}
 use Rattle.wot_types.proofs.Counting.{kept}
-use Rattle.wot_examples.specs.Replies.{AreWellFormed, ends_reply, is_silent}
-use Rattle.wot_examples.proofs.PlainTexts.{ArePlain}
-use Rattle.wot_examples.proofs.ReplyLines.{all_plain}
-use Rattle.wot_examples.proofs.ReplyEnds.{Answered, answered, silent, whole_lines_are}
+use Rattle.wot_reply_laws.specs.Replies.{AreWellFormed, ends_reply, is_silent}
+use Rattle.wot_reply_laws.proofs.PlainTexts.{ArePlain}
+use Rattle.wot_reply_laws.proofs.ReplyLines.{all_plain}
+use Rattle.wot_reply_laws.proofs.ReplyEnds.{Answered, answered, silent, whole_lines_are}
 
 -- whole lines, of which so many end a reply
 record Holds (n : ℕ) (text : List ℕ) : Type 0 where

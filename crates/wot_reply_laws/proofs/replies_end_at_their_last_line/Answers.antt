@@ -1,5 +1,5 @@
-use Rattle.wot_examples.proofs.ReplyEnds as proved
-use Rattle.wot_examples.proofs.replies.replies_end_at_their_last_line.Goals as goal
+use Rattle.wot_reply_laws.proofs.ReplyEnds as proved
+use Rattle.wot_reply_laws.proofs.replies_end_at_their_last_line.Goals as goal
 
 pub returns-clause-ends : goal.returns-clause-ends
 returns-clause-ends c = proved.replies

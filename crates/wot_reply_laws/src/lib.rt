@@ -1,4 +1,5 @@
-//! Where a reply ends.
+//! Laws of replies: where one ends, whatever the command.
+#![tactic(auto)]
 
 ghost use Rattle.std.specs.Prelude.{◌≡◌, [], All, List, count_by, false, not, true};
 ghost use Rattle.wot_types.specs.Commands.{Command};
@@ -6,7 +7,7 @@ ghost use Rattle.wot_types.specs.Lines.{whole_lines};
 ghost use Rattle.wot_types.specs.Outcome.{outcome};
 ghost use Rattle.wot_types.specs.Session.{Progress, replies, states};
 ghost use Rattle.wot_types.specs.Store.{Store};
-ghost use Rattle.wot_examples.specs.Replies.{AreWellFormed, IsReply, ends_reply, is_silent};
+ghost use Rattle.wot_reply_laws.specs.Replies.{AreWellFormed, IsReply, ends_reply, is_silent};
 
 /// Whatever a store holds and whatever a command is, the reply's last line is the first one that begins with `ok` or
 /// `err`. So a program that talks over a pipe reads up to that line, and has read the reply.

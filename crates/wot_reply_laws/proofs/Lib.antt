@@ -1,0 +1,4 @@
+pub mod PlainTexts
+pub mod ReplyLines
+pub mod ReplyEnds
+pub mod SessionReplies
