@@ -11,10 +11,9 @@ use crate::expiry::expired;
 use wot_types::{Cert, Placed};
 
 fn is_disregarded(level: u8, cert: &Cert) -> bool
-    requires { level ≤ 3 }
     ensures { result ≡ is_disregarded level cert.now }
 {
-    0x11 <= cert.class && cert.class <= 0x13 && cert.class < 0x10 + level
+    0x11 <= cert.class && cert.class <= 0x13 && cert.class - 0x10 < level
 }
 
 fn is_in_force(now: u32, placed: &Placed) -> bool
@@ -24,9 +23,9 @@ fn is_in_force(now: u32, placed: &Placed) -> bool
 }
 
 /// The place in a run of one issuer of the certification that decides, and None where there is none or it isn't in force.
+/// Classes 0x11 to 0x13 below 0x10 + `level` are disregarded: above level 3 all three are.
 pub fn usable(run: &[Placed], now: u32, level: u8) -> Option<u32>
     requires short { length run.now ≤ most_certs }
-    requires level { level ≤ 3 }
     requires rising { IsRising run.now }
     ensures { (issuer : ℕ) → IsBy issuer run.now → MatchOption result (usable now level issuer run.now ≡ None)
         (λ i. (i < length run.now) × (usable now level issuer run.now ≡ slice_get run.now i)) }

@@ -1,0 +1,52 @@
+//! Rows made of standings, and put among others.
+
+ghost use Rattle.std.specs.Prelude.{◌≡◌, IfOk, IfSome, option_map};
+ghost use Rattle.std.specs.Option.{option_copied};
+ghost use Rattle.wot_levels.specs.Standings.{standing_row};
+ghost use Rattle.wot_levels.specs.Walk.{with_found};
+
+use crate::standing::Standing;
+use wot_types::{KeyId, Mem, Row, Rows, Scope};
+
+fn copy_scope(scope: Option<&Scope>) -> Result<Option<Scope>, Mem>
+    ensures { IfOk result (λ copy. copy ≡ option_copied scope.entry) }
+{
+    match scope {
+        Some(scope) => Ok(Some(scope.clone()?)),
+        None => Ok(None),
+    }
+}
+
+fn row_of(id: KeyId, level: u8, standing: &Standing<'_>) -> Result<Row, Mem>
+    ensures { IfOk result (λ row. row ≡ standing_row id level standing.now) }
+{
+    Ok(Row {
+        key: id,
+        level,
+        trust: standing.trust,
+        left: standing.left,
+        scope: copy_scope(standing.scope)?,
+    })
+}
+
+/// The row that a standing makes at a level, if there is one.
+pub fn row_if(id: KeyId, level: u8, standing: &Option<Standing<'_>>) -> Result<Option<Row>, Mem>
+    ensures row { IfOk result (λ row. row ≡ option_map (standing_row id level) standing.now) }
+    ensures own { IfOk result (λ row. IfSome row (λ r. r.key ≡ id)) }
+{
+    match standing {
+        Some(standing) => Ok(Some(row_of(id, level, standing)?)),
+        None => Ok(None),
+    }
+}
+
+/// The rows and that of a key, if it has one.
+pub fn with_row(rows: Rows, id: KeyId, row: Option<Row>) -> Result<Rows, Mem>
+    requires own { IfSome row (λ r. r.key ≡ id) }
+    ensures { IfOk result (λ new. new ≡ with_found rows id row) }
+{
+    match row {
+        Some(row) => rows.insert(row),
+        None => Ok(rows),
+    }
+}
