@@ -1,12 +1,15 @@
 //! The state after an edit.
 
-ghost use Rattle.std.specs.Prelude.{◌≡◌, None, IfOk};
+ghost use Rattle.std.specs.Prelude.{◌≡◌, ◌<◌, None, IfOk};
 ghost use Rattle.wot_types.specs.Outcome.{state_after, refusal_of};
 ghost use Rattle.wot_types.specs.Ownertrust.{with_entry};
 ghost use Rattle.wot_types.specs.Payload.{IsProper};
+ghost use Rattle.wot_types.specs.Touched.{IsWithinTouched, named_by_fpr};
+ghost use Rattle.wot_types.specs.Named.{named_by};
 
 use crate::entries::ownertrust_of;
-use std::sync::ledger::Ledger;
+use std::marker::Brand;
+use std::sync::ledger::{Blank, Ledger};
 use wot_live::{Engine, Parts};
 use wot_types::{Edit, Entries, Entry, Keys, Mem, Steps};
 
@@ -16,19 +19,78 @@ pub fn change(engine: Engine, edit: Edit) -> Result<Engine, Mem>
     requires allowed { refusal_of engine edit ≡ None }
     ensures { IfOk result (λ new. new ≡ state_after engine edit) }
 {
-    edited_parts(engine.into_parts(), edit)?.into_engine()
+    change_by::<Brand>(engine, edit, Blank::new(1))
+}
+
+/// The same by a counter of its own.
+fn change_by<L: Ledger>(engine: Engine, edit: Edit, blank: Blank) -> Result<Engine, Mem>
+    requires own { (blank.name ≡ L.name) × (blank.parts ≡ L.parts) × (0 < L.parts) }
+    requires proper { IsProper edit }
+    requires allowed { refusal_of engine edit ≡ None }
+    ensures { IfOk result (λ new. new ≡ state_after engine edit) }
+{
+    let mut steps = Steps::<L>::open(blank);
+    apply(engine, edit, &mut steps)
 }
 
 /// Makes an edit that isn't refused; each certification that is read is a tick. At Memory the engine is gone.
 pub fn apply<L: Ledger>(engine: Engine, edit: Edit, steps: &mut Steps<L>) -> Result<Engine, Mem>
     requires proper { IsProper edit }
     requires allowed { refusal_of engine edit ≡ None }
-    ensures { IfOk result (λ new. new ≡ state_after engine edit) }
+    ensures state { IfOk result (λ new. new ≡ state_after engine edit) }
+    ensures ticks { IsWithinTouched (named_by engine edit) engine (state_after engine edit) steps.old steps.new }
 {
-    edited_parts(engine.into_parts(), edit)?.count(steps)
+    let alloc = engine.table().alloc();
+    match edit {
+        Edit::Import(keys) => engine.put(keys, Entries::new(alloc), steps),
+        Edit::Ownertrust(entries) => engine.put(Keys::new(alloc), entries, steps),
+        Edit::Set(fpr, trust) => {
+            let disabled = ownertrust_of(engine.trusts(), &fpr).disabled;
+            put_entry(
+                engine,
+                Entry {
+                    fpr,
+                    trust,
+                    disabled,
+                },
+                steps,
+            )
+        }
+        Edit::Flag(fpr, disabled) => {
+            let trust = ownertrust_of(engine.trusts(), &fpr).trust;
+            put_entry(
+                engine,
+                Entry {
+                    fpr,
+                    trust,
+                    disabled,
+                },
+                steps,
+            )
+        }
+        Edit::Delete(id) => engine.remove(id, steps),
+        Edit::Date(date) => engine.set_date(date, steps),
+        Edit::Options(options) => engine.set_options(options, steps),
+        Edit::Sample(seed, count) => {
+            let keys = wot_gen::keys(alloc, seed, count)?;
+            let entries = wot_gen::entries(alloc, seed, count)?;
+            engine.put(keys, entries, steps)
+        }
+    }
 }
 
-/// Makes an edit that isn't refused, and counts nothing. At Memory the parts are gone.
+/// Sets one entry.
+fn put_entry<L: Ledger>(engine: Engine, entry: Entry, steps: &mut Steps<L>) -> Result<Engine, Mem>
+    ensures state { IfOk result (λ new. new ≡ record engine { trusts = with_entry engine.trusts entry }) }
+    ensures ticks { IsWithinTouched (named_by_fpr engine entry.fpr) engine (record engine { trusts = with_entry engine.trusts entry }) steps.old steps.new }
+{
+    let alloc = engine.table().alloc();
+    let mut entries = Entries::new(alloc);
+    entries.push(entry)?;
+    engine.put(Keys::new(alloc), entries, steps)
+}
+
+/// Makes an edit that isn't refused, for several that are counted once. At Memory the parts are gone.
 pub fn edited_parts(parts: Parts, edit: Edit) -> Result<Parts, Mem>
     requires proper { IsProper edit }
     requires allowed { refusal_of parts edit ≡ None }
@@ -61,8 +123,8 @@ pub fn edited_parts(parts: Parts, edit: Edit) -> Result<Parts, Mem>
             )
         }
         Edit::Delete(id) => parts.remove(id),
-        Edit::Date(date) => Ok(parts.set_date(date)),
-        Edit::Options(options) => Ok(parts.set_options(options)),
+        Edit::Date(date) => parts.set_date(date),
+        Edit::Options(options) => parts.set_options(options),
         Edit::Sample(seed, count) => {
             let keys = wot_gen::keys(alloc, seed, count)?;
             let entries = wot_gen::entries(alloc, seed, count)?;

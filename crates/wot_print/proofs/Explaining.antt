@@ -12,10 +12,10 @@ use Rattle.wot_types.specs.Explanation.{direct, explained_rows, explanation}
 use Rattle.wot_types.specs.WhyText.{by_line, cut_line, letter_of, row_line, why_line, why_text}
 use Rattle.wot_explain.specs.Explained.{Explains, counted_row}
 use Rattle.wot_explain.specs.declared.why.Why.{Why}
-use Rattle.wot_print.specs.Shown.{shown_counted}
+use Rattle.wot_print.specs.Shown.{shown_counted, told_text}
 
 pub why_is : (s : State) (id user : ℕ) (why : Why) (recounted : Letter) → Explains s id user why → recounted ≡ letter_of (cut s (explanation s id user) id) id user
-    → why_line id user why.letter why.count ++ flat_map row_line why.rows ++ flat_map (λ c. by_line (shown_counted c)) why.counted ++ cut_line recounted ≡ why_text s id user
+    → told_text id user why recounted ≡ why_text s id user
 why_is s id user why recounted explains cut_is =
     λ i. why_line id user (letter i) (explains.count i) ++ flat_map row_line (explains.rows i) ++ by i ++ cut_line (cut_is i)
   where

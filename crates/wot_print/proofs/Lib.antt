@@ -1,7 +1,5 @@
 pub mod Loops
-pub mod Walking
 pub mod Shown
 pub mod Spots
 pub mod Pieces
 pub mod Explaining
-pub mod Counting

@@ -2,9 +2,8 @@
 
 ghost use Rattle.std.specs.Prelude.{◌≡◌, ◌∷◌, [], ◌++◌, ◌<◌, IfOk, IsSome, List, OnOk, Some};
 ghost use Rattle.std.specs.FinMap as finmap;
-ghost use Rattle.wot_types.specs.declared.key.Key.{Key};
 ghost use Rattle.wot_types.specs.declared.letter.Letter.{Letter};
-ghost use Rattle.wot_types.specs.Arrangement.{spot_at};
+ghost use Rattle.wot_types.specs.Arrangement.{spot_of};
 ghost use Rattle.wot_types.specs.Letters.{user_letter, user_letters};
 ghost use Rattle.wot_types.specs.Numbers.{capped};
 ghost use Rattle.wot_types.specs.Selection.{Spot};
@@ -16,10 +15,10 @@ use crate::fields::push_count_field;
 use std::alloc::Global;
 use std::marker::Brand;
 use std::sync::ledger::{Blank, Ledger};
-use wot_levels::{key_at, user_at, verdict};
+use wot_levels::{user_in, verdict_in};
 use wot_live::{Engine, letter_by};
-use wot_table::KeyHead;
-use wot_types::{KeyId, Letter, Mem, Rows, Steps};
+use wot_table::{KeyHead, Keyblock};
+use wot_types::{Letter, Mem, Rows, Steps};
 
 /// How many user IDs have each letter. A count stands still at 2^64 - 1.
 #[derive(Clone, Copy, Debug)]
@@ -81,15 +80,7 @@ pub fn tally(alloc: Global, engine: &Engine, rows: &Rows) -> Result<Vec<u8>, Mem
 fn count_rows(rows: &Rows) -> u64
     ensures { result ≡ capped (finmap.len rows.now) }
 {
-    let mut count = 0u64;
-    let mut after = None;
-    while let Some(id) = rows.next(after) {
-        // A key ID has 64 bits, so the walk ends.
-        let _ = id.0;
-        count = count.saturating_add(1);
-        after = Some(id);
-    }
-    count
+    rows.len() as u64
 }
 
 /// The letters of all user IDs, over a counter of its own for the certifications that are read.
@@ -99,49 +90,26 @@ fn count_letters<L: Ledger>(engine: &Engine, rows: &Rows, blank: Blank) -> Lette
 {
     let mut steps = Steps::<L>::open(blank);
     let mut counts = LetterCounts::new();
-    let mut after = None;
-    while let Some(id) = engine.table().next_key(after) {
-        // A key ID has 64 bits, so the walk ends.
-        let _ = id.0;
-        count_key(&mut counts, engine, rows, id, &mut steps);
-        after = Some(id);
+    for keyblock in engine.table().walk() {
+        count_users(&mut counts, engine, rows, &keyblock, &mut steps);
     }
     counts
 }
 
-/// The letters of the user IDs of a key that is there.
-fn count_key<L: Ledger>(
-    counts: &mut LetterCounts,
-    engine: &Engine,
-    rows: &Rows,
-    id: KeyId,
-    steps: &mut Steps<L>,
-)
-    requires there { IsSome (finmap.get engine.now.keys id) }
-    ensures { (key : Key) (letters : List Letter) → finmap.get engine.now.keys id ≡ Some key → counts.old ≡ counts_of letters
-        → counts.new ≡ counts_of (letters ++ user_letters engine.now rows.now id key) }
-{
-    if let Some(head) = key_at(engine.table(), id) {
-        count_users(counts, engine, rows, id, &head, steps);
-    }
-}
-
-/// The letters of the user IDs of the key with this head.
+/// The letters of a key's user IDs.
 fn count_users<L: Ledger>(
     counts: &mut LetterCounts,
     engine: &Engine,
     rows: &Rows,
-    id: KeyId,
-    head: &KeyHead<'_>,
+    keyblock: &Keyblock<'_>,
     steps: &mut Steps<L>,
 )
-    requires there { IsSome (finmap.get engine.now.keys id) }
-    requires head { (key : Key) → finmap.get engine.now.keys id ≡ Some key → IsKeyHead key head.now }
-    ensures { (key : Key) (letters : List Letter) → finmap.get engine.now.keys id ≡ Some key → counts.old ≡ counts_of letters
-        → counts.new ≡ counts_of (letters ++ user_letters engine.now rows.now id key) }
+    ensures { (letters : List Letter) → counts.old ≡ counts_of letters
+        → counts.new ≡ counts_of (letters ++ user_letters engine.now rows.now keyblock.now.0 keyblock.now.1) }
 {
+    let head = keyblock.key();
     for user in 0..head.users {
-        counts.add(letter_over(engine, rows, id, head, user, steps));
+        counts.add(letter_over(engine, rows, keyblock, &head, user, steps));
     }
 }
 
@@ -149,20 +117,21 @@ fn count_users<L: Ledger>(
 fn letter_over<L: Ledger>(
     engine: &Engine,
     rows: &Rows,
-    id: KeyId,
+    keyblock: &Keyblock<'_>,
     key: &KeyHead<'_>,
     user: u32,
     steps: &mut Steps<L>,
 ) -> Letter
-    requires there { IsSome (spot_at engine.now.keys id user) }
-    ensures { (k : Key) (spot : Spot) → IsKeyHead k key.now → spot_at engine.now.keys id user ≡ Some spot
-        → result ≡ user_letter engine.now rows.now id k spot }
+    requires there { IsSome (spot_of keyblock.now.1 user) }
+    requires head { IsKeyHead keyblock.now.1 key.now }
+    ensures { (spot : Spot) → spot_of keyblock.now.1 user ≡ Some spot
+        → result ≡ user_letter engine.now rows.now keyblock.now.0 keyblock.now.1 spot }
 {
     let options = engine.options();
     let date = engine.date();
-    let count = verdict(engine.table(), date, options, rows, id, user, steps);
-    let head = user_at(engine.table(), id, user).unwrap();
-    letter_by(rows, date, options, id, key, &head, &count)
+    let count = verdict_in(keyblock, date, options, rows, user, steps);
+    let head = user_in(keyblock, user).unwrap();
+    letter_by(rows, date, options, keyblock.id(), key, &head, &count)
 }
 
 /// The counts in the order `u f m q - r e`.
@@ -190,29 +159,6 @@ mod tests {
         let engine = Engine::new(alloc)?;
         let text = tally(alloc, &engine, engine.rows())?;
         assert_eq!(rt; text.as_slice(), b"tally:0:0:0:0:0:0:0:0:\n".as_slice());
-        Ok(())
-    }
-
-    #[test]
-    fn prints_each_letter_in_its_place(rt: HostRuntime) -> Result<(), Fail> {
-        let alloc = rt.alloc();
-        let mut counts = LetterCounts::new();
-        for (letter, user_ids) in [
-            (Letter::U, 1),
-            (Letter::F, 2),
-            (Letter::M, 3),
-            (Letter::Q, 4),
-            (Letter::Dash, 5),
-            (Letter::R, 6),
-            (Letter::E, 7),
-        ] {
-            for _ in 0..user_ids {
-                counts.add(letter);
-            }
-        }
-        let mut text = Vec::new(alloc);
-        push_counts(alloc, &mut text, &counts)?;
-        assert_eq!(rt; text.as_slice(), b"1:2:3:4:5:6:7:".as_slice());
         Ok(())
     }
 }

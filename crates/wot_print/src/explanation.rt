@@ -1,67 +1,52 @@
 //! The reply that explains why a user ID is as valid as it is.
 
-ghost use Rattle.std.specs.Prelude.{◌≡◌, ◌+◌, ◌++◌, IfOk, OnOk};
+ghost use Rattle.std.specs.Prelude.{◌≡◌, ◌+◌, ◌++◌, ℕ, IfOk, OnOk};
 ghost use Rattle.std.specs.List.{flat_map};
 ghost use Rattle.wot_types.specs.State.{State};
-ghost use Rattle.wot_types.specs.CutState.{cut};
+ghost use Rattle.wot_types.specs.CutState as cutting;
 ghost use Rattle.wot_types.specs.Explanation.{explanation};
-ghost use Rattle.wot_types.specs.Printing.{number_field};
 ghost use Rattle.wot_types.specs.WhyText.{by_line, count_fields, cut_line, letter_of, row_line, why_line, why_text};
 ghost use Rattle.wot_explain.specs.Explained.{Explains};
-ghost use Rattle.wot_print.specs.Shown.{shown_counted};
+ghost use Rattle.wot_print.specs.Shown.{shown_counted, told_text};
 
-use crate::fields::{
-    push_count_field, push_field, push_key_id_field, push_number_field, push_scope,
-};
+use crate::fields::{push_field, push_key_id_field, push_number_field, push_scope};
 use crate::names::{letter_text, trust_text};
 use std::alloc::Global;
 use wot_explain::{Counted, Why};
 use wot_types::{Count, KeyId, Letter, Mem, Row};
 
-/// The explanation of a user ID, numbered from 0, and its letter recounted over the cut state.
-pub fn why(
-    alloc: Global,
-    id: KeyId,
-    user: u32,
-    why: &Why,
-    recounted: Letter,
-) -> Result<Vec<u8>, Mem>
-    ensures { (s : State) → Explains s id user why.now → recounted ≡ letter_of (cut s (explanation s id user) id) id user
+/// The explanation of a user ID, whose place counts from 1, and its letter over the cut keyring.
+pub fn why(alloc: Global, id: KeyId, place: u32, why: &Why, cut: Letter) -> Result<Vec<u8>, Mem>
+    ensures lines { (user : ℕ) → place ≡ user + 1 → IfOk result (λ text. text.items ≡ told_text id user why.now cut) }
+    ensures explained { (s : State) (user : ℕ) → place ≡ user + 1 → Explains s id user why.now → cut ≡ letter_of (cutting.cut s (explanation s id user) id) id user
         → IfOk result (λ text. text.items ≡ why_text s id user) }
 {
     let mut text = Vec::new(alloc);
-    push_why(alloc, &mut text, id, user, why.letter, &why.count)?;
+    push_why(alloc, &mut text, id, place, why.letter, &why.count)?;
     push_rows(alloc, &mut text, why.rows.as_slice())?;
     push_counted(alloc, &mut text, why.counted.as_slice())?;
-    push_cut(&mut text, recounted)?;
+    push_cut(&mut text, cut)?;
     Ok(text)
 }
 
-/// `why:LETTER:KEYID:PLACE:ULTIMATE:FULL:MARGINAL:OTHER:`, where places count from 1.
+/// `why:LETTER:KEYID:PLACE:ULTIMATE:FULL:MARGINAL:OTHER:`
 fn push_why(
     alloc: Global,
     text: &mut Vec<u8>,
     id: KeyId,
-    user: u32,
+    place: u32,
     letter: Letter,
     count: &Count,
 ) -> Result<(), Mem>
-    ensures { OnOk result (text.new.items ≡ text.old.items ++ why_line id user letter count.now) }
+    ensures { (user : ℕ) → place ≡ user + 1 → OnOk result (text.new.items ≡ text.old.items ++ why_line id user letter count.now) }
 {
     text.extend_from_slice(b"why:")?;
     push_field(text, letter_text(letter))?;
     push_key_id_field(alloc, text, id)?;
-    push_place(alloc, text, user)?;
+    push_number_field(alloc, text, place)?;
     push_count(alloc, text, count)?;
     text.push(b'\n')?;
     Ok(())
-}
-
-/// The place of a user ID, numbered from 0, as it is counted from 1.
-fn push_place(alloc: Global, text: &mut Vec<u8>, user: u32) -> Result<(), Mem>
-    ensures { OnOk result (text.new.items ≡ text.old.items ++ number_field (user + 1)) }
-{
-    push_count_field(alloc, text, u64::from(user) + 1)
 }
 
 /// The candidates by their trust.

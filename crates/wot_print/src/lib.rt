@@ -17,4 +17,4 @@ pub use counts::tally;
 pub use explanation::why;
 pub use listing::list;
 pub use ownertrust::export;
-pub use refusals::refusal_line;
+pub use refusals::refused;

@@ -1,10 +1,9 @@
 //! The keyring, or one key of it, as a listing: with the validity of each key and user ID, and with or without certifications.
 
-ghost use Rattle.std.specs.Prelude.{◌≡◌, ◌++◌, ◌<◌, ◌≤◌, All, IfOk, IsSome, IsTrue, None, OnOk, Some, length, slice_get, true};
+ghost use Rattle.std.specs.Prelude.{◌≡◌, ◌++◌, ◌<◌, ◌≤◌, All, IfOk, IsSome, IsTrue, None, OnOk, Some, length, true};
 ghost use Rattle.std.specs.List.{flat_map};
 ghost use Rattle.std.specs.FinMap as map;
-ghost use Rattle.wot_types.specs.declared.key.Key.{Key};
-ghost use Rattle.wot_types.specs.Arrangement.{spot_at};
+ghost use Rattle.wot_types.specs.Arrangement.{spot_of};
 ghost use Rattle.wot_types.specs.Keyring.{cert_total};
 ghost use Rattle.wot_types.specs.Levels.{rows_of};
 ghost use Rattle.wot_types.specs.Listing.{Spells};
@@ -12,7 +11,6 @@ ghost use Rattle.wot_types.specs.Ownertrust.{ownertrust_of};
 ghost use Rattle.wot_types.specs.Printing.{cert_line, key_lines, list_text, listed_keyblocks, user_lines};
 ghost use Rattle.wot_types.specs.Selection.{Spot, spots_from};
 ghost use Rattle.wot_types.specs.Numbers.{capped};
-ghost use Rattle.wot_table.specs.Heads.{IsKeyHead, IsUserHead};
 ghost use Rattle.wot_print_laws.specs.Fits.{FitsCert, FitsKey, FitsState, FitsUser};
 ghost use Rattle.wot_print_laws.specs.ListingLines.{listing_lines};
 
@@ -21,9 +19,10 @@ use crate::records::{push_cert, push_fpr, push_pub, push_tru, push_user};
 use std::alloc::Global;
 use std::marker::Brand;
 use std::sync::ledger::{Blank, Ledger};
+use wot_levels::user_in;
 use wot_live::Engine;
 use wot_print_laws::printed_reads_back;
-use wot_table::{KeyHead, Table, UserHead};
+use wot_table::Keyblock;
 use wot_types::{Fpr, KeyId, Mem, Ownertrust, Steps, Trust, Trusts};
 
 /// All keys in rising order of key ID, or the key that `only` names; a key that isn't there has no lines.
@@ -94,12 +93,8 @@ fn push_keys<L: Ledger>(
     ensures lines { OnOk result (text.new.items ≡ text.old.items ++ flat_map (key_lines engine.now (rows_of engine.now) sigs) (listed_keyblocks engine.now None)) }
     ensures fits { IsTrue sigs → OnOk result (All (λ e. FitsKey e.1) (map.entries engine.now.keys)) }
 {
-    let mut after = None;
-    while let Some(id) = engine.table().next_key(after) {
-        // A key ID has 64 bits, so the walk ends.
-        let _ = id.0;
-        push_key(alloc, text, engine, id, sigs, steps)?;
-        after = Some(id);
+    for keyblock in engine.table().walk() {
+        push_keyblock(alloc, text, engine, &keyblock, sigs, steps)?;
     }
     Ok(())
 }
@@ -113,37 +108,35 @@ fn push_key<L: Ledger>(
     sigs: bool,
     steps: &mut Steps<L>,
 ) -> Result<(), Mem>
-    ensures lines { OnOk result (text.new.items ≡ text.old.items ++ flat_map (key_lines engine.now (rows_of engine.now) sigs) (listed_keyblocks engine.now (Some id))) }
-    ensures fits { (key : Key) → map.get engine.now.keys id ≡ Some key → IsTrue sigs → OnOk result (FitsKey key) }
+    ensures { OnOk result (text.new.items ≡ text.old.items ++ flat_map (key_lines engine.now (rows_of engine.now) sigs) (listed_keyblocks engine.now (Some id))) }
 {
-    match engine.table().key(id) {
-        Some(key) => push_keyblock(alloc, text, engine, id, &key, sigs, steps),
+    match engine.table().keyblock(id) {
+        Some(keyblock) => push_keyblock(alloc, text, engine, &keyblock, sigs, steps),
         None => Ok(()),
     }
 }
 
-/// The lines of the key with this head.
+/// The lines of a key of the engine's table.
 fn push_keyblock<L: Ledger>(
     alloc: Global,
     text: &mut Vec<u8>,
     engine: &Engine,
-    id: KeyId,
-    head: &KeyHead<'_>,
+    keyblock: &Keyblock<'_>,
     sigs: bool,
     steps: &mut Steps<L>,
 ) -> Result<(), Mem>
-    requires there { IsSome (map.get engine.now.keys id) }
-    ensures lines { (key : Key) → map.get engine.now.keys id ≡ Some key → IsKeyHead key head.now
-        → OnOk result (text.new.items ≡ text.old.items ++ key_lines engine.now (rows_of engine.now) sigs (id, key)) }
-    ensures fits { (key : Key) → map.get engine.now.keys id ≡ Some key → IsKeyHead key head.now
-        → IsTrue sigs → OnOk result (FitsKey key) }
+    requires there { map.get engine.now.keys keyblock.now.0 ≡ Some keyblock.now.1 }
+    ensures lines { OnOk result (text.new.items ≡ text.old.items ++ key_lines engine.now (rows_of engine.now) sigs keyblock.now) }
+    ensures fits { IsTrue sigs → OnOk result (FitsKey keyblock.now.1) }
 {
+    let id = keyblock.id();
+    let head = keyblock.key();
     let letter = engine.key_letter(id).unwrap();
     let kept = kept_of(engine.trusts(), head.fpr);
-    push_pub(alloc, text, letter, kept, id, head)?;
+    push_pub(alloc, text, letter, kept, id, &head)?;
     push_fpr(alloc, text, head.fpr)?;
-    push_users(alloc, text, engine, id, head.users, sigs, steps)?;
-    key_fits(head);
+    push_users(alloc, text, engine, keyblock, head.users, sigs, steps)?;
+    key_fits(&head);
     Ok(())
 }
 
@@ -162,66 +155,46 @@ fn push_users<L: Ledger>(
     alloc: Global,
     text: &mut Vec<u8>,
     engine: &Engine,
-    id: KeyId,
+    keyblock: &Keyblock<'_>,
     users: u32,
     sigs: bool,
     steps: &mut Steps<L>,
 ) -> Result<(), Mem>
-    ensures lines { (key : Key) → map.get engine.now.keys id ≡ Some key → users ≡ length key.users
-        → OnOk result (text.new.items ≡ text.old.items ++ flat_map (user_lines engine.now (rows_of engine.now) sigs id key) (spots_from 0 key.users)) }
-    ensures fits { (key : Key) → map.get engine.now.keys id ≡ Some key → users ≡ length key.users
-        → IsTrue sigs → OnOk result (All FitsUser key.users) }
+    requires there { map.get engine.now.keys keyblock.now.0 ≡ Some keyblock.now.1 }
+    requires all { users ≡ length keyblock.now.1.users }
+    ensures lines { OnOk result (text.new.items ≡ text.old.items ++ flat_map (user_lines engine.now (rows_of engine.now) sigs keyblock.now.0 keyblock.now.1) (spots_from 0 keyblock.now.1.users)) }
+    ensures fits { IsTrue sigs → OnOk result (All FitsUser keyblock.now.1.users) }
 {
     for user in 0..users {
-        push_user_at(alloc, text, engine, id, user, sigs, steps)?;
+        push_user_at(alloc, text, engine, keyblock, user, sigs, steps)?;
     }
     Ok(())
 }
 
-/// The lines of a user ID, numbered from 0, if it is there.
+/// The lines of a user ID, numbered from 0.
 fn push_user_at<L: Ledger>(
     alloc: Global,
     text: &mut Vec<u8>,
     engine: &Engine,
-    id: KeyId,
+    keyblock: &Keyblock<'_>,
     user: u32,
     sigs: bool,
     steps: &mut Steps<L>,
 ) -> Result<(), Mem>
-    ensures lines { (key : Key) (spot : Spot) → map.get engine.now.keys id ≡ Some key → slice_get (spots_from 0 key.users) user ≡ Some spot
-        → OnOk result (text.new.items ≡ text.old.items ++ user_lines engine.now (rows_of engine.now) sigs id key spot) }
-    ensures fits { (key : Key) (spot : Spot) → map.get engine.now.keys id ≡ Some key → slice_get (spots_from 0 key.users) user ≡ Some spot
+    requires key { map.get engine.now.keys keyblock.now.0 ≡ Some keyblock.now.1 }
+    requires there { IsSome (spot_of keyblock.now.1 user) }
+    ensures lines { (spot : Spot) → spot_of keyblock.now.1 user ≡ Some spot
+        → OnOk result (text.new.items ≡ text.old.items ++ user_lines engine.now (rows_of engine.now) sigs keyblock.now.0 keyblock.now.1 spot) }
+    ensures fits { (spot : Spot) → spot_of keyblock.now.1 user ≡ Some spot
         → IsTrue sigs → OnOk result (FitsUser spot.user) }
 {
-    match engine.table().user(id, user) {
-        Some(head) => push_user_block(alloc, text, engine, id, user, &head, sigs, steps),
-        None => Ok(()),
-    }
-}
-
-/// The lines of the user ID with this head.
-fn push_user_block<L: Ledger>(
-    alloc: Global,
-    text: &mut Vec<u8>,
-    engine: &Engine,
-    id: KeyId,
-    user: u32,
-    head: &UserHead<'_>,
-    sigs: bool,
-    steps: &mut Steps<L>,
-) -> Result<(), Mem>
-    requires there { IsSome (spot_at engine.now.keys id user) }
-    ensures lines { (key : Key) (spot : Spot) → map.get engine.now.keys id ≡ Some key → slice_get (spots_from 0 key.users) user ≡ Some spot → IsUserHead spot.user head.now
-        → OnOk result (text.new.items ≡ text.old.items ++ user_lines engine.now (rows_of engine.now) sigs id key spot) }
-    ensures fits { (key : Key) (spot : Spot) → map.get engine.now.keys id ≡ Some key → slice_get (spots_from 0 key.users) user ≡ Some spot → IsUserHead spot.user head.now
-        → IsTrue sigs → OnOk result (FitsUser spot.user) }
-{
-    let letter = engine.letter(id, user).unwrap();
-    push_user(alloc, text, letter, head)?;
+    let head = user_in(keyblock, user).unwrap();
+    let letter = engine.letter(keyblock.id(), user).unwrap();
+    push_user(alloc, text, letter, &head)?;
     if sigs {
-        push_certs(alloc, text, engine.table(), id, user, steps)?;
+        push_certs(alloc, text, keyblock, user, steps)?;
     }
-    user_fits(head);
+    user_fits(&head);
     Ok(())
 }
 
@@ -229,18 +202,17 @@ fn push_user_block<L: Ledger>(
 fn push_certs<L: Ledger>(
     alloc: Global,
     text: &mut Vec<u8>,
-    table: &Table,
-    id: KeyId,
+    keyblock: &Keyblock<'_>,
     user: u32,
     steps: &mut Steps<L>,
 ) -> Result<(), Mem>
-    requires there { IsSome (spot_at table.now id user) }
-    ensures lines { (spot : Spot) → spot_at table.now id user ≡ Some spot
+    requires there { IsSome (spot_of keyblock.now.1 user) }
+    ensures lines { (spot : Spot) → spot_of keyblock.now.1 user ≡ Some spot
         → OnOk result (text.new.items ≡ text.old.items ++ flat_map (λ placed. cert_line placed.cert) spot.certs) }
-    ensures fits { (spot : Spot) → spot_at table.now id user ≡ Some spot
+    ensures fits { (spot : Spot) → spot_of keyblock.now.1 user ≡ Some spot
         → OnOk result (All (λ placed. FitsCert placed.cert) spot.certs) }
 {
-    let certs = table.certs_in_order(id, user, steps)?;
+    let certs = keyblock.certs_in_order(user, steps)?;
     for placed in certs.iter() {
         cert_fits(&placed.cert);
         push_cert(alloc, text, &placed.cert)?;

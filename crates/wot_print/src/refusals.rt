@@ -9,7 +9,7 @@ use wot_fields::push_number;
 use wot_types::{KeyId, Limit, ListingFault, ListingWhat, Mem, OwnertrustFault, Refusal};
 
 /// The whole `err` line that says why a command is refused.
-pub fn refusal_line(alloc: Global, refusal: &Refusal) -> Result<Vec<u8>, Mem>
+pub fn refused(alloc: Global, refusal: &Refusal) -> Result<Vec<u8>, Mem>
     ensures { IfOk result (λ text. text.items ≡ reply_line (refusal_text refusal.now)) }
 {
     let mut text = refusal_text(alloc, refusal)?;
@@ -129,34 +129,12 @@ mod tests {
     #[test]
     fn says_why(rt: HostRuntime) -> Result<(), Fail> {
         let alloc = rt.alloc();
-        let scope = ListingFault {
+        let fault = ListingFault {
             line: 5,
             what: ListingWhat::LimitReached(Limit::Scope),
         };
-        for (refusal, want) in [
-            (Refusal::LineTooLong, b"err line-too-long\n".as_slice()),
-            (Refusal::BadArgument(2), b"err bad-argument 2\n".as_slice()),
-            (
-                Refusal::Listing(scope),
-                b"err listing 5 LimitReached\n".as_slice(),
-            ),
-            (
-                Refusal::Ownertrust(3, OwnertrustFault::BadValue),
-                b"err ownertrust 3 BadValue\n".as_slice(),
-            ),
-            (Refusal::NoSuchKey, b"err no-such-key\n".as_slice()),
-            (
-                Refusal::Full(Limit::Trusts),
-                b"err full trusts\n".as_slice(),
-            ),
-            (
-                Refusal::KeyIdTaken(KeyId(0xa1)),
-                b"err key-id-taken 00000000000000A1\n".as_slice(),
-            ),
-        ] {
-            let text = refusal_line(alloc, &refusal)?;
-            assert_eq!(rt; text.as_slice(), want);
-        }
+        let text = refused(alloc, &Refusal::Listing(fault))?;
+        assert_eq!(rt; text.as_slice(), b"err listing 5 LimitReached\n".as_slice());
         Ok(())
     }
 }

@@ -1,50 +1,48 @@
-use Rattle.std.proofs.Common.{◌+◌, ◌∷◌, [], ◌++◌, append-nil, drop, is_some, map, option_and_then, slice_get, refl, sym, ap, ◌∙◌, arith}
+use Rattle.std.proofs.Common.{◌+◌, ◌∷◌, [], ◌++◌, append-nil, drop, is_some, map, refl, sym, ap, ◌∙◌, arith}
 use Rattle.std.proofs.lemmas.List.{append_assoc, drop_all}
-use Rattle.wot_types.specs.declared.key.Key.{Key}
 use Rattle.wot_types.specs.Letters.{user_letter}
 use Rattle.wot_types.specs.Selection.{spots_from}
-use Rattle.wot_types.proofs.Optionals.{there_is}
 use Rattle.wot_table.proofs.Placement.{length_spots}
 use Rattle.wot_levels.proofs.SpotLemmas.{at_place}
 use Rattle.wot_print.specs.Counts.{counts_of}
 use Rattle.wot_print.proofs.counts.count_users.Goals as goal
 
 pub loop-user-init : goal.loop-user-init
-loop-user-init g c = λ key letters is counted. (letters, counted, refl)
+loop-user-init g c = λ letters counted. (letters, counted, refl)
 
-pub letter_over-requires : goal.letter_over-requires
-letter_over-requires g c =
+pub letter_over-requires-clause-there : goal.letter_over-requires-clause-there
+letter_over-requires-clause-there g c =
     let i = c.loop-user.user in
-    let key = there_is _ c.requires.there in
-    let spots = spots_from 0 key.0.users in
-    let many = length_spots 0 key.0.users in
-    let users = (c.requires.head key.0 key.1).users in
-    let at = at_place spots i (omega (arith, c.loop-user-test.true, many, users)) in
-    record { there = ap is_some (ap (option_and_then (λ (k : Key). slice_get (spots_from 0 k.users) i)) key.1 ∙ at.1) }
+    let users = c.args.keyblock.now.1.users in
+    let many = length_spots 0 users in
+    let all = c.key-head.ensures.users in
+    let at = at_place (spots_from 0 users) i (omega (arith, c.loop-user-test.true, many, all)) in
+    ap is_some at.1
 
 pub loop-user-preserved : goal.loop-user-preserved
-loop-user-preserved g c = λ key letters is counted.
+loop-user-preserved g c = λ letters counted.
     let i = c.loop-user.user in
-    let f = user_letter c.args.engine.now c.args.rows.now c.args.id key in
-    let spots = spots_from 0 key.users in
-    let many = length_spots 0 key.users in
-    let head = c.requires.head key is in
-    let at = at_place spots i (omega (arith, c.loop-user-test.true, many, head.users)) in
-    let there = ap (option_and_then (λ (k : Key). slice_get (spots_from 0 k.users) i)) is ∙ at.1 in
-    let so_far = c.loop-user.invariant key letters is counted in
-    let letter = c.letter_over.ensures key at.0 head there in (
+    let key = c.args.keyblock.now in
+    let f = user_letter c.args.engine.now c.args.rows.now key.0 key.1 in
+    let spots = spots_from 0 key.1.users in
+    let many = length_spots 0 key.1.users in
+    let all = c.key-head.ensures.users in
+    let at = at_place spots i (omega (arith, c.loop-user-test.true, many, all)) in
+    let so_far = c.loop-user.invariant letters counted in
+    let letter = c.letter_over.ensures at.0 at.1 in (
       so_far.0 ++ f at.0 ∷ [],
       c.add.ensures so_far.0 so_far.1 ∙ ap (λ x. counts_of (so_far.0 ++ x ∷ [])) letter,
       append_assoc so_far.0 (f at.0 ∷ []) (map f (drop (i + 1) spots)) ∙ ap (λ xs. so_far.0 ++ map f xs) (sym at.2) ∙ so_far.2,
     )
 
 pub returns : goal.returns
-returns g c = λ key letters is counted.
+returns g c = λ letters counted.
     let i = c.loop-user.user in
-    let f = user_letter c.args.engine.now c.args.rows.now c.args.id key in
-    let spots = spots_from 0 key.users in
-    let many = length_spots 0 key.users in
-    let head = c.requires.head key is in
-    let past = drop_all i spots (omega (arith, c.loop-user-test.false, many, head.users)) in
-    let so_far = c.loop-user.invariant key letters is counted in
+    let key = c.args.keyblock.now in
+    let f = user_letter c.args.engine.now c.args.rows.now key.0 key.1 in
+    let spots = spots_from 0 key.1.users in
+    let many = length_spots 0 key.1.users in
+    let all = c.key-head.ensures.users in
+    let past = drop_all i spots (omega (arith, c.loop-user-test.false, many, all)) in
+    let so_far = c.loop-user.invariant letters counted in
     so_far.1 ∙ ap counts_of (sym (append-nil so_far.0) ∙ ap (λ xs. so_far.0 ++ map f xs) (sym past) ∙ so_far.2)

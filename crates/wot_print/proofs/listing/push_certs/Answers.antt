@@ -1,6 +1,6 @@
 use Rattle.std.proofs.Common.{◌≡◌, map, ap, ◌∙◌}
 use Rattle.wot_types.specs.declared.placed.Placed.{Placed}
-use Rattle.wot_types.specs.Arrangement.{spot_at}
+use Rattle.wot_types.specs.Arrangement.{spot_of}
 use Rattle.wot_types.specs.Printing.{cert_line}
 use Rattle.wot_types.specs.Selection.{Spot}
 use Rattle.wot_levels.proofs.HeadLemmas.{if_there}
@@ -23,7 +23,7 @@ returns-clause-lines g c = λ spot is.
     let items = c.deref-placed-items.result.now in
     let block : map (λ p. p.now) items ≡ spot.certs =
     ap (map (λ p. p.now)) c.deref-placed-items.ensures.value
-    ∙ if_there (λ (spot : Spot). map (λ p. p.now) c.in_ok-certs.certs.items ≡ spot.certs) (spot_at c.args.table.now c.args.id c.args.user) c.in_ok-certs.ensures.block spot is in
+    ∙ if_there (λ (spot : Spot). map (λ p. p.now) c.in_ok-certs.certs.items ≡ spot.certs) (spot_of c.args.keyblock.now.1 c.args.user) c.in_ok-certs.ensures.block spot is in
     printed_all (λ p. p.now) (λ (p : Placed). cert_line p.cert) c.args.text.now.items c.loop-placed.text.items items c.loop-placed.placed-index spot.certs c.loop-placed-test.false c.loop-placed.invariant.lines block
 
 pub returns-clause-fits : goal.returns-clause-fits
@@ -31,5 +31,5 @@ returns-clause-fits g c = λ spot is.
     let items = c.deref-placed-items.result.now in
     let block : map (λ p. p.now) items ≡ spot.certs =
     ap (map (λ p. p.now)) c.deref-placed-items.ensures.value
-    ∙ if_there (λ (spot : Spot). map (λ p. p.now) c.in_ok-certs.certs.items ≡ spot.certs) (spot_at c.args.table.now c.args.id c.args.user) c.in_ok-certs.ensures.block spot is in
+    ∙ if_there (λ (spot : Spot). map (λ p. p.now) c.in_ok-certs.certs.items ≡ spot.certs) (spot_of c.args.keyblock.now.1 c.args.user) c.in_ok-certs.ensures.block spot is in
     all_seen (λ p. p.now) (λ (p : Placed). FitsCert p.cert) items c.loop-placed.placed-index spot.certs c.loop-placed-test.false c.loop-placed.invariant.fits block

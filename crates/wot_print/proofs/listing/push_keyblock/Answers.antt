@@ -1,6 +1,6 @@
-use Rattle.std.proofs.Common.{◌≡◌, ◌++◌, sym, ap, ◌∙◌}
+use Rattle.std.proofs.Common.{◌≡◌, ◌++◌, is_some, option_map, sym, ap, ◌∙◌}
 use Rattle.std.specs.List.{flat_map}
-use Rattle.wot_types.specs.Letters.{key_letter}
+use Rattle.wot_types.specs.Letters.{key_letter, key_letter_at}
 use Rattle.wot_types.specs.Levels.{rows_of}
 use Rattle.wot_types.specs.Ownertrust.{ownertrust_of}
 use Rattle.wot_types.specs.Printing.{fpr_line, pub_line, user_lines}
@@ -10,20 +10,29 @@ use Rattle.wot_print.proofs.Pieces.{key_letter_found, three_parts}
 use Rattle.wot_print.proofs.Shown.{pub_shown}
 use Rattle.wot_print.proofs.listing.push_keyblock.Goals as goal
 
-pub returns-clause-lines : goal.returns-clause-lines
-returns-clause-lines g c = λ key is head.
+pub unwrap-letter-requires : goal.unwrap-letter-requires
+unwrap-letter-requires g c =
     let s = c.args.engine.now in
-    let id = c.args.id in
+    let id = c.args.keyblock.now.0 in
+    ap is_some (c.key_letter.ensures ∙ ap (key_letter_at s) c.id-id.ensures ∙ ap (option_map (key_letter s (rows_of s) id)) c.requires.there)
+
+pub returns-clause-lines : goal.returns-clause-lines
+returns-clause-lines g c =
+    let s = c.args.engine.now in
+    let id = c.args.keyblock.now.0 in
+    let key = c.args.keyblock.now.1 in
     let old = c.args.text.now.items in
-    let shown = shown_key c.args.head.now in
+    let shown = shown_key c.key-head.result in
     let letter = key_letter s (rows_of s) id key in
     let kept = ownertrust_of s.trusts key.fpr in
     let users = flat_map (user_lines s (rows_of s) c.args.sigs id key) (spots_from 0 key.users) in
-    let found = key_letter_found s id key c.unwrap-letter.result is (sym c.key_letter.ensures ∙ c.unwrap-letter.ensures) in
+    let head = c.key-head.ensures in
+    let found = key_letter_found s id key c.unwrap-letter.result c.requires.there (sym (ap (key_letter_at s) c.id-id.ensures) ∙ sym c.key_letter.ensures ∙ c.unwrap-letter.ensures) in
     let first : c.push_pub.new.text.items ≡ old ++ pub_line letter kept id key =
-    c.in_ok-push_pub.ensures ∙ ap (λ l. old ++ pub_line l c.kept_of-kept.result id shown) found
+    c.in_ok-push_pub.ensures ∙ ap (λ l. old ++ pub_line l c.kept_of-kept.result c.id-id.result shown) found
+    ∙ ap (λ n. old ++ pub_line letter c.kept_of-kept.result n shown) c.id-id.ensures
     ∙ ap (λ k. old ++ pub_line letter k id shown) (c.kept_of-kept.ensures ∙ (λ i. ownertrust_of (c.trusts.ensures i) (head.fpr i)))
-    ∙ ap (λ l. old ++ l) (pub_shown letter kept id key c.args.head.now head) in
+    ∙ ap (λ l. old ++ l) (pub_shown letter kept id key c.key-head.result head) in
     let second : c.push_fpr.new.text.items ≡ (old ++ pub_line letter kept id key) ++ fpr_line key.fpr =
-    c.in_ok-push_fpr.ensures ∙ ap (λ l. l ++ fpr_line c.args.head.now.fpr.now) first ∙ ap (λ f. (old ++ pub_line letter kept id key) ++ fpr_line f) head.fpr in
-    c.in_ok-push_users.ensures.lines key is head.users ∙ ap (λ l. l ++ users) second ∙ three_parts old (pub_line letter kept id key) (fpr_line key.fpr) users
+    c.in_ok-push_fpr.ensures ∙ ap (λ l. l ++ fpr_line c.key-head.result.fpr.now) first ∙ ap (λ f. (old ++ pub_line letter kept id key) ++ fpr_line f) head.fpr in
+    c.in_ok-push_users.ensures.lines ∙ ap (λ l. l ++ users) second ∙ three_parts old (pub_line letter kept id key) (fpr_line key.fpr) users

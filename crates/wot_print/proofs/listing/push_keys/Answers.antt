@@ -1,54 +1,54 @@
-use Rattle.std.proofs.Common.{ℕ, ◌++◌, append-nil, All, None, Some, option_map, option_to_list, sym, ap, subst, ◌∙◌}
+use Rattle.std.proofs.Common.{◌≡◌, ℕ, ◌++◌, All, Some, sym, ap, subst, ◌∙◌}
 use Rattle.std.specs.FinMap as map
 use Rattle.std.specs.List.{flat_map}
-use Rattle.std.proofs.lemmas.List.Elements.{All-cons, All-nil}
+use Rattle.std.proofs.lemmas.List.Elements.{All-cons, All-head, All-nil, All-tail}
 use Rattle.wot_types.specs.declared.key.Key.{Key}
+use Rattle.wot_types.specs.Keyring.{Keyring}
 use Rattle.wot_types.specs.Levels.{rows_of}
-use Rattle.wot_types.specs.Next.{IsNext}
 use Rattle.wot_types.specs.Printing.{key_lines}
-use Rattle.wot_types.proofs.Optionals.{there_is}
 use Rattle.wot_print_laws.specs.Fits.{FitsKey}
 use Rattle.wot_print.proofs.Pieces.{none_of_left, one_of_left}
-use Rattle.wot_print.proofs.Walking.{left, left_end, left_next, left_start}
 use Rattle.wot_print.proofs.listing.push_keys.Goals as goal
 
-pub loop-id-init : goal.loop-id-init
-loop-id-init g c =
+abbrev IsEntryOf : Keyring → ℕ × Key → Type 0
+IsEntryOf keys e = map.get keys e.0 ≡ Some e.1
+
+abbrev Fits : ℕ × Key → Type 0
+Fits e = FitsKey e.1
+
+pub loop-keyblock-init : goal.loop-keyblock-init
+loop-keyblock-init g c =
     let s = c.args.engine.now in
+    let all = c.into_iter-keyblock-iterator.ensures.into_iter_gives ∙ c.walk-keyblock-items.ensures.whole ∙ ap map.entries c.table.ensures in
     record {
-      lines = ap (λ es. c.args.text.now.items ++ flat_map (key_lines s (rows_of s) c.args.sigs) es) (left_start s.keys);
-      fits = λ sigs h. subst (All (λ (e : ℕ × Key). FitsKey e.1)) (left_start s.keys) h;
+      found = subst (All (IsEntryOf s.keys)) (sym all) (subst (λ keys. All (IsEntryOf keys) (map.entries keys)) c.table.ensures c.walk-keyblock-items.ensures.found);
+      lines = ap (λ es. c.args.text.now.items ++ flat_map (key_lines s (rows_of s) c.args.sigs) es) all;
+      fits = λ sigs h. subst (All Fits) all h;
     }
 
-pub loop-id-preserved : goal.loop-id-preserved
-loop-id-preserved g c =
+pub push_keyblock-requires : goal.push_keyblock-requires
+push_keyblock-requires g c =
     let s = c.args.engine.now in
-    let id = c.in-Some.id in
-    let after = c.loop-id.after in
-    let f = key_lines s (rows_of s) c.args.sigs in
-    let next = subst (λ keys. IsNext (λ k. map.contains_key keys k) after (Some id)) c.table.ensures c.in-Some.ensures in
-    let found = there_is (map.get s.keys id) next.0 in
-    let step = left_next s.keys after id found.0 next found.1 in
-    let rest = left (Some id) (map.entries s.keys) in
+    record { there = All-head (IsEntryOf s.keys) c.in-Some.keyblock c.next.new.self (subst (All (IsEntryOf s.keys)) c.in-Some.ensures.steps c.loop-keyblock.invariant.found) }
+
+pub loop-keyblock-preserved : goal.loop-keyblock-preserved
+loop-keyblock-preserved g c =
+    let s = c.args.engine.now in
+    let key = c.in-Some.keyblock in
+    let rest = c.next.new.self in
+    let left = c.loop-keyblock.keyblock-iterator in
+    let step = c.in-Some.ensures.steps in
     record {
-      lines = one_of_left f c.loop-id.text.items c.push_key.new.text.items _ (id, found.0) rest (left after (map.entries s.keys))
-          (c.in_ok-push_key.ensures.lines ∙ ap (λ o. c.loop-id.text.items ++ flat_map f (option_to_list (option_map (λ (key : Key). (id, key)) o))) found.1
-          ∙ ap (λ l. c.loop-id.text.items ++ l) (append-nil (f (id, found.0))))
-          step c.loop-id.invariant.lines;
-      fits = λ sigs h.
-          let P = λ (e : ℕ × Key). FitsKey e.1 in
-          c.loop-id.invariant.fits sigs (subst (All P) (sym step) (All-cons P (id, found.0) rest (c.in_ok-push_key.ensures.fits found.0 found.1 sigs) h));
+      found = All-tail (IsEntryOf s.keys) key rest (subst (All (IsEntryOf s.keys)) step c.loop-keyblock.invariant.found);
+      lines = one_of_left (key_lines s (rows_of s) c.args.sigs) c.loop-keyblock.text.items c.push_keyblock.new.text.items _ key rest left c.in_ok-push_keyblock.ensures.lines step c.loop-keyblock.invariant.lines;
+      fits = λ sigs h. c.loop-keyblock.invariant.fits sigs (subst (All Fits) (sym step) (All-cons Fits key rest (c.in_ok-push_keyblock.ensures.fits sigs) h));
     }
 
 pub returns-clause-lines : goal.returns-clause-lines
 returns-clause-lines g c =
     let s = c.args.engine.now in
-    let next = subst (λ keys. IsNext (λ k. map.contains_key keys k) c.loop-id.after None) c.table.ensures c.in_default.ensures in
-    none_of_left (key_lines s (rows_of s) c.args.sigs) c.loop-id.text.items _ (left c.loop-id.after (map.entries s.keys)) (left_end s.keys c.loop-id.after next) c.loop-id.invariant.lines
+    none_of_left (key_lines s (rows_of s) c.args.sigs) c.loop-keyblock.text.items _ c.loop-keyblock.keyblock-iterator c.in-None.ensures.steps.0 c.loop-keyblock.invariant.lines
 
 pub returns-clause-fits : goal.returns-clause-fits
 returns-clause-fits g c = λ sigs.
-    let s = c.args.engine.now in
-    let P = λ (e : ℕ × Key). FitsKey e.1 in
-    let next = subst (λ keys. IsNext (λ k. map.contains_key keys k) c.loop-id.after None) c.table.ensures c.in_default.ensures in
-    c.loop-id.invariant.fits sigs (subst (All P) (sym (left_end s.keys c.loop-id.after next)) (All-nil P))
+    c.loop-keyblock.invariant.fits sigs (subst (All Fits) (sym c.in-None.ensures.steps.0) (All-nil Fits))

@@ -1,4 +1,4 @@
-use Rattle.std.proofs.Common.{◌+◌, All, drop, sym, subst, arith}
+use Rattle.std.proofs.Common.{◌+◌, All, drop, is_some, sym, ap, subst, arith}
 use Rattle.std.proofs.lemmas.List.{drop_all}
 use Rattle.std.proofs.lemmas.List.Elements.{All-cons, All-nil}
 use Rattle.wot_types.specs.Levels.{rows_of}
@@ -11,38 +11,45 @@ use Rattle.wot_print.proofs.Pieces.{none_of_left, one_of_left}
 use Rattle.wot_print.proofs.Spots.{spots_all}
 use Rattle.wot_print.proofs.listing.push_users.Goals as goal
 
+pub push_user_at-requires-clause-there : goal.push_user_at-requires-clause-there
+push_user_at-requires-clause-there g c =
+    let users = c.args.keyblock.now.1.users in
+    let count = length_spots 0 users in
+    let many = c.requires.all in
+    let at = at_place (spots_from 0 users) c.loop-user.user (omega (arith, c.loop-user-test.true, count, many)) in
+    ap is_some at.1
+
 pub loop-user-preserved : goal.loop-user-preserved
 loop-user-preserved g c =
     let s = c.args.engine.now in
     let i = c.loop-user.user in
+    let key = c.args.keyblock.now in
+    let spots = spots_from 0 key.1.users in
+    let count = length_spots 0 key.1.users in
+    let many = c.requires.all in
+    let at = at_place spots i (omega (arith, c.loop-user-test.true, count, many)) in
+    let P = λ (spot : Spot). FitsUser spot.user in
     record {
-      lines = λ key is many.
-          let spots = spots_from 0 key.users in
-          let count = length_spots 0 key.users in
-          let at = at_place spots i (omega (arith, c.loop-user-test.true, count, many)) in
-          one_of_left (user_lines s (rows_of s) c.args.sigs c.args.id key) c.loop-user.text.items c.push_user_at.new.text.items _ at.0 (drop (i + 1) spots) (drop i spots)
-          (c.in_ok-push_user_at.ensures.lines key at.0 is at.1) at.2 (c.loop-user.invariant.lines key is many);
-      fits = λ key is many sigs rest.
-          let spots = spots_from 0 key.users in
-          let count = length_spots 0 key.users in
-          let at = at_place spots i (omega (arith, c.loop-user-test.true, count, many)) in
-          let P = λ (spot : Spot). FitsUser spot.user in
-          c.loop-user.invariant.fits key is many sigs
-          (subst (All P) (sym at.2) (All-cons P at.0 (drop (i + 1) spots) (c.in_ok-push_user_at.ensures.fits key at.0 is at.1 sigs) rest));
+      lines = one_of_left (user_lines s (rows_of s) c.args.sigs key.0 key.1) c.loop-user.text.items c.push_user_at.new.text.items _ at.0 (drop (i + 1) spots) (drop i spots)
+          (c.in_ok-push_user_at.ensures.lines at.0 at.1) at.2 c.loop-user.invariant.lines;
+      fits = λ sigs rest. c.loop-user.invariant.fits sigs (subst (All P) (sym at.2) (All-cons P at.0 (drop (i + 1) spots) (c.in_ok-push_user_at.ensures.fits at.0 at.1 sigs) rest));
     }
 
 pub returns-clause-lines : goal.returns-clause-lines
-returns-clause-lines g c = λ key is many.
+returns-clause-lines g c =
     let s = c.args.engine.now in
-    let spots = spots_from 0 key.users in
-    let count = length_spots 0 key.users in
-    none_of_left (user_lines s (rows_of s) c.args.sigs c.args.id key) c.loop-user.text.items _ (drop c.loop-user.user spots)
-    (drop_all c.loop-user.user spots (omega (arith, c.loop-user-test.false, count, many))) (c.loop-user.invariant.lines key is many)
+    let key = c.args.keyblock.now in
+    let spots = spots_from 0 key.1.users in
+    let count = length_spots 0 key.1.users in
+    let many = c.requires.all in
+    none_of_left (user_lines s (rows_of s) c.args.sigs key.0 key.1) c.loop-user.text.items _ (drop c.loop-user.user spots)
+    (drop_all c.loop-user.user spots (omega (arith, c.loop-user-test.false, count, many))) c.loop-user.invariant.lines
 
 pub returns-clause-fits : goal.returns-clause-fits
-returns-clause-fits g c = λ key is many sigs.
-    let spots = spots_from 0 key.users in
-    let count = length_spots 0 key.users in
+returns-clause-fits g c = λ sigs.
+    let users = c.args.keyblock.now.1.users in
+    let spots = spots_from 0 users in
+    let count = length_spots 0 users in
+    let many = c.requires.all in
     let P = λ (spot : Spot). FitsUser spot.user in
-    spots_all FitsUser 0 key.users
-    (c.loop-user.invariant.fits key is many sigs (subst (All P) (sym (drop_all c.loop-user.user spots (omega (arith, c.loop-user-test.false, count, many)))) (All-nil P)))
+    spots_all FitsUser 0 users (c.loop-user.invariant.fits sigs (subst (All P) (sym (drop_all c.loop-user.user spots (omega (arith, c.loop-user-test.false, count, many)))) (All-nil P)))

@@ -1,0 +1,165 @@
+-- A list of keys that grows, each there once.
+use Rattle.std.proofs.Common.{◌≡◌, ◌<◌, ◌==◌, ◌&&◌, ◌||◌, ◌⊎◌, inl, inr, ℕ, Bool, true, false, cond, nat_eq, nat_le, List, [], ◌∷◌, ◌++◌, Option, Some, None, is_some, refl, sym, ap, ◌∙◌, append_assoc, append-nil, arith}
+use Rattle.std.specs.List.{AllByRecursion, IsDistinct, list_any}
+use Rattle.std.proofs.lemmas.Bool.{false≢true, true≢false}
+use Rattle.std.proofs.lemmas.Bool.Decides.{nat_tests}
+use Rattle.std.proofs.lemmas.List.Folds.{list_any-append}
+use Rattle.std.proofs.Math.Bool.{or-true, or-false}
+use Rattle.wot_types.specs.Explanation.{KeySet}
+use Rattle.wot_types.specs.Next.{IsAfter, IsNext}
+use Rattle.wot_types.proofs.Tests.{is_key}
+use Rattle.wot_levels.specs.Walk.{is_done}
+use Rattle.wot_live.specs.Recounting.{IsGrownBy, IsWhole, among, with_id}
+use Rattle.wot_types.specs.Indexes.{has_cert_by, key_issuers}
+use Rattle.wot_types.specs.Keyring.{Keyring}
+use Rattle.wot_types.specs.declared.key.Key.{Key}
+use Rattle.std.specs.FinMap.{contains_key, get}
+use Rattle.std.specs.Option.{option_map_or}
+
+among_append : (xs ys : List ℕ) (k : ℕ) → among (xs ++ ys) k ≡ (among xs k || among ys k)
+among_append xs ys k = list_any-append (λ id. id == k) xs ys
+
+among_one : (id k : ℕ) → among (id ∷ []) k ≡ (id == k)
+among_one id k = or-false (id == k)
+
+pub among_pushed : (xs : List ℕ) (id k : ℕ) → among (xs ++ id ∷ []) k ≡ (among xs k || (id == k))
+among_pushed xs id k = among_append xs (id ∷ []) k ∙ ap (λ b. among xs k || b) (among_one id k)
+
+first_of : (a b : Bool) → (a || b) ≡ false → a ≡ false
+first_of true b e = e
+first_of false b e = refl
+
+second_of : (a b : Bool) → (a || b) ≡ false → b ≡ false
+second_of true b e = absurd (true≢false e)
+second_of false b e = e
+
+-- one more key that wasn't there
+pub distinct_more : (ids : List ℕ) (id : ℕ) → IsDistinct nat_eq ids → among ids id ≡ false → IsDistinct nat_eq (ids ++ id ∷ [])
+unfolding IsDistinct
+distinct_more [] id h out = (tt, tt)
+distinct_more (x ∷ xs) id h out = (all xs h.0, distinct_more xs id h.1 (second_of (x == id) (among xs id) out))
+  where
+    other : (a b : ℕ) → (a == b) ≡ false → nat_eq a b ≡ false
+    other a b e = e
+
+    all : (ys : List ℕ) → AllByRecursion (λ y. nat_eq x y ≡ false) ys → AllByRecursion (λ y. nat_eq x y ≡ false) (ys ++ id ∷ [])
+    all [] k = (other x id (first_of (x == id) (among xs id) out), tt)
+    all (y ∷ ys) k = (k.0, all ys k.1)
+
+pub distinct_none : IsDistinct nat_eq []
+unfolding IsDistinct
+distinct_none = tt
+
+-- ---- growth
+
+pub grown_at_start : (set : KeySet) (ids : List ℕ) → ((x : ℕ) → set x ≡ false) → IsGrownBy set ids ids
+grown_at_start set ids none = record {
+  longer = ([], sym (append-nil ids));
+  all = λ x its. absurd (false≢true (sym (none x) ∙ its));
+  only = λ x its. inl its;
+}
+
+either_of : (a b : Bool) → (a || b) ≡ true → (a ≡ true) ⊎ (b ≡ true)
+either_of true b e = inl refl
+either_of false b e = inr e
+
+with_id_longer : (ids : List ℕ) (id : ℕ) → (added : List ℕ) × (with_id ids id ≡ ids ++ added)
+with_id_longer ids id = elim (among ids id) as (λ b. (added : List ℕ) × (cond b ids (ids ++ id ∷ []) ≡ ids ++ added)) [
+  | true ↦ ([], sym (append-nil ids))
+  | false ↦ (id ∷ [], refl)
+]
+
+pub among_with : (ids : List ℕ) (id k : ℕ) → among (with_id ids id) k ≡ (among ids k || (id == k))
+among_with ids id k = elim (among ids id) as (λ b. among ids id ≡ b → among (cond b ids (ids ++ id ∷ [])) k ≡ (among ids k || (id == k))) [
+  | true ↦ λ there. elim (id == k) as (λ b. (id == k) ≡ b → among ids k ≡ (among ids k || b)) [
+    | true ↦ λ same. ap (among ids) (sym (is_key id k same)) ∙ there ∙ sym (or-true (among ids k))
+    | false ↦ λ _. sym (or-false (among ids k))
+  ] refl
+  | false ↦ λ _. among_pushed ids id k
+] refl
+
+-- one more key of the set, beside those that came in before
+pub grown_more : (set next : KeySet) (old now : List ℕ) (id : ℕ) → IsGrownBy set old now → next id ≡ true → ((x : ℕ) → set x ≡ true → next x ≡ true) → ((x : ℕ) → next x ≡ true → (id == x) ≡ false → set x ≡ true)
+    → IsGrownBy next old (with_id now id)
+grown_more set next old now id grown its wider only_one = record {
+  longer = (grown.longer.0 ++ longer.0, longer.1 ∙ ap (λ xs. xs ++ longer.0) grown.longer.1 ∙ append_assoc old grown.longer.0 longer.0);
+  all = λ x h. among_with now id x ∙ elim (id == x) as (λ b. (id == x) ≡ b → (among now x || b) ≡ true) [
+    | true ↦ λ _. or-true (among now x)
+    | false ↦ λ other. ap (λ b. b || false) (grown.all x (only_one x h other))
+  ] refl;
+  only = λ x h. elim (either_of (among now x) (id == x) (sym (among_with now id x) ∙ h)) as (λ _. (among old x ≡ true) ⊎ (next x ≡ true)) [
+    | inl there ↦ elim (grown.only x there) as (λ _. (among old x ≡ true) ⊎ (next x ≡ true)) [ inl before ↦ inl before | inr in_set ↦ inr (wider x in_set) ]
+    | inr same ↦ inr (sym (ap next (is_key id x same)) ∙ its)
+  ];
+}
+  where
+    longer : (added : List ℕ) × (with_id now id ≡ now ++ added)
+    longer = with_id_longer now id
+
+grown_same : (set next : KeySet) (old now : List ℕ) → IsGrownBy set old now → ((x : ℕ) → set x ≡ next x) → IsGrownBy next old now
+grown_same set next old now grown same = record {
+  longer = grown.longer;
+  all = λ x h. grown.all x (same x ∙ h);
+  only = λ x h. elim (grown.only x h) as (λ _. (among old x ≡ true) ⊎ (next x ≡ true)) [ inl before ↦ inl before | inr its ↦ inr (sym (same x) ∙ its) ];
+}
+
+-- ---- lists with all keys
+
+has_key : (keys : Keyring) (issuer x : ℕ) → has_cert_by keys issuer x ≡ true → contains_key keys x ≡ true
+has_key keys issuer x its = elim (get keys x) as (λ o. option_map_or (λ (key : Key). list_any (λ n. n == issuer) (key_issuers key)) o false ≡ true → is_some o ≡ true) [
+  | None ↦ λ never. absurd (false≢true never)
+  | Some key ↦ λ _. refl
+] its
+
+-- no key can join
+pub whole_grown : (keys : Keyring) (issuer : ℕ) (todo : List ℕ) → ((x : ℕ) → contains_key keys x ≡ true → among todo x ≡ true) → IsGrownBy (has_cert_by keys issuer) todo todo
+whole_grown keys issuer todo all = record {
+  longer = ([], sym (append-nil todo));
+  all = λ x its. all x (has_key keys issuer x its);
+  only = λ x its. inl its;
+}
+
+pub whole_more : (keys : Keyring) (whole : Bool) (todo more : List ℕ) → IsWhole keys whole todo → (added : List ℕ) × (more ≡ todo ++ added) → IsWhole keys whole more
+whole_more keys whole todo more all longer is x its = ap (λ xs. among xs x) longer.1 ∙ among_append todo longer.0 x ∙ ap (λ b. b || among longer.0 x) (all is x its)
+
+-- ---- a walk over the keys of a set in rising order
+
+abbrev pub passed : KeySet → Option ℕ → KeySet
+passed set after x = is_done after x && set x
+
+both : (a b : Bool) → a ≡ true → b ≡ true → (a && b) ≡ true
+both true b h k = k
+both false b h k = absurd (false≢true h)
+
+parts : (a b : Bool) → (a && b) ≡ true → (a ≡ true) × (b ≡ true)
+parts true b h = (refl, h)
+parts false b h = absurd (false≢true h)
+
+low_itself : (n : ℕ) → nat_le n n ≡ true
+low_itself n = grind (arith, nat_tests)
+
+before_next : (after : Option ℕ) (id x : ℕ) → IsAfter after id → is_done after x ≡ true → nat_le x id ≡ true
+before_next None id x h d = absurd (false≢true d)
+before_next (Some a) id x h d = grind (arith, nat_tests)
+
+is_after : (after : Option ℕ) (k : ℕ) → is_done after k ≡ false → IsAfter after k
+is_after None k h = tt
+is_after (Some a) k h = grind (arith, nat_tests)
+
+below : (id k : ℕ) → (id == k) ≡ false → nat_le k id ≡ true → k < id
+below id k e l = grind (arith, nat_tests)
+
+pub passed_more : (set : KeySet) (after : Option ℕ) (old now : List ℕ) (id : ℕ) → IsNext set after (Some id) → IsGrownBy (passed set after) old now → IsGrownBy (passed set (Some id)) old (with_id now id)
+passed_more set after old now id next grown =
+    grown_more (passed set after) (passed set (Some id)) old now id grown (both (nat_le id id) (set id) (low_itself id) next.0)
+    (λ x h. let p = parts (is_done after x) (set x) h in both (nat_le x id) (set x) (before_next after id x next.1 p.0) p.1)
+    (λ x h other. let p = parts (nat_le x id) (set x) h in elim (is_done after x) as (λ d. is_done after x ≡ d → (d && set x) ≡ true) [
+      | true ↦ λ _. p.1
+      | false ↦ λ ahead. absurd (false≢true (sym (next.2 x (is_after after x ahead) (below id x other p.0)) ∙ p.1))
+    ] refl)
+
+pub passed_all : (set : KeySet) (after : Option ℕ) (old now : List ℕ) → IsNext set after None → IsGrownBy (passed set after) old now → IsGrownBy set old now
+passed_all set after old now next grown = grown_same (passed set after) set old now grown (λ x. elim (is_done after x) as (λ d. is_done after x ≡ d → (d && set x) ≡ set x) [
+  | true ↦ λ _. refl
+  | false ↦ λ ahead. sym (next x (is_after after x ahead))
+] refl)

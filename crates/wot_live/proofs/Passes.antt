@@ -1,0 +1,240 @@
+-- The recount of several keys at one level, key after key.
+use Rattle.std.proofs.Common.{◌≡◌, ◌≢◌, ◌+◌, ◌<◌, ◌≤◌, ◌==◌, ◌||◌, ◌⊎◌, inl, inr, ℕ, zero, suc, Bool, true, false, cond, nat_eq, nat_lt, List, [], ◌∷◌, ◌++◌, take, length, Option, Some, None, option_and_then, IfSome, refl, sym, ap, subst, ◌∙◌, append_assoc, append-nil, arith}
+use Rattle.std.specs.FinMap as map
+use Rattle.std.specs.FinMap.{nat_cmp-IsAntisymmetric, same_map}
+use Rattle.std.specs.Cmp.{nat_cmp_total}
+use Rattle.std.specs.List.{AllByRecursion, IsDistinct}
+use Rattle.std.proofs.lemmas.Bool.{false≢true, true≢false}
+use Rattle.std.proofs.lemmas.List.Folds.{list_any-append}
+use Rattle.std.proofs.lemmas.List.Sums.{sum_by-cons}
+use Rattle.std.proofs.Math.Bool.{or-false}
+use Rattle.wot_types.specs.declared.row.Row.{Row}
+use Rattle.wot_types.specs.State.{State}
+use Rattle.wot_types.specs.Candidates.{RowMap}
+use Rattle.wot_types.specs.Indexes.{has_cert_by}
+use Rattle.wot_types.specs.Keyring.{Keyring, certs_at}
+use Rattle.wot_types.specs.Levels.{first_row, new_row}
+use Rattle.wot_types.specs.Touched.{is_same_standing}
+use Rattle.wot_types.proofs.SameRows.{differ_apart, same_standing}
+use Rattle.wot_types.proofs.Tests.{is_key}
+use Rattle.wot_levels.specs.Given.{given_row, rows_below}
+use Rattle.wot_live.specs.Recounting.{IsGrownBy, IsLow, IsRecounted, among, ids_at, kept_above, recounted, row_below, weight}
+use Rattle.wot_live.proofs.Befores.{get_below, level_given}
+use Rattle.wot_live.proofs.Stages.{IsGiven, among_first, lower_stays}
+
+-- ---- one key
+
+only_it : (id x : ℕ) → among (id ∷ []) x ≡ true → id ≡ x
+only_it id x h = is_key id x (sym (or-false (id == x)) ∙ h)
+
+not_it : (id x : ℕ) → among (id ∷ []) x ≡ false → (id == x) ≡ false
+not_it id x h = sym (or-false (id == x)) ∙ h
+
+module _ (t : State) (n id : ℕ) (old new : RowMap) (todo : List ℕ) (here : map.get new id ≡ recounted n (map.get old id) (given_row t old n id))
+    (others : (x : ℕ) → (id == x) ≡ false → map.get new x ≡ map.get old x) where
+  counted : (x : ℕ) → among (id ∷ []) x ≡ true → map.get new x ≡ recounted n (map.get old x) (given_row t old n x)
+  counted x h = subst (λ y. map.get new y ≡ recounted n (map.get old y) (given_row t old n y)) (only_it id x h) here
+
+  all_same : is_same_standing (map.get old id) (map.get new id) ≡ true → (x : ℕ) → map.get new x ≡ map.get old x
+  all_same same x = elim (id == x) as (λ b. (id == x) ≡ b → map.get new x ≡ map.get old x) [
+    | true ↦ λ it. subst (λ y. map.get new y ≡ map.get old y) (is_key id x it) (sym (same_standing (map.get old id) (map.get new id) same))
+    | false ↦ λ other. others x other
+  ] refl
+
+  pub unchanged_step : is_same_standing (map.get old id) (map.get new id) ≡ true → IsRecounted t n (id ∷ []) old todo new todo
+  unchanged_step same = record {
+    counted = counted;
+    others = λ x h. others x (not_it id x h);
+    longer = ([], sym (append-nil todo));
+    reach = λ y. inl (all_same same y);
+    only = λ x its. inl its;
+  }
+
+  pub changed_step : (more : List ℕ) → is_same_standing (map.get old id) (map.get new id) ≡ false → IsGrownBy (has_cert_by t.keys id) todo more → IsRecounted t n (id ∷ []) old todo new more
+  changed_step more apart grown = record {
+    counted = counted;
+    others = λ x h. others x (not_it id x h);
+    longer = grown.longer;
+    reach = λ y. elim (id == y) as (λ b. (id == y) ≡ b → (map.get new y ≡ map.get old y) ⊎ ((x : ℕ) → has_cert_by t.keys y x ≡ true → among more x ≡ true)) [
+      | true ↦ λ it. inr (λ x cert. grown.all x (ap (λ k. has_cert_by t.keys k x) (is_key id y it) ∙ cert))
+      | false ↦ λ other. inl (others y other)
+    ] refl;
+    only = λ x its. elim (grown.only x its) as (λ _. (among todo x ≡ true) ⊎ ((y : ℕ) × (map.get new y ≢ map.get old y) × (has_cert_by t.keys y x ≡ true))) [
+      | inl before ↦ inl before
+      | inr cert ↦ inr (id, (λ e. differ_apart (map.get old id) (map.get new id) apart (sym e)), cert)
+    ];
+  }
+
+-- ---- no key, and some more
+
+pub no_step : (t : State) (n : ℕ) (old : RowMap) (todo : List ℕ) → IsRecounted t n [] old todo old todo
+no_step t n old todo = record {
+  counted = λ x h. absurd (false≢true h);
+  others = λ x _. refl;
+  longer = ([], sym (append-nil todo));
+  reach = λ y. inl refl;
+  only = λ x its. inl its;
+}
+
+among_both : (ids js : List ℕ) (x : ℕ) → among (ids ++ js) x ≡ (among ids x || among js x)
+among_both ids js x = list_any-append (λ id. id == x) ids js
+
+left_out : (a b : Bool) → (a || b) ≡ false → (a ≡ false) × (b ≡ false)
+left_out true b e = absurd (true≢false e)
+left_out false b e = (refl, e)
+
+one_in : (a b : Bool) → (a || b) ≡ true → b ≡ false → a ≡ true
+one_in true b e f = refl
+one_in false b e f = absurd (false≢true (sym f ∙ e))
+
+given_same : (t : State) (n x : ℕ) (a b : RowMap) → rows_below n a ≡ rows_below n b → given_row t a n x ≡ given_row t b n x
+given_same t n x a b same = ap (λ r. option_and_then (λ key. cond (n == 0) (first_row t x key) (new_row t r n x key)) (map.get t.keys x)) same
+
+module _ (t : State) (n : ℕ) (ids js : List ℕ) (a b c : RowMap) (ta tb tc : List ℕ) (first : IsRecounted t n ids a ta b tb) (second : IsRecounted t n js b tb c tc)
+    (apart : (x : ℕ) → among js x ≡ true → among ids x ≡ false) where
+  same_lower : rows_below n b ≡ rows_below n a
+  same_lower = same_map nat_cmp_total nat_cmp-IsAntisymmetric _ _ (λ x.
+      get_below n b x
+      ∙ elim (among ids x) as (λ i. among ids x ≡ i → row_below n (map.get b x) ≡ row_below n (map.get a x)) [
+        | true ↦ λ its. ap (row_below n) (first.counted x its) ∙ lower_stays n (map.get a x) (given_row t a n x) (level_given t a n x)
+        | false ↦ λ out. ap (row_below n) (first.others x out)
+      ] refl
+      ∙ sym (get_below n a x))
+
+  both_counted : (x : ℕ) → among (ids ++ js) x ≡ true → map.get c x ≡ recounted n (map.get a x) (given_row t a n x)
+  both_counted x h = elim (among js x) as (λ j. among js x ≡ j → map.get c x ≡ recounted n (map.get a x) (given_row t a n x)) [
+    | true ↦ λ its. second.counted x its ∙ (λ i. recounted n (first.others x (apart x its) i) (given_same t n x b a same_lower i))
+    | false ↦ λ out. second.others x out ∙ first.counted x (one_in (among ids x) (among js x) (sym (among_both ids js x) ∙ h) out)
+  ] refl
+
+  stays_in : (x : ℕ) → among tb x ≡ true → among tc x ≡ true
+  stays_in x h = ap (λ ids. among ids x) second.longer.1 ∙ among_first tb second.longer.0 x h
+
+  both_reach : (y : ℕ) → (map.get c y ≡ map.get a y) ⊎ ((x : ℕ) → has_cert_by t.keys y x ≡ true → among tc x ≡ true)
+  both_reach y = elim (second.reach y) as (λ _. (map.get c y ≡ map.get a y) ⊎ ((x : ℕ) → has_cert_by t.keys y x ≡ true → among tc x ≡ true)) [
+    | inr all ↦ inr all
+    | inl same ↦ elim (first.reach y) as (λ _. (map.get c y ≡ map.get a y) ⊎ ((x : ℕ) → has_cert_by t.keys y x ≡ true → among tc x ≡ true)) [
+      | inr all ↦ inr (λ x cert. stays_in x (all x cert))
+      | inl before ↦ inl (same ∙ before)
+    ]
+  ]
+
+  -- a key that one of the two recounts changes isn't changed back by the other
+  first_changed : (y : ℕ) → map.get b y ≢ map.get a y → map.get c y ≢ map.get a y
+  first_changed y d e = elim (among js y) as (λ j. among js y ≡ j → ⊥) [
+    | true ↦ λ its. d (first.others y (apart y its))
+    | false ↦ λ out. d (sym (second.others y out) ∙ e)
+  ] refl
+
+  second_changed : (y : ℕ) → map.get c y ≢ map.get b y → map.get c y ≢ map.get a y
+  second_changed y d e = elim (among js y) as (λ j. among js y ≡ j → ⊥) [
+    | true ↦ λ its. d (e ∙ sym (first.others y (apart y its)))
+    | false ↦ λ out. d (second.others y out)
+  ] refl
+
+  both_only : (x : ℕ) → among tc x ≡ true → (among ta x ≡ true) ⊎ ((y : ℕ) × (map.get c y ≢ map.get a y) × (has_cert_by t.keys y x ≡ true))
+  both_only x its = elim (second.only x its) as (λ _. (among ta x ≡ true) ⊎ ((y : ℕ) × (map.get c y ≢ map.get a y) × (has_cert_by t.keys y x ≡ true))) [
+    | inr found ↦ inr (found.0, second_changed found.0 found.1, found.2)
+    | inl before ↦ elim (first.only x before) as (λ _. (among ta x ≡ true) ⊎ ((y : ℕ) × (map.get c y ≢ map.get a y) × (has_cert_by t.keys y x ≡ true))) [
+      | inr found ↦ inr (found.0, first_changed found.0 found.1, found.2)
+      | inl there ↦ inl there
+    ]
+  ]
+
+  pub both_steps : IsRecounted t n (ids ++ js) a ta c tc
+  both_steps = record {
+    counted = both_counted;
+    others = λ x h. let outs = left_out (among ids x) (among js x) (sym (among_both ids js x) ∙ h) in second.others x outs.1 ∙ first.others x outs.0;
+    longer = (first.longer.0 ++ second.longer.0, second.longer.1 ∙ ap (λ xs. xs ++ second.longer.0) first.longer.1 ∙ append_assoc ta first.longer.0 second.longer.0);
+    reach = both_reach;
+    only = both_only;
+  }
+
+-- ---- levels of rows
+
+recounted_low : (n m : ℕ) (old new : Option Row) → IfSome old (λ row. row.level ≤ m) → IsGiven n new → n ≤ m → IfSome (recounted n old new) (λ row. row.level ≤ m)
+recounted_low n m None None h g le = tt
+recounted_low n m None (Some new) h g le = omega (arith, g, le)
+recounted_low n m (Some old) new h g le = elim (nat_lt old.level n) as (λ b. IfSome (cond b (Some old) (kept_above n old new)) (λ row. row.level ≤ m)) [
+  | true ↦ h
+  | false ↦ at new g
+]
+  where
+    at : (o : Option Row) → IsGiven n o → IfSome (kept_above n old o) (λ row. row.level ≤ m)
+    at (Some row) k = omega (arith, k, le)
+    at None k = elim (old.level == n) as (λ b. IfSome (cond b None (Some old)) (λ (row : Row). row.level ≤ m)) [ true ↦ tt | false ↦ h ]
+
+weaker : (a b : ℕ) (o : Option Row) → a ≤ b → IfSome o (λ row. row.level ≤ a) → IfSome o (λ row. row.level ≤ b)
+weaker a b None h low = tt
+weaker a b (Some row) h low = omega (arith, h, low)
+
+pub lower_top : (a b : ℕ) (rows : RowMap) → a ≤ b → IsLow a rows → IsLow b rows
+lower_top a b rows h low x = weaker a b (map.get rows x) h (low x)
+
+-- after a recount at a level no row is of a higher level than this one or the highest before
+pub step_low : (t : State) (n m : ℕ) (ids : List ℕ) (old : RowMap) (todo : List ℕ) (new : RowMap) (more : List ℕ) → IsRecounted t n ids old todo new more → n ≤ m → IsLow m old → IsLow m new
+step_low t n m ids old todo new more step le low x = elim (among ids x) as (λ b. among ids x ≡ b → IfSome (map.get new x) (λ row. row.level ≤ m)) [
+  | true ↦ λ its. subst (λ o. IfSome o (λ (row : Row). row.level ≤ m)) (sym (step.counted x its)) (recounted_low n m (map.get old x) (given_row t old n x) (low x) (level_given t old n x) le)
+  | false ↦ λ out. subst (λ o. IfSome o (λ (row : Row). row.level ≤ m)) (sym (step.others x out)) (low x)
+] refl
+
+pub same_low : (m : ℕ) (old new : RowMap) → ((x : ℕ) → map.get new x ≡ map.get old x) → IsLow m old → IsLow m new
+same_low m old new same low x = subst (λ o. IfSome o (λ (row : Row). row.level ≤ m)) (sym (same x)) (low x)
+
+pub step_same : (t : State) (n id : ℕ) (old new : RowMap) → ((x : ℕ) → (id == x) ≡ false → map.get new x ≡ map.get old x) → is_same_standing (map.get old id) (map.get new id) ≡ true → (x : ℕ) → map.get new x ≡ map.get old x
+step_same t n id old new others same x = elim (id == x) as (λ b. (id == x) ≡ b → map.get new x ≡ map.get old x) [
+  | true ↦ λ it. subst (λ y. map.get new y ≡ map.get old y) (is_key id x it) (sym (same_standing (map.get old id) (map.get new id) same))
+  | false ↦ λ other. others x other
+] refl
+
+-- ---- places of a list
+
+at_end : (y x : ℕ) (ys : List ℕ) (i : ℕ) → AllByRecursion (λ z. nat_eq y z ≡ false) ys → among (ids_at ys i) x ≡ true → (y == x) ≡ false
+at_end y x [] i h its = absurd (false≢true its)
+at_end y x (z ∷ ys) zero h its = subst (λ k. nat_eq y k ≡ false) (only_it z x its) h.0
+at_end y x (z ∷ ys) (suc i) h its = at_end y x ys i h.1 its
+
+-- a key of the list isn't among those before it
+pub fresh_at : (ids : List ℕ) (i x : ℕ) → IsDistinct nat_eq ids → among (ids_at ids i) x ≡ true → among (take i ids) x ≡ false
+unfolding IsDistinct
+fresh_at [] i x h its = absurd (false≢true its)
+fresh_at (y ∷ ys) zero x h its = refl
+fresh_at (y ∷ ys) (suc i) x h its = ap (λ b. b || among (take i ys) x) (at_end y x ys i h.0 its) ∙ fresh_at ys i x h.1 its
+
+pub take_at : (ids : List ℕ) (i : ℕ) → take (suc i) ids ≡ take i ids ++ ids_at ids i
+take_at [] zero = refl
+take_at [] (suc i) = refl
+take_at (y ∷ ys) zero = refl
+take_at (y ∷ ys) (suc i) = ap (λ xs. y ∷ xs) (take_at ys i)
+
+pub at_first : (ids added : List ℕ) (i : ℕ) → i < length ids → ids_at (ids ++ added) i ≡ ids_at ids i
+at_first [] added i h = absurd (omega (arith, h))
+at_first (y ∷ ys) added zero h = refl
+at_first (y ∷ ys) added (suc i) h = at_first ys added i (omega (arith, h))
+
+pub take_whole : (ids : List ℕ) (i : ℕ) → length ids ≤ i → take i ids ≡ ids
+take_whole [] zero h = refl
+take_whole [] (suc i) h = refl
+take_whole (y ∷ ys) zero h = absurd (omega (arith, h))
+take_whole (y ∷ ys) (suc i) h = ap (λ xs. y ∷ xs) (take_whole ys i (omega (arith, h)))
+
+pub weight_both : (keys : Keyring) (ids js : List ℕ) → weight keys (ids ++ js) ≡ weight keys ids + weight keys js
+weight_both keys [] js = omega arith
+weight_both keys (x ∷ ids) js =
+    let all = sum_by-cons (certs_at keys) x (ids ++ js) in
+    let first = sum_by-cons (certs_at keys) x ids in
+    let rest = weight_both keys ids js in
+    omega (arith, all, first, rest)
+
+pub weight_take : (keys : Keyring) (ids : List ℕ) (i : ℕ) → weight keys (take i ids) ≤ weight keys ids
+weight_take keys [] zero = omega arith
+weight_take keys [] (suc i) = omega arith
+weight_take keys (x ∷ ids) zero = omega arith
+weight_take keys (x ∷ ids) (suc i) =
+    let all = sum_by-cons (certs_at keys) x ids in
+    let first = sum_by-cons (certs_at keys) x (take i ids) in
+    let rest = weight_take keys ids i in
+    omega (arith, all, first, rest)
+
+pub weight_one : (keys : Keyring) (id : ℕ) → weight keys (id ∷ []) ≡ certs_at keys id
+weight_one keys id = let all = sum_by-cons (certs_at keys) id [] in omega (arith, all)

@@ -1,0 +1,103 @@
+//! The keys that are to be recounted.
+
+ghost use Rattle.std.specs.Prelude.{◌≡◌, [], nat_eq, slice_get, length, IfOk};
+ghost use Rattle.std.specs.List.{IsDistinct};
+ghost use Rattle.wot_types.specs.Indexes.{has_cert_by};
+ghost use Rattle.wot_live.specs.Recounting.{IsGrownBy, IsWhole, with_id};
+
+use std::alloc::Global;
+use std::collections::BTreeSet;
+use std::marker::Model;
+use wot_table::Table;
+use wot_types::{KeyId, Mem};
+
+/// Keys in the order in which they came, each once.
+#[derive(Drop)]
+pub struct Worklist {
+    ids: Vec<KeyId>,
+    seen: BTreeSet<KeyId>,
+}
+
+impl Model for Worklist {
+    ghost use Rattle.std.specs.Prelude.{ℕ, List};
+    ghost use Rattle.std.specs.Coded.{coded_ℕ, coded_list};
+    ghost use Rattle.wot_live.specs.Listed.{IsListed};
+
+    ghost Value = { List ℕ };
+
+    ghost coded = { coded_list coded_ℕ };
+
+    ghost view = { λ w. w.ids.items };
+
+    ghost invariant = { λ w. IsListed w.ids.items w.seen };
+}
+
+impl Worklist {
+    /// No keys, which takes no memory.
+    pub fn new(alloc: Global) -> Worklist
+        ensures { result ≡ [] }
+    {
+        Worklist {
+            ids: Vec::new(alloc),
+            seen: BTreeSet::new(alloc),
+        }
+    }
+
+    /// How many keys there are.
+    pub fn len(&self) -> usize
+        ensures len { result ≡ length self.now }
+        ensures distinct { IsDistinct nat_eq self.now }
+    {
+        self.ids.len()
+    }
+
+    /// A key by its place, from 0.
+    pub fn get(&self, i: usize) -> Option<KeyId>
+        ensures { result ≡ slice_get self.now i }
+    {
+        self.ids.get(i).copied()
+    }
+
+    /// Adds a key, unless it is there.
+    pub fn add(self, id: KeyId) -> Result<Worklist, Mem>
+        ensures { IfOk result (λ new. new ≡ with_id self id) }
+    {
+        let Worklist { mut ids, mut seen } = self;
+        if !seen.insert(id)? {
+            return Ok(Worklist { ids, seen });
+        }
+        ids.push(id)?;
+        Ok(Worklist { ids, seen })
+    }
+
+    /// Whether each key of the table is there.
+    pub fn is_whole(&self, table: &Table) -> bool
+        ensures { IsWhole table.now result self.now }
+    {
+        if (self.ids.len() as u64) < table.totals().keys {
+            return false;
+        }
+        let mut after = None;
+        while let Some(id) = table.next_key(after) {
+            if !self.seen.contains(&id) {
+                return false;
+            }
+            after = Some(id);
+        }
+        true
+    }
+
+    /// Adds the keys that an issuer certified.
+    pub fn add_certified(self, table: &Table, issuer: KeyId) -> Result<Worklist, Mem>
+        ensures { IfOk result (IsGrownBy (has_cert_by table.now issuer) self) }
+    {
+        let mut list = self;
+        let mut after = None;
+        while let Some(id) = table.signed_by(issuer, after) {
+            let _ = id.0;
+            list = list.add(id)?;
+            after = Some(id);
+        }
+        Ok(list)
+    }
+}

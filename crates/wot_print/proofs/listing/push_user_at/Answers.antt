@@ -1,0 +1,68 @@
+use Rattle.std.proofs.Common.{◌≡◌, ◌++◌, true, false, Some, All, is_some, option_and_then, option_map, sym, ap, subst, ◌∙◌}
+use Rattle.std.specs.List.{flat_map}
+use Rattle.wot_types.specs.declared.key.Key.{Key}
+use Rattle.wot_types.specs.declared.placed.Placed.{Placed}
+use Rattle.wot_types.specs.Arrangement.{spot_of}
+use Rattle.wot_types.specs.Letters.{letter_at, user_letter}
+use Rattle.wot_types.specs.Levels.{rows_of}
+use Rattle.wot_types.specs.Printing.{cert_line, user_line}
+use Rattle.wot_types.specs.Selection.{Spot}
+use Rattle.wot_types.proofs.Optionals.{there_is}
+use Rattle.wot_table.specs.declared.head.UserHead.{UserHead}
+use Rattle.wot_table.specs.Heads.{IsUserHead}
+use Rattle.wot_levels.proofs.HeadLemmas.{if_there}
+use Rattle.wot_print_laws.specs.Fits.{FitsCert}
+use Rattle.wot_print.specs.Shown.{shown_user}
+use Rattle.wot_print.proofs.Pieces.{letter_found, with_certs, without_certs}
+use Rattle.wot_print.proofs.Shown.{user_shown}
+use Rattle.wot_print.proofs.Spots.{placed_all, placed_at, placed_lines}
+use Rattle.wot_print.proofs.listing.push_user_at.Goals as goal
+use Rattle.wot_print.proofs.listing.push_user_at.Goals.{then-sigs+in_ok-push_certs, else-sigs}
+
+pub unwrap-letter-requires : goal.unwrap-letter-requires
+unwrap-letter-requires g c =
+    let s = c.args.engine.now in
+    let id = c.args.keyblock.now.0 in
+    let user = c.args.user in
+    let spot = there_is (spot_of c.args.keyblock.now.1 user) c.requires.there in
+    ap is_some (c.letter.ensures ∙ ap (λ n. letter_at s n user) c.id.ensures
+    ∙ ap (option_and_then (λ (k : Key). option_map (user_letter s (rows_of s) id k) (spot_of k user))) c.requires.key
+    ∙ ap (option_map (user_letter s (rows_of s) id c.args.keyblock.now.1)) spot.1)
+
+pub returns-clause-lines : goal.returns-clause-lines
+returns-clause-lines g c = λ spot at.
+    let s = c.args.engine.now in
+    let id = c.args.keyblock.now.0 in
+    let key = c.args.keyblock.now.1 in
+    let user = c.args.user in
+    let old = c.args.text.now.items in
+    let letter = user_letter s (rows_of s) id key spot in
+    let Tells = λ (head : UserHead). (spot : Spot) → spot_of key user ≡ Some spot → IsUserHead spot.user head in
+    let head = if_there Tells c.user_in.result c.user_in.ensures.head c.unwrap-head.result c.unwrap-head.ensures spot at in
+    let found = letter_found s id user key spot c.unwrap-letter.result c.requires.key at (sym (ap (λ n. letter_at s n user) c.id.ensures) ∙ sym c.letter.ensures ∙ c.unwrap-letter.ensures) in
+    let line : c.push_user.new.text.items ≡ old ++ user_line letter spot.user =
+    c.in_ok-push_user.ensures ∙ ap (λ l. old ++ user_line l (shown_user c.unwrap-head.result)) found ∙ ap (λ l. old ++ l) (user_shown letter spot.user c.unwrap-head.result head) in
+    let placed = placed_at 0 key.users user spot at in
+    elim c.if-sigs.branch [
+      | then-sigs+in_ok-push_certs w ↦ ap (λ t. t.items) w.text-is
+          ∙ with_certs c.args.sigs letter spot.user old c.push_user.new.text.items w.push_certs.new.text.items line w.if-sigs.true
+          (w.in_ok-push_certs.ensures.lines spot at
+          ∙ ap (λ l. c.push_user.new.text.items ++ l) (ap (flat_map (λ (p : Placed). cert_line p.cert)) (sym placed.1) ∙ placed_lines cert_line placed.0 spot.user.certs))
+      | else-sigs w ↦ ap (λ t. t.items) w.text-is ∙ without_certs c.args.sigs letter spot.user old c.push_user.new.text.items line w.if-sigs.false
+    ]
+
+pub returns-clause-fits : goal.returns-clause-fits
+returns-clause-fits g c = λ spot at sigs.
+    let key = c.args.keyblock.now.1 in
+    let Tells = λ (head : UserHead). (spot : Spot) → spot_of key c.args.user ≡ Some spot → IsUserHead spot.user head in
+    let head = if_there Tells c.user_in.result c.user_in.ensures.head c.unwrap-head.result c.unwrap-head.ensures spot at in
+    let placed = placed_at 0 key.users c.args.user spot at in
+    elim c.if-sigs.branch [
+      | then-sigs+in_ok-push_certs w ↦
+          c.user_fits.ensures spot.user head
+          (placed_all FitsCert placed.0 spot.user.certs (subst (All (λ (p : Placed). FitsCert p.cert)) (sym placed.1) (w.in_ok-push_certs.ensures.fits spot at)))
+      | else-sigs w ↦ absurd (true_false (sym sigs ∙ w.if-sigs.false))
+    ]
+  where
+    true_false : true ≡ false → ⊥
+    true_false e = cc
