@@ -1,0 +1,12 @@
+pub mod GivenSoFar
+pub mod Local
+pub mod Higher
+pub mod Founds
+pub mod SameRows
+pub mod Walked
+pub mod Seams
+pub mod PieceSizes
+pub mod Firsts
+pub mod FaultLaws
+pub mod LevelRows
+pub mod Backwards

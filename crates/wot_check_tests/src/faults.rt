@@ -1,0 +1,139 @@
+//! Rows of a sample, one of them changed.
+
+ghost use Rattle.std.specs.Prelude.{◌≤◌};
+
+use crate::samples::{NOW, Sample, filled_sample, options, sample_rows};
+use std::alloc::Global;
+use std::test::Fail;
+use std::thread::Threads;
+use wot_check::{NoGate, check_all, rows_by};
+use wot_gen::key_id;
+use wot_types::{KeyId, Mem, Row, Rows, Trust};
+
+/// What the check says: the key, and the level and the trust number of the stored row and of the counted one.
+type Said = Option<(KeyId, Option<(u8, u8)>, Option<(u8, u8)>)>;
+
+fn said<R: Threads + Sync>(
+    rt: &R,
+    alloc: Global,
+    of: &Sample,
+    rows: &Rows,
+    workers: u32,
+) -> Result<Said, Mem>
+    requires { (1 ≤ workers) × (workers ≤ 64) }
+{
+    let fault = check_all(
+        rt,
+        alloc,
+        &of.table,
+        &of.trusts,
+        NOW,
+        &options(),
+        rows,
+        workers,
+        &NoGate,
+    )?;
+    match fault {
+        Some(fault) => Ok(Some((fault.key, told(&fault.stored), told(&fault.counted)))),
+        None => Ok(None),
+    }
+}
+
+fn told(row: &Option<Row>) -> Option<(u8, u8)> {
+    match row {
+        Some(row) => Some((row.level, row.trust.number())),
+        None => None,
+    }
+}
+
+fn row(id: KeyId, level: u8, trust: Trust) -> Row {
+    Row {
+        key: id,
+        level,
+        trust,
+        left: 0,
+        scope: None,
+    }
+}
+
+/// The least key after this one that has a row of this level, with what is told of its row.
+fn of_level(rows: &Rows, level: u8) -> Option<(KeyId, (u8, u8))> {
+    let mut after = None;
+    for _ in 0..u64::MAX {
+        let id = rows.next(after)?;
+        let row = rows.get(id)?;
+        if row.level == level {
+            return Some((id, (row.level, row.trust.number())));
+        }
+        after = Some(id);
+    }
+    None
+}
+
+/// What the check says, where it says it over 1, 3 and 64 workers.
+fn said_by_all<R: Threads + Sync>(
+    rt: &R,
+    alloc: Global,
+    of: &Sample,
+    rows: &Rows,
+) -> Result<Option<Said>, Mem> {
+    let one = said(rt, alloc, of, rows, 1)?;
+    let three = said(rt, alloc, of, rows, 3)?;
+    let many = said(rt, alloc, of, rows, 64)?;
+    if one == three && one == many {
+        Ok(Some(one))
+    } else {
+        Ok(None)
+    }
+}
+
+#[test]
+fn rows_of_a_sample_stand(rt: HostRuntime) -> Result<(), Fail> {
+    let alloc = rt.alloc();
+    let of = filled_sample(alloc, 7, 500)?;
+    let rows = sample_rows(&of)?;
+    assert_eq!(rt; said_by_all(&rt, alloc, &of, &rows)?, Some(None));
+    let counted = rows_by(
+        &rt,
+        alloc,
+        &of.table,
+        &of.trusts,
+        NOW,
+        &options(),
+        3,
+        &NoGate,
+    )?;
+    assert_eq!(rt; counted.len(), rows.len());
+    assert_eq!(rt; said(&rt, alloc, &of, &counted, 1)?, None);
+    Ok(())
+}
+
+#[test]
+fn rows_that_do_not_stand_are_named(rt: HostRuntime) -> Result<(), Fail> {
+    let alloc = rt.alloc();
+    let of = filled_sample(alloc, 7, 500)?;
+    let mut rows = sample_rows(&of)?;
+    let (own, of_own) = of_level(&rows, 0).expect(&rt, "a row of level 0");
+    let (given, of_given) = of_level(&rows, 2).expect(&rt, "a row of level 2");
+    // Key 96 is revoked.
+    let revoked = key_id(7, 96);
+    // A row that is put among those of the sample, and the level and trust number of the one that is counted.
+    let cases = [
+        (own, 0, Trust::Full, Some(of_own)),
+        (given, 3, Trust::Full, Some(of_given)),
+        (revoked, 1, Trust::Full, None),
+        (revoked, 5, Trust::Marginal, None),
+        // Keys that aren't there, one before all others and one behind them.
+        (KeyId(1), 4, Trust::Marginal, None),
+        (KeyId(u64::MAX), 4, Trust::Marginal, None),
+    ];
+    for (id, level, trust, counted) in cases {
+        let changed = sample_rows(&of)?.insert(row(id, level, trust))?;
+        let told = Some((id, Some((level, trust.number())), counted));
+        assert_eq!(rt; said_by_all(&rt, alloc, &of, &changed)?, Some(told));
+    }
+    rows.remove(given);
+    let told = Some((given, None, Some(of_given)));
+    assert_eq!(rt; said_by_all(&rt, alloc, &of, &rows)?, Some(told));
+    Ok(())
+}
