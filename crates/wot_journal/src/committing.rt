@@ -8,8 +8,8 @@ ghost use Rattle.wot_site.specs.Work.{Works};
 ghost use Rattle.wot_journal.specs.Record.{most};
 ghost use Rattle.wot_journal.specs.Commit.{Puts, PutsNot, IsEnd, Commits, IsCommitting};
 
-use crate::record::{Built, OPEN};
-use wot_site::{DiskFault, Failed, Side, Site};
+use crate::record::Built;
+use wot_site::{DiskFault, Failed, OPEN, Side, Site};
 
 /// Writes, and has it on the disk before it answers.
 pub fn put<S: Site>(site: &mut S, side: Side, at: u64, bytes: &[u8]) -> Result<(), DiskFault>

@@ -3,10 +3,8 @@
 
 mod record; // a record that is built in memory, for one place
 mod committing; // putting it onto the disk, so that a crash leaves it whole or not at all
-mod range; // reading bytes of a side
 mod reading; // reading the record at a place
 
 pub use committing::{commit, put};
-pub use range::{RangeError, read_range};
 pub use reading::{ReplayError, Step, next};
-pub use record::{BuildError, Built, MOST, OPEN, build};
+pub use record::{BuildError, Built, build};

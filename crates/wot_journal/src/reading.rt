@@ -8,11 +8,10 @@ ghost use Rattle.wot_site.specs.Site.{Stays, Rose, NoneFell};
 ghost use Rattle.wot_journal.specs.Found.{Finds, GoesOn, IsCutAt};
 ghost use Rattle.wot_journal.specs.Range.{IsRange};
 
-use crate::range::{RangeError, read_range};
-use crate::record::{MOST, OPEN};
+use byteorder::{BigEndian, ByteOrder};
 use std::alloc::Global;
 use thiserror::Error;
-use wot_site::{Side, Site};
+use wot_site::{MOST, OPEN, RangeError, Side, Site, read_range};
 use wot_types::Text;
 
 /// Why no record was read.
@@ -86,7 +85,7 @@ fn length_of(head: &[u8]) -> u32
     ensures value { result ≡ from_be_bytes w32 head.now }
     ensures spelled { to_be_bytes w32 result ≡ head.now }
 {
-    u32::from_be_bytes([head[0], head[1], head[2], head[3]])
+    BigEndian::read_u32(head)
 }
 
 // Reads a part of the record at that place, which lies within the side.

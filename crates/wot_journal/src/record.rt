@@ -3,15 +3,11 @@
 ghost use Rattle.std.specs.Prelude.{◌≡◌, ◌+◌, ◌-◌, ◌^◌, ◌<◌, ◌≤◌, length, IfOk, IsErrOf};
 ghost use Rattle.wot_journal.specs.Record.{Framed, most, behind_gate};
 
-use std::alloc::AllocError;
+use byteorder::{BigEndian, ByteOrder};
+use std::alloc::{AllocError, Global};
 use std::marker::Model;
 use thiserror::Error;
-
-/// The most bytes of a side.
-pub const MOST: u64 = 0xffff_ffff;
-
-/// The byte of an open gate.
-pub const OPEN: u8 = 0xa5;
+use wot_site::MOST;
 
 /// Why no record was built.
 #[derive(Clone, Copy, Debug, PartialEq, Eq, Drop, Error)]
@@ -70,29 +66,31 @@ impl Built {
     }
 }
 
-/// Builds the record of a payload for the journal's end, in the payload's own vector, so that no second one holds it.
-pub fn build(payload: Vec<u8>, end: u64) -> Result<Built, BuildError>
-    ensures built { IfOk result (λ b. b ≡ record { end = end; payload = payload.items }) }
-    ensures room { IfOk result (λ b. end + length payload.items + 6 ≤ most) }
-    ensures full { IsErrOf result BuildError.JournalFull → most < end + length payload.items + 6 }
+/// Builds the record of a payload for the journal's end.
+pub fn build(alloc: Global, payload: &[u8], end: u64) -> Result<Built, BuildError>
+    ensures built { IfOk result (λ b. b ≡ record { end = end; payload = payload.now }) }
+    ensures room { IfOk result (λ b. end + length payload.now + 6 ≤ most) }
+    ensures full { IsErrOf result BuildError.JournalFull → most < end + length payload.now + 6 }
 {
     let len = payload.len() as u64;
     if end > MOST || len > MOST || end + len + 6 > MOST {
         return Err(BuildError::JournalFull);
     }
-    let body = put_behind_gate(payload)?;
+    let body = spell_body(alloc, payload)?;
     Ok(Built { end, body })
 }
 
-// Makes of a payload's bytes what stands behind the gate of its record.
-fn put_behind_gate(mut bytes: Vec<u8>) -> Result<Vec<u8>, AllocError>
-    requires { length bytes.items < 2 ^ 32 }
-    ensures { IfOk result (λ body. body.items ≡ behind_gate bytes.items) }
+// What stands behind the gate of a payload's record.
+fn spell_body(alloc: Global, payload: &[u8]) -> Result<Vec<u8>, AllocError>
+    requires { length payload.now < 2 ^ 32 }
+    ensures { IfOk result (λ body. body.items ≡ behind_gate payload.now) }
 {
-    let len = (bytes.len() as u32).to_be_bytes();
-    bytes.reserve_exact(len.len() + 1)?;
-    bytes.extend_from_slice(&len)?;
-    bytes.rotate_right(len.len());
-    bytes.push(0)?;
-    Ok(bytes)
+    let mut len = [0u8; 4];
+    BigEndian::write_u32(&mut len, payload.len() as u32);
+    let mut body = Vec::new(alloc);
+    body.reserve_exact(len.len() + payload.len() + 1)?;
+    body.extend_from_slice(&len)?;
+    body.extend_from_slice(payload)?;
+    body.push(0)?;
+    Ok(body)
 }

@@ -5,5 +5,6 @@ pub mod Images
 pub mod Outcome
 pub mod Pending
 pub mod Plans
+pub mod Ranges
 pub mod Sides
 pub mod Works

@@ -1,9 +1,11 @@
 pub mod Calls
 pub mod Disk
+pub mod Gate
 pub mod MemorySide
 pub mod MemorySite
 pub mod Notes
 pub mod CallBytes
+pub mod Reading
 pub mod Seen
 pub mod Site
 pub mod Stop

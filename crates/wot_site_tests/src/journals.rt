@@ -11,12 +11,12 @@ fn a_record_fits_up_to_the_last_place(rt: HostRuntime) -> Result<(), Fail> {
     let alloc = rt.alloc();
     // The record and the gate behind it end at the most bytes of a side, 4,294,967,295.
     let digits = b"0123456789";
-    assert!(rt; build(Vec::from_slice(alloc, digits)?, 4_294_967_279).is_ok());
-    let full = build(Vec::from_slice(alloc, digits)?, 4_294_967_280);
+    assert!(rt; build(alloc, digits, 4_294_967_279).is_ok());
+    let full = build(alloc, digits, 4_294_967_280);
     assert_eq!(rt; full.err(), Some(BuildError::JournalFull));
-    let full = build(Vec::new(alloc), 4_294_967_290);
+    let full = build(alloc, b"", 4_294_967_290);
     assert_eq!(rt; full.err(), Some(BuildError::JournalFull));
-    assert!(rt; build(Vec::new(alloc), 4_294_967_289).is_ok());
+    assert!(rt; build(alloc, b"", 4_294_967_289).is_ok());
     Ok(())
 }
 
@@ -62,7 +62,7 @@ fn records_are_read_as_they_stand(rt: HostRuntime) -> Result<(), Fail> {
 fn a_record_that_was_committed_is_read(rt: HostRuntime) -> Result<(), Fail> {
     let alloc = rt.alloc();
     let mut site = over(alloc, &[0])?;
-    let built = build(Vec::from_slice(alloc, b"abc")?, 0)?;
+    let built = build(alloc, b"abc", 0)?;
     assert_eq!(rt; commit(&mut site, Side::Zero, &built), Ok(8));
     let size = site.size(Side::Zero)?;
     assert_eq!(rt; size, 9);

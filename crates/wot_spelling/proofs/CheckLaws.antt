@@ -10,11 +10,12 @@ use Rattle.wot_types.specs.declared.cert.Cert.{Cert}
 use Rattle.wot_types.specs.declared.user.User.{User}
 use Rattle.wot_types.specs.declared.key.Key.{Key}
 use Rattle.wot_types.specs.declared.options.Options.{Options}
+use Rattle.wot_types.specs.declared.row.Row.{Row}
 use Rattle.wot_types.specs.declared.ownertrust.Entry.{Entry}
 use Rattle.wot_types.specs.Ownertrust.{is_unset, kept_of}
 use Rattle.std.specs.declared.cmp.Ordering.{Ordering}
 use Rattle.std.specs.declared.cmp.Ordering.TheVariants.{Less, Equal, Greater}
-use Rattle.std.specs.Ordering.{is_lt}
+use Rattle.std.specs.Ordering.{is_lt, nat_cmp}
 use Rattle.wot_types.specs.Fingerprint.{IsFprLength, fpr_cmp}
 use Rattle.wot_types.specs.Keyring.{id_of, key_certs}
 use Rattle.wot_types.specs.Listing.{is_same_user}
@@ -24,6 +25,7 @@ use Rattle.wot_types.specs.WellFormed.{AreDistinctUsers, IsScope, IsCert, IsUser
 use Rattle.wot_spelling.specs.Checks.{has_scope, is_cert, is_user, are_distinct, is_marked_once, has_few_certs, is_well_formed, is_rising, are_importable, is_in_range, is_sample_count, are_rising_entries, are_settable}
 use Rattle.wot_types.specs.Payload.{IsInRange, IsRisingBy, AreSettable}
 use Rattle.wot_types.specs.Accepted.{AreImportable}
+use Rattle.wot_spelling.specs.Stored.{AreStored, are_rising_rows, are_stored}
 use Rattle.wot_spelling.proofs.Lengths.{scope_yes, scope_is}
 
 -- what a test means
@@ -171,4 +173,20 @@ unfolding are_settable
 settable_tells entries =
     reads _ _ (AreSettable entries)
     (both _ _ _ _ (each (λ entry. not (is_unset (kept_of entry))) (λ entry. is_unset (kept_of entry) ≡ false) (λ entry. not_true (is_unset (kept_of entry))) entries) (rising_entries_tells entries))
+    (λ h. record { each = h.0; rising = h.1 }) (λ h. (h.each, h.rising))
+
+below_by_cmp : (a b : ℕ) → Tells (nat_lt a b) (nat_cmp a b ≡ Less)
+below_by_cmp a b = record { is = λ e. grind (arith, nat_tests); yes = λ h. grind (arith, nat_tests) }
+
+rising_rows_tells : (rows : List Row) → Tells (are_rising_rows rows) (IsRisingBy (λ a b. nat_cmp a.key b.key) rows)
+unfolding are_rising_rows
+rising_rows_tells [] = record { is = λ e. tt; yes = λ h. refl }
+rising_rows_tells (a ∷ []) = record { is = λ e. tt; yes = λ h. refl }
+rising_rows_tells (a ∷ b ∷ rows) = both _ _ _ _ (below_by_cmp a.key b.key) (rising_rows_tells (b ∷ rows))
+
+pub stored_tells : (rows : List Row) → Tells (are_stored rows) (AreStored rows)
+unfolding are_stored
+stored_tells rows =
+    reads _ _ (AreStored rows)
+    (both _ _ _ _ (each (λ row. has_scope row.scope) (λ row. IsScope row.scope) (λ row. scope_tells row.scope) rows) (rising_rows_tells rows))
     (λ h. record { each = h.0; rising = h.1 }) (λ h. (h.each, h.rising))

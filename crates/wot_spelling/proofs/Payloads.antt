@@ -10,7 +10,7 @@ use Rattle.wot_types.specs.declared.key.Key.{Key}
 use Rattle.wot_types.specs.declared.edit.Edit.{Edit}
 use Rattle.wot_types.specs.declared.edit.Edit.TheVariants.{Import, Set, Delete, Options as SetOptions, Ownertrust, Flag, Date, Sample}
 use Rattle.wot_types.specs.Fingerprint.{IsFprLength}
-use Rattle.wot_types.specs.Spelling.{number_1, number_4, entry_bytes, EntryFits, list_bytes, key_bytes, options_bytes, KeyFits, ListFits, OptionsFit}
+use Rattle.wot_types.specs.Spelling.{number_1, number_4, entry_bytes, EntryFits, list_bytes, key_bytes, options_bytes, KeyFits, ListFits, OptionsFit, row_bytes, RowFits}
 use Rattle.wot_spelling.specs.Reading.{Read, made, number_1_at}
 use Rattle.wot_spelling.specs.Checks.{are_importable, are_settable, is_in_range, is_sample_count}
 use Rattle.wot_types.specs.Limits.{most_record, most_sample}
@@ -18,10 +18,11 @@ use Rattle.wot_types.specs.Payload.{AreSettable, EditFits, IsInRange, IsPayload,
 use Rattle.wot_types.specs.Accepted.{AreImportable}
 use Rattle.wot_spelling.specs.Edits.{entries_at, flag_of, keys_at, range_at, sample_count_at, sample_of, set_of, edit_after, edit_at, edit_of}
 use Rattle.wot_spelling.proofs.Parts.{IsBytes, Taken, IsPart, bind_some, both_part, part_of, flag_part, number_1_part, number_4_part, number_8_part}
-use Rattle.wot_spelling.proofs.ValueParts.{kept_part, list_part, fpr_part, trust_part, entry_part, key_part, options_part}
+use Rattle.wot_spelling.specs.Stored.{AreStored, are_stored, rows_at}
+use Rattle.wot_spelling.proofs.ValueParts.{kept_part, list_part, fpr_part, trust_part, entry_part, key_part, options_part, row_part}
 use Rattle.wot_spelling.proofs.Lists.{few_parts}
 use Rattle.wot_spelling.proofs.Rooms.{entry_some, key_some}
-use Rattle.wot_spelling.proofs.CheckLaws.{importable_tells, in_range_tells, sample_count_tells, settable_tells}
+use Rattle.wot_spelling.proofs.CheckLaws.{importable_tells, in_range_tells, sample_count_tells, settable_tells, stored_tells}
 
 -- what a payload says of an edit
 abbrev pub HasPayload : Edit → Type 0
@@ -48,6 +49,10 @@ sample_count_part = part_of (λ n f. (f.0, (sample_count_tells n).is f.1)) (λ n
 pub entries_part : IsPart (list_bytes entry_bytes) (λ entries. ListFits EntryFits entries × AreSettable entries) entries_at
 unfolding entries_at
 entries_part = part_of (λ es f. (f.0, (settable_tells es).is f.1)) (λ es f. (f.0, (settable_tells es).yes f.1)) (kept_part are_settable (list_part entry_part))
+
+pub rows_part : IsPart (list_bytes row_bytes) (λ rows. ListFits RowFits rows × AreStored rows) rows_at
+unfolding rows_at
+rows_part = part_of (λ rs f. (f.0, (stored_tells rs).is f.1)) (λ rs f. (f.0, (stored_tells rs).yes f.1)) (kept_part are_stored (list_part row_part))
 
 chosen : {A : Type 0} (b : Bool) (x y z : Option A) → cond b x y ≡ z → ((b ≡ true) × (x ≡ z)) ⊎ ((b ≡ false) × (y ≡ z))
 chosen true x y z e = inl (refl, e)

@@ -7,8 +7,9 @@ use Rattle.wot_types.specs.declared.user.User.{User}
 use Rattle.wot_types.specs.declared.user.UserKind.{UserKind}
 use Rattle.wot_types.specs.declared.user.UserKind.TheVariants.{Uid, Uat}
 use Rattle.wot_types.specs.declared.ownertrust.Entry.{Entry}
+use Rattle.wot_types.specs.declared.row.Row.{Row}
 use Rattle.wot_types.specs.declared.key.Key.{Key}
-use Rattle.wot_types.specs.Spelling.{entry_bytes, IsShort, number_4, number_8, flag_bytes, text_bytes, scope_bytes, fpr_bytes, kind_bytes, list_bytes, cert_bytes, user_bytes, key_bytes}
+use Rattle.wot_types.specs.Spelling.{entry_bytes, IsShort, number_4, number_8, flag_bytes, text_bytes, scope_bytes, fpr_bytes, kind_bytes, list_bytes, cert_bytes, user_bytes, key_bytes, row_bytes}
 use Rattle.wot_spelling.proofs.Lists.{few_parts}
 
 text_len : (t : List ℕ) → length (text_bytes t) ≡ 4 + length t
@@ -76,3 +77,11 @@ key_room k h =
     let w = simp length-append at h in
     let users : length (list_bytes user_bytes k.users) < 2 ^ 32 = omega arith in
     record { caps = omega (arith, text_len k.caps); few = few_parts user_bytes k.users user_some users; users = users }
+
+pub row_some : (r : Row) → 0 < length (row_bytes r)
+unfolding row_bytes
+row_some r = some_front (number_8 r.key) _ (number_8_some r.key)
+
+pub row_room : (r : Row) → length (row_bytes r) < 2 ^ 32 → IfSome r.scope IsShort
+unfolding row_bytes
+row_room r h = let k = simp length-append at h in scope_room r.scope (omega arith)

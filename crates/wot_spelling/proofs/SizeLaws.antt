@@ -9,23 +9,25 @@ use Rattle.wot_types.specs.declared.cert.Cert.{Cert}
 use Rattle.wot_types.specs.declared.user.User.{User}
 use Rattle.wot_types.specs.declared.user.UserKind.{UserKind}
 use Rattle.wot_types.specs.declared.user.UserKind.TheVariants.{Uid, Uat}
+use Rattle.wot_types.specs.declared.options.Options.{Options}
 use Rattle.wot_types.specs.declared.ownertrust.Entry.{Entry}
 use Rattle.wot_types.specs.declared.key.Key.{Key}
+use Rattle.wot_types.specs.declared.row.Row.{Row}
 use Rattle.wot_types.specs.declared.edit.Edit.{Edit}
 use Rattle.wot_types.specs.declared.edit.Edit.TheVariants.{Import, Set, Delete, Options as SetOptions, Ownertrust, Flag, Date, Sample}
-use Rattle.wot_types.specs.Spelling.{entry_bytes, number_1, number_4, number_8, flag_bytes, text_bytes, scope_bytes, fpr_bytes, trust_bytes, kind_bytes, list_bytes, cert_bytes, user_bytes, key_bytes, options_bytes}
+use Rattle.wot_types.specs.Spelling.{entry_bytes, number_1, number_4, number_8, flag_bytes, text_bytes, scope_bytes, fpr_bytes, trust_bytes, kind_bytes, list_bytes, cert_bytes, user_bytes, key_bytes, options_bytes, row_bytes}
 use Rattle.wot_types.specs.Payload.{payload}
-use Rattle.wot_spelling.specs.Sizes.{entry_size, scope_size, cert_size, user_size, key_size, payload_size}
+use Rattle.wot_spelling.specs.Sizes.{entry_size, scope_size, cert_size, user_size, key_size, row_size, payload_size}
 
-one : (n : ℕ) → length (number_1 n) ≡ 1
+pub one : (n : ℕ) → length (number_1 n) ≡ 1
 unfolding number_1
 one n = refl
 
-four : (n : ℕ) → length (number_4 n) ≡ 4
+pub four : (n : ℕ) → length (number_4 n) ≡ 4
 unfolding number_4
 four n = refl
 
-eight : (n : ℕ) → length (number_8 n) ≡ 8
+pub eight : (n : ℕ) → length (number_8 n) ≡ 8
 unfolding number_8
 eight n = refl
 
@@ -48,29 +50,37 @@ unfolding scope_bytes scope_size
 scope_is None = flag_is false
 scope_is (Some t) = omega (arith, length-append (flag_bytes true) (text_bytes t), flag_is true, text_is t)
 
-same_sum : {A : Type 0} (f g : A → ℕ) → ((x : A) → f x ≡ g x) → (xs : List A) → sum_by f xs ≡ sum_by g xs
+pub same_sum : {A : Type 0} (f g : A → ℕ) → ((x : A) → f x ≡ g x) → (xs : List A) → sum_by f xs ≡ sum_by g xs
 same_sum f g h [] = refl
 same_sum f g h (x ∷ xs) = omega (arith, sum_by-cons f x xs, sum_by-cons g x xs, h x, same_sum f g h xs)
 
-list_is : {A : Type 0} (s : A → List ℕ) (size : A → ℕ) → ((x : A) → length (s x) ≡ size x) → (xs : List A) → length (list_bytes s xs) ≡ 4 + sum_by size xs
+pub list_is : {A : Type 0} (s : A → List ℕ) (size : A → ℕ) → ((x : A) → length (s x) ≡ size x) → (xs : List A) → length (list_bytes s xs) ≡ 4 + sum_by size xs
 unfolding list_bytes
 list_is s size h xs = omega (arith, length-append (number_4 (length xs)) (flat_map s xs), four (length xs), length-flat_map s xs, same_sum (λ x. length (s x)) size h xs)
 
-cert_is : (c : Cert) → length (cert_bytes c) ≡ cert_size c
+pub cert_is : (c : Cert) → length (cert_bytes c) ≡ cert_size c
 unfolding cert_bytes cert_size
 cert_is c = simp (length-append, one, four, eight, flag_is, scope_is) (omega arith)
 
-user_is : (u : User) → length (user_bytes u) ≡ user_size u
+pub user_is : (u : User) → length (user_bytes u) ≡ user_size u
 unfolding user_bytes user_size
 user_is u = let e = list_is cert_bytes cert_size cert_is u.certs in simp (length-append, four, flag_is, kind_is, text_is) (omega arith)
 
-key_is : (k : Key) → length (key_bytes k) ≡ key_size k
+pub key_is : (k : Key) → length (key_bytes k) ≡ key_size k
 unfolding key_bytes key_size fpr_bytes
 key_is k = let e = list_is user_bytes user_size user_is k.users in simp (length-append, four, flag_is, text_is) (omega arith)
 
-entry_is : (e : Entry) → length (entry_bytes e) ≡ entry_size e
+pub entry_is : (e : Entry) → length (entry_bytes e) ≡ entry_size e
 unfolding entry_bytes entry_size fpr_bytes
 entry_is e = simp (length-append, one) (omega arith)
+
+pub row_is : (r : Row) → length (row_bytes r) ≡ row_size r
+unfolding row_bytes row_size trust_bytes
+row_is r = simp (length-append, one, eight, scope_is) (omega arith)
+
+pub options_is : (o : Options) → length (options_bytes o) ≡ 11
+unfolding options_bytes
+options_is o = simp (length-append, one, four, flag_is) (omega arith)
 
 pub payload_is : (e : Edit) → length (payload e) ≡ payload_size e
 unfolding payload payload_size fpr_bytes trust_bytes options_bytes

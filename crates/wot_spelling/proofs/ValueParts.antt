@@ -10,6 +10,7 @@ use Rattle.wot_types.specs.declared.user.UserKind.{UserKind}
 use Rattle.wot_types.specs.declared.user.UserKind.TheVariants.{Uid, Uat}
 use Rattle.wot_types.specs.declared.key.Key.{Key}
 use Rattle.wot_types.specs.declared.options.Options.{Options}
+use Rattle.wot_types.specs.declared.row.Row.{Row}
 use Rattle.wot_types.specs.declared.ownertrust.Entry.{Entry}
 use Rattle.wot_types.specs.declared.ownertrust.Ownertrust.{Ownertrust}
 use Rattle.wot_types.specs.Ownertrust.{entry_of, kept_of, ownertrust_number}
@@ -21,9 +22,9 @@ use Rattle.wot_types.specs.declared.trust.Trust.{Trust}
 use Rattle.wot_types.specs.declared.trust.Trust.TheVariants.{Unknown, Undefined, Never, Marginal, Full, Ultimate}
 use Rattle.wot_types.specs.Fingerprint.{IsFprLength}
 use Rattle.wot_types.specs.Trust.{trust_number, trust_of_number}
-use Rattle.wot_types.specs.Spelling.{entry_bytes, EntryFits, number_1, number_4, flag_bytes, text_bytes, scope_bytes, fpr_bytes, trust_bytes, kind_bytes, list_bytes, cert_bytes, user_bytes, key_bytes, options_bytes, CertFits, UserFits, KeyFits, ListFits, OptionsFit}
+use Rattle.wot_types.specs.Spelling.{entry_bytes, EntryFits, number_1, number_4, flag_bytes, text_bytes, scope_bytes, fpr_bytes, trust_bytes, kind_bytes, list_bytes, cert_bytes, user_bytes, key_bytes, options_bytes, CertFits, UserFits, KeyFits, ListFits, OptionsFit, row_bytes, RowFits}
 use Rattle.wot_types.proofs.TrustNumbers.{no_trust, flagged}
-use Rattle.wot_spelling.specs.Reading.{◌>>=◌, Read, kept, bytes_at, number_1_at, number_4_at, flag_at, text_at, option_at, scope_at, is_fpr, fpr_at, or_none, coded_at, ownertrust_at, entry_at, trust_at, user_kind_at, many_at, list_at, CertParts, cert_of, cert_at, UserParts, user_of, user_at, KeyParts, key_of, key_at, OptionsParts, options_of, options_at}
+use Rattle.wot_spelling.specs.Reading.{◌>>=◌, Read, kept, bytes_at, number_1_at, number_4_at, flag_at, text_at, option_at, scope_at, is_fpr, fpr_at, or_none, coded_at, ownertrust_at, entry_at, trust_at, user_kind_at, many_at, list_at, CertParts, cert_of, cert_at, UserParts, user_of, user_at, KeyParts, key_of, key_at, OptionsParts, options_of, options_at, RowParts, row_of, row_at}
 use Rattle.wot_spelling.proofs.Lengths.{fpr_yes, fpr_is}
 use Rattle.wot_spelling.proofs.Parts.{IsBytes, Taken, IsPart, bind_some, both_part, made_part, part_of, bytes_take, bytes_again, number_1_part, number_4_part, number_8_part, flag_part, text_part}
 
@@ -275,3 +276,13 @@ options_part =
     part_of (λ o f. record { completes = f.1.0; marginals = f.1.1.0 }) (λ o f. (tt, (f.completes, (f.marginals, (tt, tt)))))
     (made_part options_of options_parts (λ p. refl) (λ o. refl)
     (both_part flag_part (both_part number_4_part (both_part number_4_part (both_part number_1_part number_1_part)))))
+
+row_parts : Row → RowParts
+row_parts r = (r.key, (r.level, (r.trust, (r.left, r.scope))))
+
+pub row_part : IsPart row_bytes RowFits row_at
+unfolding row_bytes row_at row_parts
+row_part =
+    part_of (λ r f. record { key = f.0; scope = f.1.1.1.1 }) (λ r f. (f.key, (tt, (tt, (tt, f.scope)))))
+    (made_part row_of row_parts (λ p. refl) (λ r. refl)
+    (both_part number_8_part (both_part number_1_part (both_part trust_part (both_part number_1_part scope_part)))))

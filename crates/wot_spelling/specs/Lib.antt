@@ -1,4 +1,5 @@
 pub mod Reading
 pub mod Checks
 pub mod Edits
+pub mod Stored
 pub mod Sizes

@@ -8,6 +8,7 @@ use Rattle.wot_types.specs.declared.user.UserKind.{UserKind}
 use Rattle.wot_types.specs.declared.user.UserKind.TheVariants.{Uid, Uat}
 use Rattle.wot_types.specs.declared.key.Key.{Key}
 use Rattle.wot_types.specs.declared.options.Options.{Options}
+use Rattle.wot_types.specs.declared.row.Row.{Row}
 use Rattle.wot_types.specs.declared.trust.Trust.{Trust}
 use Rattle.wot_types.specs.declared.ownertrust.Entry.{Entry}
 use Rattle.wot_types.specs.declared.ownertrust.Ownertrust.{Ownertrust}
@@ -150,3 +151,12 @@ ownertrust_at = coded_at ownertrust_of_number
 
 unfoldable pub entry_at : Read Entry
 entry_at = made entry_of (fpr_at & ownertrust_at)
+
+abbrev pub RowParts : Type 0
+RowParts = ℕ × (ℕ × (Trust × (ℕ × Option (List ℕ))))
+
+abbrev pub row_of : RowParts → Row
+row_of p = record { key = p.0; level = p.1.0; trust = p.1.1.0; left = p.1.1.1.0; scope = p.1.1.1.1 }
+
+unfoldable pub row_at : Read Row
+row_at = made row_of (number_8_at & number_1_at & trust_at & number_1_at & scope_at)

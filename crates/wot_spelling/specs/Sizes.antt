@@ -4,6 +4,7 @@ use Rattle.wot_types.specs.declared.cert.Cert.{Cert}
 use Rattle.wot_types.specs.declared.user.User.{User}
 use Rattle.wot_types.specs.declared.ownertrust.Entry.{Entry}
 use Rattle.wot_types.specs.declared.key.Key.{Key}
+use Rattle.wot_types.specs.declared.row.Row.{Row}
 use Rattle.wot_types.specs.declared.edit.Edit.{Edit}
 use Rattle.wot_types.specs.declared.edit.Edit.TheVariants.{Import, Set, Delete, Options as SetOptions, Ownertrust, Flag, Date, Sample}
 
@@ -22,6 +23,9 @@ key_size k = 26 + length k.fpr + length k.caps + sum_by user_size k.users
 
 unfoldable pub entry_size : Entry → ℕ
 entry_size e = 2 + length e.fpr
+
+unfoldable pub row_size : Row → ℕ
+row_size r = 11 + scope_size r.scope
 
 unfoldable pub payload_size : Edit → ℕ
 payload_size (Import keys) = 5 + sum_by key_size keys

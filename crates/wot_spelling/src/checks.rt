@@ -5,10 +5,11 @@ ghost use Rattle.std.specs.List.{list_all, list_any};
 ghost use Rattle.wot_types.specs.Listing.{is_same_user};
 ghost use Rattle.wot_types.specs.Ownertrust.{is_unset, kept_of};
 ghost use Rattle.wot_types.specs.Records.{is_capability, is_hash_byte, is_kept_class};
+ghost use Rattle.wot_spelling.specs.Stored.{are_rising_rows, are_stored};
 ghost use Rattle.wot_spelling.specs.Checks.{are_rising_entries, are_settable, are_distinct, are_importable, has_few_certs, has_scope, is_cert, is_in_range, is_marked_once, is_rising, is_sample_count, is_user, is_well_formed};
 
 use wot_types::{
-    Cert, Entry, Key, KeyId, MOST_CERTS, MOST_SAMPLE, MOST_USERS, Options, Scope, Trust, User,
+    Cert, Entry, Key, KeyId, MOST_CERTS, MOST_SAMPLE, MOST_USERS, Options, Row, Scope, Trust, User,
 };
 
 fn is_hash_byte(b: u8) -> bool
@@ -224,4 +225,33 @@ pub fn are_settable(entries: &[Entry]) -> bool
     ensures { result ≡ are_settable entries.now }
 {
     are_set(entries) && are_rising_entries(entries)
+}
+
+fn have_scopes(rows: &[Row]) -> bool
+    ensures { result ≡ list_all (λ row. has_scope row.scope) rows.now }
+{
+    rows.iter().all(|row| has_scope(&row.scope))
+}
+
+#[tactic(auto, unfolding(crate::specs::Stored::are_rising_rows))]
+fn are_rising_rows(rows: &[Row]) -> bool
+    ensures { result ≡ are_rising_rows rows.now }
+{
+    let mut left = rows;
+    while let [row, rest @ ..] = left {
+        if let [next, ..] = rest {
+            if row.key >= next.key {
+                return false;
+            }
+        }
+        left = rest;
+    }
+    true
+}
+
+#[tactic(auto, unfolding(crate::specs::Stored::are_stored))]
+pub fn are_stored(rows: &[Row]) -> bool
+    ensures { result ≡ are_stored rows.now }
+{
+    have_scopes(rows) && are_rising_rows(rows)
 }

@@ -1,4 +1,4 @@
-//! The bytes of the store's values: each edit has one spelling, the payload of its record.
+//! The bytes of the store's values: each edit has one spelling, the payload of its record. The image stands on the same parts.
 #![tactic(auto)]
 
 mod checks; // what is tested of the values that are read
@@ -10,4 +10,7 @@ mod values; // the values that stand in lists
 mod writer; // writing parts at the end
 
 pub use payload::{decode, encode, one_payload};
+pub use reader::{Part, Reader};
 pub use sizes::payload_length;
+pub use stop::Stop;
+pub use writer::Writer;

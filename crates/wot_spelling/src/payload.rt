@@ -4,21 +4,22 @@ ghost use Rattle.std.specs.Prelude.{◌≡◌, ◌++◌, ◌≤◌, List, ℕ, l
 ghost use Rattle.wot_types.specs.declared.edit.Edit.{Edit};
 ghost use Rattle.wot_spelling.specs.Reading.{Gives};
 ghost use Rattle.wot_types.specs.Limits.{most_record};
+ghost use Rattle.wot_spelling.specs.Stored.{rows_at};
 ghost use Rattle.wot_types.specs.Payload.{EditFits, IsPayload, IsProper, payload};
 ghost use Rattle.wot_spelling.specs.Edits.{GivesAll, edit_at, edit_of, entries_at, keys_at, range_at, sample_count_at};
 
-use crate::checks::{are_importable, are_settable, is_in_range, is_sample_count};
+use crate::checks::{are_importable, are_settable, are_stored, is_in_range, is_sample_count};
 use crate::reader::Reader;
 use crate::sizes::payload_length;
 use crate::stop::Stop;
 use crate::writer::Writer;
 use std::alloc::Global;
-use wot_types::{Edit, Entries, Entry, Key, Keys, Mem, Options};
+use wot_types::{Edit, Entries, Entry, Key, Keys, List, Mem, Options, Row};
 
 impl<'a> Reader<'a> {
     /// Keys to import: well formed, in strictly rising order of their key IDs.
     #[tactic(auto, unfolding(crate::specs::Edits::keys_at))]
-    fn keys(&mut self, alloc: Global) -> Result<Keys, Stop>
+    pub fn keys(&mut self, alloc: Global) -> Result<Keys, Stop>
         ensures { Gives (keys_at self.old) result self.new }
     {
         let keys = self.list::<Key>(alloc)?;
@@ -31,7 +32,7 @@ impl<'a> Reader<'a> {
 
     /// Options in their ranges.
     #[tactic(auto, unfolding(crate::specs::Edits::range_at))]
-    fn range(&mut self) -> Result<Options, Stop>
+    pub fn range(&mut self) -> Result<Options, Stop>
         ensures { Gives (range_at self.old) result self.new }
     {
         let options = self.options()?;
@@ -44,12 +45,25 @@ impl<'a> Reader<'a> {
 
     /// Entries to set, in strictly rising order of their fingerprints.
     #[tactic(auto, unfolding(crate::specs::Edits::entries_at))]
-    fn entries(&mut self, alloc: Global) -> Result<Entries, Stop>
+    pub fn entries(&mut self, alloc: Global) -> Result<Entries, Stop>
         ensures { Gives (entries_at self.old) result self.new }
     {
         let entries = self.list::<Entry>(alloc)?;
         if are_settable(entries.as_slice()) {
             Ok(entries)
+        } else {
+            Err(Stop::NoSpelling)
+        }
+    }
+
+    /// Rows with regular expressions of 1 to 255 bytes, in strictly rising order of their key IDs.
+    #[tactic(auto, unfolding(crate::specs::Stored::rows_at))]
+    pub fn rows(&mut self, alloc: Global) -> Result<List<Row>, Stop>
+        ensures { Gives (rows_at self.old) result self.new }
+    {
+        let rows = self.list::<Row>(alloc)?;
+        if are_stored(rows.as_slice()) {
+            Ok(rows)
         } else {
             Err(Stop::NoSpelling)
         }

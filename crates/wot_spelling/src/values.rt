@@ -1,13 +1,13 @@
 //! Reading the values that stand in lists.
 
-ghost use Rattle.wot_types.specs.Spelling.{cert_bytes, user_bytes, key_bytes, entry_bytes, EntryFits, CertFits, UserFits, KeyFits};
-ghost use Rattle.wot_spelling.specs.Reading.{cert_at, user_at, key_at, entry_at};
+ghost use Rattle.wot_types.specs.Spelling.{cert_bytes, user_bytes, key_bytes, entry_bytes, EntryFits, CertFits, UserFits, KeyFits, row_bytes, RowFits};
+ghost use Rattle.wot_spelling.specs.Reading.{cert_at, user_at, key_at, entry_at, row_at};
 
 use crate::reader::{Part, Reader};
 use crate::stop::Stop;
 use crate::writer::Writer;
 use std::alloc::Global;
-use wot_types::{Cert, Entry, Key, Mem, Ownertrust, User, UserKind};
+use wot_types::{Cert, Entry, Key, Mem, Ownertrust, Row, User, UserKind};
 
 impl Part for Cert {
     ghost bytes = { cert_bytes };
@@ -160,6 +160,40 @@ impl Part for Entry {
             trust: self.trust,
             disabled: self.disabled,
         })?;
+        Ok(())
+    }
+}
+
+impl Part for Row {
+    ghost bytes = { row_bytes };
+
+    ghost Fits = { RowFits };
+
+    ghost at = { row_at };
+
+    #[tactic(auto, unfolding(crate::specs::Reading::row_at))]
+    fn read(alloc: Global, reader: &mut Reader<'_>) -> Result<Row, Stop> {
+        let key = reader.key_id()?;
+        let level = reader.number_1()?;
+        let trust = reader.trust()?;
+        let left = reader.number_1()?;
+        let scope = reader.scope(alloc)?;
+        Ok(Row {
+            key,
+            level,
+            trust,
+            left,
+            scope,
+        })
+    }
+
+    #[tactic(auto, unfolding(wot_types::specs::Spelling::row_bytes))]
+    fn write(&self, writer: &mut Writer) -> Result<(), Mem> {
+        writer.key_id(self.key)?;
+        writer.number_1(self.level)?;
+        writer.trust(self.trust)?;
+        writer.number_1(self.left)?;
+        writer.scope(&self.scope)?;
         Ok(())
     }
 }

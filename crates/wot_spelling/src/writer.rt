@@ -1,6 +1,6 @@
 //! Writing the parts of a spelling, one after the other.
 
-ghost use Rattle.std.specs.Prelude.{◌≡◌, ◌<◌, ◌^◌, ◌++◌, [], IfOk, OnOk, IfSome, length};
+ghost use Rattle.std.specs.Prelude.{◌≡◌, ◌<◌, ◌≤◌, ◌-◌, ◌^◌, ◌++◌, [], IfOk, OnOk, IfSome, drop, length};
 ghost use Rattle.wot_types.specs.Fingerprint.{IsFprLength};
 ghost use Rattle.wot_types.specs.Ownertrust.{ownertrust_number};
 ghost use Rattle.wot_types.specs.Spelling.{IsShort, ListFits, OptionsFit, number_1, number_4, number_8, flag_bytes, text_bytes, scope_bytes, fpr_bytes, trust_bytes, kind_bytes, options_bytes, list_bytes};
@@ -31,6 +31,19 @@ impl Writer {
     {
         let out = Vec::with_capacity(alloc, room)?;
         Ok(Writer { out })
+    }
+
+    /// Writes over the first eight bytes how many bytes follow them.
+    #[tactic(auto, unfolding(wot_types::specs::Spelling::number_8))]
+    pub fn set_length(&mut self)
+        requires { 8 ≤ length self.old }
+        ensures set { self.new ≡ number_8 (length self.old - 8) ++ drop 8 self.old }
+        ensures fits { length self.old < 2 ^ 64 }
+    {
+        let length = self.out.len() as u64 - 8;
+        if let Some(front) = self.out.first_chunk_mut::<8>() {
+            *front = length.to_be_bytes();
+        }
     }
 
     pub fn into_vec(self) -> Vec<u8>

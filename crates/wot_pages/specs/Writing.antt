@@ -1,0 +1,48 @@
+-- What writing pages does.
+use Rattle.std.specs.Prelude.{ℕ, ◌≡◌, ◌+◌, ◌≤◌, List, ◌++◌, length, take, All}
+use Rattle.wot_site.specs.declared.range.Range.{Range}
+use Rattle.wot_site.specs.declared.side.Side.{Side}
+use Rattle.wot_site.specs.Disk.{Disk, Disks, IsImage, disk_of, with_disk, bytes_after_write}
+use Rattle.wot_site.specs.Seen.{Seen}
+use Rattle.wot_site.specs.Work.{Works}
+use Rattle.wot_site.specs.Gate.{IsClosed}
+use Rattle.wot_pages.specs.Page.{first_page, pages_needed}
+use Rattle.wot_pages.specs.Pages.{pages_for}
+
+-- a side has a header, and in each image the gate in front of it is closed
+pub record IsShut (d : Disk) : Type 0 where
+  pub long : first_page ≤ length d.reads
+  pub images : (c : List ℕ) → IsImage d c → IsClosed c 0
+
+-- bytes of a side from a place on alone were written since
+pub record IsWrittenFrom (place : ℕ) (old new : Disk) : Type 0 where
+  pub front : take place new.reads ≡ take place old.reads
+  pub no_shorter : length old.reads ≤ length new.reads
+  pub synced : new.synced ≡ old.synced
+  pub ranges : List Range
+  pub pending : new.pending ≡ old.pending ++ ranges
+  pub behind : All (λ r. place ≤ r.at) ranges
+
+-- these bytes begin as an image of the side does
+pub record HasHeaderOf (d : Disk) (c : List ℕ) : Type 0 where
+  pub image : List ℕ
+  pub is : IsImage d image
+  pub same : take first_page c ≡ take first_page image
+
+-- of this side bytes behind the header alone were written, of the other none;
+-- in each image the header is as in one that there was, and its gate is closed
+pub record FillsPages (side : Side) (old new : Disks) : Type 0 where
+  pub other : new ≡ with_disk side (disk_of side new) old
+  pub written : IsWrittenFrom first_page (disk_of side old) (disk_of side new)
+  pub header : (c : List ℕ) → IsImage (disk_of side new) c → HasHeaderOf (disk_of side old) c
+  pub shut : (c : List ℕ) → IsImage (disk_of side new) c → IsClosed c 0
+
+-- no more calls were made than there are pages
+abbrev pub WritesAtMost : ℕ → Seen → Seen → Type 0
+WritesAtMost pages old new = length new.moments ≤ length old.moments + pages
+
+-- the pages of an image were written over what stood behind the header, in one call each
+pub record WritesPages (side : Side) (epoch : ℕ) (image : List ℕ) (old new : Seen) : Type 0 where
+  pub works : Works (FillsPages side old.disks) old new
+  pub calls : length new.moments ≡ length old.moments + pages_needed (length image)
+  pub reads : (disk_of side new.disks).reads ≡ bytes_after_write (disk_of side old.disks).reads first_page (pages_for epoch image)
