@@ -52,7 +52,7 @@ fn make_allowed(
     ensures cut { IfOk result (λ answered. answered.cut ≡ Between) }
 {
     let payload = encode(alloc, &edit)?;
-    match build(payload, end) {
+    match build(alloc, &payload, end) {
         Ok(built) => {
             let engine = change(engine, edit)?;
             let text = reply.into_text(alloc, &engine)?;

@@ -1,6 +1,6 @@
 //! What a query is answered with.
 
-ghost use Rattle.std.specs.Prelude.{◌≡◌, ◌-◌, ◌<◌, None, IsSome, IfOk};
+ghost use Rattle.std.specs.Prelude.{◌≡◌, ◌-◌, ◌<◌, ◌≤◌, None, IsSome, IfOk};
 ghost use Rattle.wot_types.specs.Arrangement.{spot_at};
 ghost use Rattle.wot_types.specs.Keyring.{has_fpr};
 ghost use Rattle.wot_types.specs.Outcome.{answer_to, query_outcome, query_refusal, user_count};
@@ -93,17 +93,18 @@ fn query_text(alloc: Global, engine: &Engine, query: &Query) -> Result<Vec<u8>, 
         Query::Sigs => list(alloc, engine, None, true),
         Query::SigsOne(fpr) => list(alloc, engine, Some(fpr.key_id()), true),
         Query::Export => export(alloc, engine),
-        Query::Why(fpr, place) => explanation_text(alloc, engine, fpr.key_id(), *place - 1),
+        Query::Why(fpr, place) => explanation_text(alloc, engine, fpr.key_id(), *place),
         Query::Quit => Ok(Vec::new(alloc)),
     }
 }
 
-/// Why a user ID, numbered from 0, is as valid as it is.
-fn explanation_text(alloc: Global, engine: &Engine, id: KeyId, user: u32) -> Result<Vec<u8>, Mem>
-    requires there { IsSome (spot_at engine.now.keys id user) }
-    ensures { IfOk result (λ text. text.items ≡ why_text engine.now id user) }
+/// Why the user ID at a place, counted from 1, is as valid as it is.
+fn explanation_text(alloc: Global, engine: &Engine, id: KeyId, place: u32) -> Result<Vec<u8>, Mem>
+    requires from_one { 1 ≤ place }
+    requires there { IsSome (spot_at engine.now.keys id (place - 1)) }
+    ensures { IfOk result (λ text. text.items ≡ why_text engine.now id (place - 1)) }
 {
-    explanation_text_by::<Brand>(alloc, engine, id, user, Blank::new(1))
+    explanation_text_by::<Brand>(alloc, engine, id, place, Blank::new(1))
 }
 
 /// The same, over a counter of its own for the certifications that it reads. The letter is recounted from the cut keyring.
@@ -111,14 +112,16 @@ fn explanation_text_by<L: Ledger>(
     alloc: Global,
     engine: &Engine,
     id: KeyId,
-    user: u32,
+    place: u32,
     blank: Blank,
 ) -> Result<Vec<u8>, Mem>
-    requires there { IsSome (spot_at engine.now.keys id user) }
+    requires from_one { 1 ≤ place }
+    requires there { IsSome (spot_at engine.now.keys id (place - 1)) }
     requires own { (blank.name ≡ L.name) × (blank.parts ≡ L.parts) × (0 < L.parts) }
-    ensures { IfOk result (λ text. text.items ≡ why_text engine.now id user) }
+    ensures { IfOk result (λ text. text.items ≡ why_text engine.now id (place - 1)) }
 {
     let mut steps = Steps::<L>::open(blank);
+    let user = place - 1;
     let found = explain(engine, id, user, &mut steps)?;
     let table = cut(engine, &found, id, user, &mut steps)?;
     let options = engine.options();
@@ -131,5 +134,5 @@ fn explanation_text_by<L: Ledger>(
         user,
         &mut steps,
     )?;
-    why(alloc, id, user, &found, letter)
+    why(alloc, id, place, &found, letter)
 }

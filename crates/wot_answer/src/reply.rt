@@ -11,7 +11,7 @@ use crate::cut::Cut;
 use std::alloc::Global;
 use wot_journal::Built;
 use wot_live::Engine;
-use wot_print::refusal_line;
+use wot_print::refused;
 use wot_types::{Mem, Refusal};
 
 /// What is done to the store before a reply is told.
@@ -39,7 +39,7 @@ pub fn refuse(alloc: Global, engine: Engine, refusal: Refusal) -> Result<Answere
     Ok(Answered {
         engine,
         answer: Answer {
-            text: refusal_line(alloc, &refusal)?,
+            text: refused(alloc, &refusal)?,
             refused: true,
             effect: Effect::Nothing,
         },

@@ -1,26 +1,31 @@
 -- What the images of a commit show.
 use Rattle.std.proofs.Common.{◌≡◌, ◌⊎◌, inl, inr, ℕ, ◌+◌, ◌<◌, ◌≤◌, List, [], ◌∷◌, ◌++◌, length, get_or, take, drop, refl, sym, ◌∙◌, ap, subst, arith, None, Some}
-use Rattle.std.proofs.lemmas.List.{take-append-drop, drop-drop, length-drop, drop-take, take_at, drop_at, take-take, length-take-le, get_or-take, get_or-drop}
-use Rattle.std.proofs.lemmas.Bool.Decides.{nat_tests}
+use Rattle.std.proofs.lemmas.List.{take-append-drop, drop-drop, length-drop, drop-take, take_at, drop_at, take-take, length-take-le, get_or-drop}
 use Rattle.wot_types.specs.declared.edit.Edit.{Edit}
 use Rattle.wot_types.specs.State.{State}
 use Rattle.wot_types.specs.Outcome.{refusal_of, state_after, edited_store}
 use Rattle.wot_types.specs.Payload.{payload}
-use Rattle.wot_types.specs.State.{opening_state}
-use Rattle.wot_site.specs.Disk.{Disk, Disks, Image, settled_disk}
+use Rattle.wot_site.specs.Disk.{Image, disk_of, reads_of}
 use Rattle.wot_site.specs.Seen.{Seen}
 use Rattle.wot_site.specs.Work.{Works}
 use Rattle.wot_site.specs.declared.side.Side.{Side}
-use Rattle.wot_site.specs.declared.side.Side.TheVariants.{Zero}
+use Rattle.wot_store.specs.Base.{IsBaseOf}
+use Rattle.wot_pages.specs.Page.{page_place}
+use Rattle.wot_pages.specs.Pages.{contents_of}
+use Rattle.wot_store.specs.declared.header.Header.{Header}
+use Rattle.wot_store.specs.declared.place.Place.{Place}
 use Rattle.wot_site.proofs.Works.{works_weaker}
 use Rattle.wot_journal.specs.Record.{Framed, IsClosed, record_of, with_record, open_gate, most}
 use Rattle.wot_journal.specs.Commit.{IsUnchanged, IsCommitting, Commits}
 use Rattle.wot_journal.specs.Next.{HasRecord}
-use Rattle.wot_store.specs.Base.{IsOpened, base_fault, header_fault, header_of, epoch_of}
+use Rattle.wot_store.specs.Base.{base_fault, bytes_of, has_closed_gate, header_of, other_side}
 use Rattle.wot_store.specs.Journal.{Ends, Reaches, HasPayload, records, after_edit}
 use Rattle.wot_types.specs.Store.{Store}
 use Rattle.wot_store.specs.Shows.{Shows, ShowsBase, IsStored}
-use Rattle.wot_store.specs.Appending.{Appending, Appends, IsRecordOf}
+use Rattle.wot_store.specs.Appending.{Appending, Appends, IsRecordOf, place_after}
+use Rattle.wot_store.proofs.Headers.{IsWhole, base_whole, header_front, shown_header, whole_base}
+use Rattle.wot_pages.proofs.Held.{same_contents, same_fault}
+use Rattle.wot_store.proofs.Pairs.{IsShown, base_here, image_on, reads_bytes, replaced, shown_kept, shows_here}
 use Rattle.wot_store.proofs.Replaying.{reaches_more, length_record, has_payload}
 
 -- records that stand before a place stay where the bytes before it stay
@@ -41,39 +46,44 @@ reaches_front bytes c start base edits at s front within reaches =
       accepted = reaches.accepted;
     }
 
-longer : (side : Side) (header : List ℕ) (m n : ℕ) → header_fault side header m ≡ None → 24 < n → header_fault side header n ≡ None
-longer side header m n none high = grind (arith, nat_tests)
+module _ (side : Side) (bytes : List ℕ) (header : Header) (is : header_of bytes ≡ Some header) (shown : Store) (shows : ShowsBase side bytes header shown) where
+  whole : IsWhole bytes header
+  whole = whole_base side bytes header shows.sound
 
-module _ (bytes : List ℕ) (shown : Store) (shows : ShowsBase Zero bytes shown) where
-  low : 24 ≤ shown.end
+  low : page_place header.pages ≤ shown.end
   low = omega (arith, shows.journal.reaches.place)
 
-  -- the header, where the bytes before the end stay
+  -- the base, where the bytes before the end stay
   module _ (c : List ℕ) (front : take shown.end c ≡ take shown.end bytes) (within : shown.end < length c) where
-    head_same : header_of c ≡ header_of bytes
-    head_same = sym (take-take 24 shown.end c low) ∙ ap (λ (l : List ℕ). take 24 l) front ∙ take-take 24 shown.end bytes low
+    front_to : (n : ℕ) → n ≤ shown.end → take n c ≡ take n bytes
+    front_to n few = sym (take-take n shown.end c few) ∙ ap (λ (l : List ℕ). take n l) front ∙ take-take n shown.end bytes few
 
-    pub still_opened : IsOpened c
-    still_opened = record {
-      long = omega (arith, low, within);
-      gate = sym (get_or-take 24 c 0 0 (omega arith)) ∙ ap (λ (l : List ℕ). get_or l 0 0) head_same ∙ get_or-take 24 bytes 0 0 (omega arith) ∙ shows.opened.gate;
-    }
+    pub still_header : header_of c ≡ Some header
+    still_header = header_front bytes c header is (front_to 24 (omega (arith, low))) (omega (arith, low, within))
 
-    pub still_sound : base_fault Zero c ≡ None
-    still_sound = ap (λ (h : List ℕ). header_fault Zero h (length c)) head_same ∙ longer Zero (header_of bytes) (length bytes) (length c) shows.sound (omega (arith, low, within))
+    base_front : take (page_place header.pages) c ≡ take (page_place header.pages) bytes
+    base_front = front_to (page_place header.pages) low
 
-    pub still_reaches : Reaches c 24 opening_state shows.journal.edits shown.end shown.state
-    still_reaches = reaches_front bytes c 24 opening_state shows.journal.edits shown.end shown.state front within shows.journal.reaches
+    pub still_sound : base_fault side c header ≡ None
+    still_sound = base_whole side c header (record {
+      within = omega (arith, low, within);
+      bound = whole.bound;
+      sealed = same_fault header.pages bytes c base_front header.epoch ∙ whole.sealed;
+    })
 
-    pub still_epoch : shown.epoch ≡ epoch_of (header_of c)
-    still_epoch = shows.epoch ∙ ap epoch_of (sym head_same)
+    pub still_base : IsBaseOf (contents_of header.pages c) shows.base
+    still_base = subst (λ (l : List ℕ). IsBaseOf l shows.base) (sym (same_contents header.pages bytes c base_front)) shows.is_base
+
+    pub still_reaches : Reaches c (page_place header.pages) shows.base shows.journal.edits shown.end shown.state
+    still_reaches = reaches_front bytes c (page_place header.pages) shows.base shows.journal.edits shown.end shown.state front within shows.journal.reaches
 
   -- the journal as it was
-  pub still_shows : (c : List ℕ) → IsUnchanged bytes shown.end c → ShowsBase Zero c shown
+  pub still_shows : (c : List ℕ) → IsUnchanged bytes shown.end c → ShowsBase side c header shown
   still_shows c same = record {
-    opened = still_opened c same.front same.gate.within;
     sound = still_sound c same.front same.gate.within;
-    epoch = still_epoch c same.front same.gate.within;
+    epoch = shows.epoch;
+    base = shows.base;
+    is_base = still_base c same.front same.gate.within;
     journal = record { edits = shows.journal.edits; reaches = still_reaches c same.front same.gate.within; gate = same.gate };
   }
 
@@ -134,51 +144,98 @@ module _ (bytes : List ℕ) (shown : Store) (shows : ShowsBase Zero bytes shown)
     end_is : shown.end + length (payload edit) + 5 ≡ shown.end + 5 + length (payload edit)
     end_is = omega arith
 
-    longer_journal : Ends (with_record bytes shown.end (payload edit)) 24 opening_state (state_after shown.state edit) (shown.end + length (payload edit) + 5)
+    longer_journal : Ends (with_record bytes shown.end (payload edit)) (page_place header.pages) shows.base (state_after shown.state edit) (shown.end + length (payload edit) + 5)
     longer_journal = record {
       edits = shows.journal.edits ++ edit ∷ [];
-      reaches = reaches_more (with_record bytes shown.end (payload edit)) 24 opening_state shows.journal.edits shown.end shown.state edit (shown.end + length (payload edit) + 5) (state_after shown.state edit)
+      reaches = reaches_more (with_record bytes shown.end (payload edit)) (page_place header.pages) shows.base shows.journal.edits shown.end shown.state edit (shown.end + length (payload edit) + 5) (state_after shown.state edit)
           (still_reaches (with_record bytes shown.end (payload edit)) (front_record (payload edit) room) (omega (arith, within_record (payload edit) room))) (has_record (payload edit) room) spelled accepted;
       gate = closed_record (payload edit) room;
     }
 
-    pub more_shows : ShowsBase Zero (with_record bytes shown.end (payload edit)) (edited_store shown edit)
-    more_shows =
-        let front = front_record (payload edit) room in
-        let within : shown.end < length (with_record bytes shown.end (payload edit)) = omega (arith, within_record (payload edit) room) in
-        record {
-          opened = still_opened (with_record bytes shown.end (payload edit)) front within;
-          sound = still_sound (with_record bytes shown.end (payload edit)) front within;
-          epoch = still_epoch (with_record bytes shown.end (payload edit)) front within;
-          journal = subst (λ (n : ℕ). Ends (with_record bytes shown.end (payload edit)) 24 opening_state (state_after shown.state edit) n) end_is longer_journal;
-        }
+    more_front : take shown.end (with_record bytes shown.end (payload edit)) ≡ take shown.end bytes
+    more_front = front_record (payload edit) room
+
+    more_within : shown.end < length (with_record bytes shown.end (payload edit))
+    more_within = omega (arith, within_record (payload edit) room)
+
+    pub more_header : header_of (with_record bytes shown.end (payload edit)) ≡ Some header
+    more_header = still_header (with_record bytes shown.end (payload edit)) more_front more_within
+
+    pub more_shows : ShowsBase side (with_record bytes shown.end (payload edit)) header (edited_store shown edit)
+    more_shows = record {
+      sound = still_sound (with_record bytes shown.end (payload edit)) more_front more_within;
+      epoch = shows.epoch;
+      base = shows.base;
+      is_base = still_base (with_record bytes shown.end (payload edit)) more_front more_within;
+      journal = subst (λ (n : ℕ). Ends (with_record bytes shown.end (payload edit)) (page_place header.pages) shows.base (state_after shown.state edit) n) end_is longer_journal;
+    }
 
 -- appending, from what commits
-module _ (built : Framed) (shown : Store) (edit : Edit) (is_record : IsRecordOf built shown edit)
-    (room : built.end + length built.payload + 6 ≤ most) (x y : Seen) (stored : IsStored shown x.disks) where
-  recorded_is : with_record x.disks.zero.reads built.end built.payload ≡ with_record x.disks.zero.reads shown.end (payload edit)
-  recorded_is = ap (λ (n : ℕ). with_record x.disks.zero.reads n built.payload) (sym is_record.place) ∙ ap (λ (l : List ℕ). with_record x.disks.zero.reads shown.end l) is_record.spells.is
+module _ (place : Place) (built : Framed) (shown : Store) (edit : Edit) (is_record : IsRecordOf built shown edit)
+    (room : built.end + length built.payload + 6 ≤ most) (x y : Seen) (stored : IsStored place shown x.disks) where
+  here : IsShown (reads_of x.disks) place.side stored.header
+  here = record { sound = stored.shows.sound; is_side = stored.side }
 
-  recorded_shows : ShowsBase Zero (with_record x.disks.zero.reads built.end built.payload) (edited_store shown edit)
-  recorded_shows = subst (λ (l : List ℕ). ShowsBase Zero l (edited_store shown edit)) (sym recorded_is)
-      (more_shows x.disks.zero.reads shown stored.shows edit (has_payload built.payload edit is_record.spells) is_record.allowed
-      (omega (arith, is_record.place, ap (λ (l : List ℕ). length l) is_record.spells.is, room)))
+  is_header : header_of (bytes_of place.side (reads_of x.disks)) ≡ Some stored.header
+  is_header = shown_header (reads_of x.disks) place.side stored.header stored.side
 
-  image_shows : (c : Image) → IsUnchanged x.disks.zero.reads built.end c.zero ⊎ (c.zero ≡ with_record x.disks.zero.reads built.end built.payload) → Shows c shown ⊎ Shows c (edited_store shown edit)
-  image_shows c (inl same) = inl (inr (still_shows x.disks.zero.reads shown stored.shows c.zero (subst (λ (n : ℕ). IsUnchanged x.disks.zero.reads n c.zero) (sym is_record.place) same)))
-  image_shows c (inr whole) = inr (inr (subst (λ (l : List ℕ). ShowsBase Zero l (edited_store shown edit)) (sym whole) recorded_shows))
+  base : ShowsBase place.side (bytes_of place.side (reads_of x.disks)) stored.header shown
+  base = base_here (reads_of x.disks) place.side stored.header shown stored.side stored.shows
 
-  pub append_moments : Works (IsCommitting Zero built x.disks) x y → Appending shown (edited_store shown edit) x y
-  append_moments works = works_weaker _ _ x y (λ d on c image. image_shows c (on.images c.zero image.zero)) works
+  abbrev pub recorded : List ℕ
+  recorded = with_record (bytes_of place.side (reads_of x.disks)) built.end built.payload
 
-  pub append_done : Commits Zero built x y → Appends (edited_store shown edit) x y
+  recorded_is : recorded ≡ with_record (bytes_of place.side (reads_of x.disks)) shown.end (payload edit)
+  recorded_is = ap (λ (n : ℕ). with_record (bytes_of place.side (reads_of x.disks)) n built.payload) (sym is_record.place)
+      ∙ ap (λ (l : List ℕ). with_record (bytes_of place.side (reads_of x.disks)) shown.end l) is_record.spells.is
+
+  fits : shown.end + length (payload edit) + 6 ≤ most
+  fits = omega (arith, is_record.place, ap (λ (l : List ℕ). length l) is_record.spells.is, room)
+
+  recorded_header : header_of recorded ≡ Some stored.header
+  recorded_header = ap (λ (l : List ℕ). header_of l) recorded_is
+      ∙ more_header place.side (bytes_of place.side (reads_of x.disks)) stored.header is_header shown base edit (has_payload built.payload edit is_record.spells) is_record.allowed fits
+
+  recorded_shows : ShowsBase place.side recorded stored.header (edited_store shown edit)
+  recorded_shows = subst (λ (l : List ℕ). ShowsBase place.side l stored.header (edited_store shown edit)) (sym recorded_is)
+      (more_shows place.side (bytes_of place.side (reads_of x.disks)) stored.header is_header shown base edit (has_payload built.payload edit is_record.spells) is_record.allowed fits)
+
+  recorded_image : (c : Image) → bytes_of (other_side place.side) c ≡ bytes_of (other_side place.side) (reads_of x.disks) → bytes_of place.side c ≡ recorded → Shows c (edited_store shown edit)
+  recorded_image c other whole =
+      shows_here c place.side stored.header (edited_store shown edit) (shown_kept (reads_of x.disks) c place.side stored.header here (ap (λ (l : List ℕ). header_of l) whole ∙ recorded_header) other)
+      (subst (λ (l : List ℕ). ShowsBase place.side l stored.header (edited_store shown edit)) (sym whole) recorded_shows)
+
+  -- a pair whose shown side is as it was, or has the record
+  image_shows : (c : Image) → bytes_of (other_side place.side) c ≡ bytes_of (other_side place.side) (reads_of x.disks)
+      → IsUnchanged (bytes_of place.side (reads_of x.disks)) built.end (bytes_of place.side c) ⊎ (bytes_of place.side c ≡ recorded) → Shows c shown ⊎ Shows c (edited_store shown edit)
+  image_shows c other (inl same) =
+      let at_end : IsUnchanged (bytes_of place.side (reads_of x.disks)) shown.end (bytes_of place.side c) = subst (λ (n : ℕ). IsUnchanged (bytes_of place.side (reads_of x.disks)) n (bytes_of place.side c)) (sym is_record.place) same in
+      let kept = still_header place.side (bytes_of place.side (reads_of x.disks)) stored.header is_header shown base (bytes_of place.side c) at_end.front at_end.gate.within in
+      inl (shows_here c place.side stored.header shown (shown_kept (reads_of x.disks) c place.side stored.header here kept other)
+      (still_shows place.side (bytes_of place.side (reads_of x.disks)) stored.header is_header shown base (bytes_of place.side c) at_end))
+  image_shows c other (inr whole) = inr (recorded_image c other whole)
+
+  pub append_moments : Works (IsCommitting place.side built x.disks) x y → Appending shown (edited_store shown edit) x y
+  append_moments works = works_weaker _ _ x y (λ d on c image.
+      let left = image_on place.side P x.disks d stored.settled (record { other = on.other; images = λ b is. reads b (on.images b is) }) c image in
+      image_shows c left.other left.here) works
+    where
+      P : List ℕ → Type 0
+      P b = IsUnchanged (bytes_of place.side (reads_of x.disks)) built.end b ⊎ (b ≡ recorded)
+
+      reads : (b : List ℕ) → IsUnchanged (disk_of place.side x.disks).reads built.end b ⊎ (b ≡ with_record (disk_of place.side x.disks).reads built.end built.payload) → P b
+      reads b h = subst (λ (l : List ℕ). IsUnchanged l built.end b ⊎ (b ≡ with_record l built.end built.payload)) (reads_bytes place.side x.disks) h
+
+  pub append_done : Commits place.side built x y → Appends (place_after place built) (edited_store shown edit) x y
   append_done commits =
-      let zero : y.disks.zero ≡ settled_disk (with_record x.disks.zero.reads built.end built.payload) = ap (λ (d : Disks). d.zero) commits in
-      let one : y.disks.one ≡ x.disks.one = ap (λ (d : Disks). d.one) commits in
-      let old : x.disks.one ≡ settled_disk x.disks.one.reads = ap (λ (d : Disks). d.one) stored.settled in
-      let zero_settled : y.disks.zero ≡ settled_disk y.disks.zero.reads = zero ∙ ap (λ (d : Disk). settled_disk d.reads) (sym zero) in
-      let one_settled : y.disks.one ≡ settled_disk y.disks.one.reads = one ∙ old ∙ ap (λ (d : Disk). settled_disk d.reads) (sym one) in
+      let now = replaced place.side (with_record (disk_of place.side x.disks).reads built.end built.payload) x.disks y.disks stored.settled commits in
+      let whole : bytes_of place.side (reads_of y.disks) ≡ recorded = now.here ∙ ap (λ (l : List ℕ). with_record l built.end built.payload) (reads_bytes place.side x.disks) in
       record {
-        shows = subst (λ (d : Disk). ShowsBase Zero d.reads (edited_store shown edit)) (sym zero) recorded_shows;
-        settled = λ i. record { zero = zero_settled i; one = one_settled i };
+        header = stored.header;
+        side = (shown_kept (reads_of x.disks) (reads_of y.disks) place.side stored.header here (ap (λ (l : List ℕ). header_of l) whole ∙ recorded_header) now.other).is_side;
+        epoch = stored.epoch;
+        end = omega (arith, is_record.place, ap (λ (l : List ℕ). length l) is_record.spells.is);
+        shows = recorded_image (reads_of y.disks) now.other whole;
+        closed = stored.closed ∙ ap (λ (l : List ℕ). has_closed_gate l) (sym now.other);
+        settled = now.settled;
       }

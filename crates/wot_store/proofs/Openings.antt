@@ -1,240 +1,267 @@
 -- What a crash leaves while a store is opened.
-use Rattle.std.proofs.Common.{◌≡◌, ◌⊎◌, inl, inr, ⊎_elim, ℕ, ◌<◌, ◌≤◌, Bool, true, false, List, [], ◌∷◌, ◌++◌, length, append_assoc, get_or, take, drop, refl, sym, ◌∙◌, ap, subst, arith, Option, None, Some}
-use Rattle.std.specs.List.{All}
-use Rattle.std.proofs.lemmas.List.{append-nil, get_or-take}
-use Rattle.std.proofs.lemmas.List.Elements.{All-cons, All-nil}
+use Rattle.std.proofs.Common.{◌≡◌, inl, inr, ℕ, ◌<◌, ◌≤◌, Bool, true, false, List, length, get_or, take, drop, refl, sym, ◌∙◌, ap, subst, arith, Option, None, Some}
+use Rattle.std.specs.Prelude.{MatchOption, ◌&&◌, ◌==◌, is_none, min, nat_le, nat_lt, option_map, if◌then◌else◌}
+use Rattle.std.proofs.lemmas.List.{get_or-take}
+use Rattle.std.proofs.lemmas.Bool.{cases_lt}
 use Rattle.std.proofs.lemmas.Bool.Decides.{nat_tests}
-use Rattle.wot_types.specs.State.{opening_state}
-use Rattle.wot_site.specs.Disk.{Disk, Disks, Image, IsImage, IsImageOf, with_disk, settled_disk, after_sync, reads_of}
-use Rattle.wot_site.specs.Seen.{Honestly, IfHonest, Moment, Seen}
-use Rattle.wot_site.specs.Site.{Syncs, Stays, on_disk}
-use Rattle.wot_site.specs.Work.{Quiet}
+use Rattle.wot_types.specs.State.{State, opening_state}
+use Rattle.wot_types.specs.Store.{Store}
+use Rattle.wot_store.specs.Base.{IsBaseOf}
+use Rattle.wot_site.specs.Disk.{Disks, Image, IsImageOf, disk_of, reads_of}
+use Rattle.wot_site.specs.Seen.{Honestly, IfHonest, Seen}
+use Rattle.wot_site.specs.Work.{Works}
 use Rattle.wot_site.specs.declared.side.Side.{Side}
 use Rattle.wot_site.specs.declared.side.Side.TheVariants.{Zero, One}
-use Rattle.wot_site.proofs.Images.{reads_image, settled_image}
-use Rattle.wot_site.proofs.Works.{works_weaker, works_start, works_to}
-use Rattle.wot_store.specs.Base.{IsBlank, header_fault, epoch_of}
-use Rattle.wot_store.specs.Journal.{Ends, Fails, FailsAt, Replays}
-use Rattle.wot_types.specs.Store.{Store}
-use Rattle.wot_store.specs.Shows.{Shows, ShowsBase, IsBad, all_settled, new_store}
-use Rattle.wot_store.specs.Writing.{Becomes, Writing, base_bytes}
-use Rattle.wot_store.specs.Opening.{IsUnwritten, Settles, Settling, Keeping, Opening, Opens, FindsBad, IsReady, Inspects, Looks, Says}
-use Rattle.wot_store.specs.declared.header.Look.{Look}
-use Rattle.wot_store.specs.declared.header.Look.TheVariants.{Blank, Bad, Base}
+use Rattle.wot_site.proofs.Works.{works_weaker, works_start}
+use Rattle.wot_journal.specs.Record.{most, open_gate}
+use Rattle.wot_types.specs.Candidates.{RowMap}
+use Rattle.wot_types.specs.Image.{IsBase}
+use Rattle.wot_pages.specs.Page.{content_size, page_place, pages_needed}
+use Rattle.wot_pages.specs.Pages.{contents_for, contents_of}
+use Rattle.wot_pages.specs.Reading.{FindsFault, ReadsPages}
 use Rattle.wot_store.specs.declared.error.BadStore.{BadStore}
-use Rattle.wot_types.specs.State.{State}
-use Rattle.wot_store.proofs.Replaying.{reaches_start}
+use Rattle.wot_store.specs.declared.error.BadStore.TheVariants.{Seal, Spelling}
+use Rattle.wot_store.specs.declared.header.Header.{Header}
+use Rattle.wot_store.specs.declared.opening.Sizes.{Sizes}
+use Rattle.wot_store.specs.declared.pair.Headers.{Headers}
+use Rattle.wot_store.specs.declared.place.Place.{Place}
+use Rattle.wot_store.specs.Base.{IsBlank, base_fault, bytes_of, has_closed_gate, header_in, header_of, headers_fault, other_side, shown_side}
+use Rattle.wot_store.specs.Journal.{Ends, Fails, FailsAt, Replays}
+use Rattle.wot_store.specs.Shows.{FailsBase, IsBad, IsStored, Shows, ShowsBase, all_settled, new_store}
+use Rattle.wot_store.specs.Writing.{Becomes, IsWriting, Writing, base_bytes}
+use Rattle.wot_store.specs.Opening.{AreBlank, AreHeaders, AreSizes, FailsBy, FindsBad, Inspects, IsReady, IsShownBy, Keeping, LacksBase, Opening, Opens, ReadsBase, Resumes, Settles, Settling, WritesOnlyBlank}
+use Rattle.wot_store.specs.Written.{Spares}
+use Rattle.wot_store.proofs.Unwritten.{blank_written, opening_then, settled_images}
+use Rattle.wot_store.proofs.Headers.{fitting}
+use Rattle.wot_store.proofs.Pairs.{IsShown, blank_shows, closed_by, image_on, reads_bytes, replaced, shown_alone, shows_here}
+use Rattle.wot_store.proofs.Wholes.{base_header, whole_header, whole_shows}
 
--- with nothing pending an image is what the sides read
-pub settled_images : (d : Disks) (c : Image) → IsImageOf (all_settled d) c → c ≡ reads_of d
-settled_images d c image =
-    let zero : c.zero ≡ d.zero.reads = settled_image d.zero.reads c.zero image.zero in
-    let one : c.one ≡ d.one.reads = settled_image d.one.reads c.one image.one in
-    λ i. record { zero = zero i; one = one i }
-
-pub reads_images : (d : Disks) → IsImageOf d (reads_of d)
-reads_images d = record { zero = reads_image d.zero; one = reads_image d.one }
-
--- a sync leaves what a read gives
-unwritten : (d : Disks) → IsUnwritten d d
-unwritten d = record { reads = refl; images = λ c image. image }
-
-unwritten_first : (d : Disks) → IsUnwritten d (with_disk Zero (after_sync d.zero) d)
-unwritten_first d = record {
-  reads = refl;
-  images = λ c image. record { zero = subst (IsImage d.zero) (sym (settled_image d.zero.reads c.zero image.zero)) (reads_image d.zero); one = image.one };
-}
-
-unwritten_both : (d : Disks) → IsUnwritten d (all_settled d)
-unwritten_both d = record { reads = refl; images = λ c image. subst (IsImageOf d) (sym (settled_images d c image)) (reads_images d) }
-
--- the sides came to these, by at most two moments
-few_moments : (x : Seen) (d : Disks) (all moments : List Moment) → all ≡ x.moments ++ moments → length moments ≤ 2
-    → All (Quiet (IsUnwritten x.disks) x.told) moments → IsUnwritten x.disks d → Settling x (record x { disks = d; moments = all })
-few_moments x d all moments is few each last = record {
-  works = record {
-    left = refl;
-    told = refl;
-    taken = refl;
-    asks = refl;
-    since = record { first = record { disks = unwritten x.disks; told = refl }; moments = moments; is = is; each = each };
-    last = last;
-  };
-  few = few;
-}
-
--- after none of the two opening syncs, one, and both
-pub settling_start : (x : Seen) → Settling x x
-settling_start x = few_moments x x.disks x.moments [] (sym (append-nil x.moments)) (omega arith) (All-nil _) (unwritten x.disks)
-
-abbrev at_first : Seen → Moment
-at_first x = record { disks = with_disk Zero (after_sync x.disks.zero) x.disks; told = x.told }
-
-abbrev at_both : Seen → Moment
-at_both x = record { disks = all_settled x.disks; told = x.told }
-
-module _ (x : Seen) where
-  quiet_first : Quiet (IsUnwritten x.disks) x.told (at_first x)
-  quiet_first = record { disks = unwritten_first x.disks; told = refl }
-
-  quiet_both : Quiet (IsUnwritten x.disks) x.told (at_both x)
-  quiet_both = record { disks = unwritten_both x.disks; told = refl }
-
-  synced_first : Settling x (on_disk Zero after_sync x)
-  synced_first =
-      few_moments x (at_first x).disks (x.moments ++ at_first x ∷ []) (at_first x ∷ []) refl (omega arith)
-      (All-cons (Quiet (IsUnwritten x.disks) x.told) (at_first x) [] quiet_first (All-nil _)) quiet_first.disks
-
-  synced_both : Settling x (on_disk One after_sync (on_disk Zero after_sync x))
-  synced_both =
-      few_moments x (at_both x).disks ((x.moments ++ at_first x ∷ []) ++ at_both x ∷ []) (at_first x ∷ at_both x ∷ [])
-      (append_assoc x.moments (at_first x ∷ []) (at_both x ∷ [])) (omega arith)
-      (All-cons (Quiet (IsUnwritten x.disks) x.told) (at_first x) (at_both x ∷ []) quiet_first
-      (All-cons (Quiet (IsUnwritten x.disks) x.told) (at_both x) [] quiet_both (All-nil _))) quiet_both.disks
-
-pub settling_still : (x y z : Seen) → Settling x y → Stays y z → Settling x z
-settling_still x y z settling stays = subst (Settling x) (sym stays) settling
-
-pub settling_first : (x y : Seen) → Syncs Zero x y → Settling x y
-settling_first x y syncs = subst (Settling x) (sym syncs) (synced_first x)
-
-pub settling_both : (x y z : Seen) → Syncs Zero x y → Syncs One y z → Settling x z
-settling_both x y z first second = subst (Settling x) (sym (second ∙ ap (on_disk One after_sync) first)) (synced_both x)
-
-pub settling_stays : (x y z w : Seen) → Syncs Zero x y → Syncs One y z → Stays z w → Settling x w
-settling_stays x y z w first second stays = settling_still x z w (settling_both x y z first second) stays
-
--- a side that was written whole shows a new store
-pub base_shows : (r : List ℕ) → ShowsBase Zero (base_bytes 1 r) new_store
-base_shows r = record {
-  opened = record { long = omega arith; gate = refl };
-  sound = grind (arith, nat_tests);
-  epoch = refl;
-  journal = record {
-    edits = [];
-    reaches = reaches_start (base_bytes 1 r) 24 opening_state (omega arith) (omega arith);
-    gate = record { within = omega arith; closed = λ e. absurd (omega (arith, e)) };
-  };
-}
-
-pub blank_shows : (c : Image) → IsBlank c.zero → Shows c new_store
-blank_shows c blank = inl (blank, refl)
-
-pub not_short : (side : Side) (header : List ℕ) (size : ℕ) → header_fault side header size ≡ None → 24 ≤ size → 24 < size
-not_short side header size none low = grind (arith, nat_tests)
-
-pub says_there : (side : Side) (R : List ℕ) (size : ℕ) (header : List ℕ) (look : Look) → size ≡ length R → 24 ≤ size → header ≡ take 24 (drop 0 R) → Looks side header size look → Says side R look
-says_there side R size header Blank is low there looks = inr (λ e. looks (ap (λ (l : List ℕ). get_or l 0 0) there ∙ (get_or-take 24 R 0 0 (omega arith) ∙ e)))
-says_there side R size header (Bad bad) is low there looks = (
-  record { long = omega arith; gate = sym (ap (λ (l : List ℕ). get_or l 0 0) there ∙ get_or-take 24 R 0 0 (omega arith)) ∙ looks.0 },
-  (λ i. header_fault side (sym there i) (sym is i)) ∙ looks.1,
-)
-says_there side R size header (Base epoch) is low there looks = (
-  record { long = omega arith; gate = sym (ap (λ (l : List ℕ). get_or l 0 0) there ∙ get_or-take 24 R 0 0 (omega arith)) ∙ looks.0 },
-  (λ i. header_fault side (sym there i) (sym is i)) ∙ looks.1,
-  looks.2 ∙ ap epoch_of there,
-  (let long = not_short side header size looks.1 low in omega arith),
-)
+-- the header of a side that has one, by its first bytes
+pub says_there : (R : List ℕ) (size : ℕ) (bytes : List ℕ) → size ≡ length R → 24 ≤ size → bytes ≡ take 24 (drop 0 R)
+    → (if get_or bytes 0 0 == open_gate then Some (header_in bytes) else None) ≡ header_of R
+says_there R size bytes is low there =
+    ap (λ (l : List ℕ). if get_or l 0 0 == open_gate then Some (header_in l) else None) there
+    ∙ ap (λ (n : ℕ). if n == open_gate then Some (header_in (take 24 R)) else None) (get_or-take 24 R 0 0 (omega arith)) ∙ sym (long R (omega (arith, is, low)))
+  where
+    long : (R : List ℕ) → 24 ≤ length R → header_of R ≡ (if get_or R 0 0 == open_gate then Some (header_in (take 24 R)) else None)
+    long R low = grind (arith, nat_tests)
 
 -- a first side is written
-module _ (is_closed : Bool) (x y : Seen) (ready : IsReady is_closed x.disks) where
-  pub create_moments : Writing Zero 1 x y → Keeping x y
-  create_moments works = works_weaker _ _ x y (λ d on c image. inr (record {
-    shown = new_store;
-    here = shows c (on.images c.zero image.zero);
-    there = blank_shows (reads_of x.disks) ready.blank;
-  })) works
+module _ (sizes : Sizes) (image : List ℕ) (x y : Seen) (ready : IsReady sizes x.disks) (base : IsBaseOf (contents_for image) opening_state) (room : page_place (pages_needed (length image)) < most)
+    (end : page_place (pages_needed (length image)) ≡ 4120) where
+  first_image : (c : Image) → c.one ≡ x.disks.one.reads → c.zero ≡ base_bytes 1 image x.disks.zero.reads → IsShown c Zero (base_header 1 image) × Shows c new_store
+  first_image c one zero =
+      let is : header_of c.zero ≡ Some (base_header 1 image) = ap (λ (l : List ℕ). header_of l) zero ∙ whole_header 1 image x.disks.zero.reads (omega arith) room in
+      let blank : IsBlank c.one = subst IsBlank (sym one) ready.blank.1 in
+      let here = shown_alone c Zero (base_header 1 image) refl is blank in (
+        here,
+        shows_here c Zero (base_header 1 image) new_store here (subst (λ (l : List ℕ). ShowsBase Zero l (base_header 1 image) new_store) (sym zero)
+            (subst (λ (n : ℕ). ShowsBase Zero (base_bytes 1 image x.disks.zero.reads) (base_header 1 image) (record { state = opening_state; epoch = 1; end = n })) end
+            (whole_shows 1 image x.disks.zero.reads (omega arith) room Zero opening_state base))),
+      )
+
+  pub create_moments : Writing Zero 1 image x y → Keeping x y
+  create_moments works = works_weaker _ _ x y (λ d on c left.
+      let seen = image_on Zero (IsWriting x.disks.zero.reads 1 image) x.disks d ready.settled on c left in
+      inr (record { shown = new_store; here = shows c seen.other seen.here; there = blank_shows (reads_of x.disks) ready.blank.0 ready.blank.1 })) works
     where
-      shows : (c : Image) → (c.zero ≡ x.disks.zero.reads) ⊎ (IsBlank c.zero ⊎ (c.zero ≡ base_bytes 1 x.disks.zero.reads)) → Shows c new_store
-      shows c (inl same) = blank_shows c (subst IsBlank (sym same) ready.blank)
-      shows c (inr (inl blank)) = blank_shows c blank
-      shows c (inr (inr whole)) = inr (subst (λ (l : List ℕ). ShowsBase Zero l new_store) (sym whole) (base_shows x.disks.zero.reads))
+      shows : (c : Image) → c.one ≡ x.disks.one.reads → IsWriting x.disks.zero.reads 1 image c.zero → Shows c new_store
+      shows c one (inl same) = blank_shows c (subst IsBlank (sym same) ready.blank.0) (subst IsBlank (sym one) ready.blank.1)
+      shows c one (inr (inl blank)) = blank_shows c blank (subst IsBlank (sym one) ready.blank.1)
+      shows c one (inr (inr whole)) = (first_image c one whole).1
 
-  pub create_opens : Becomes Zero (base_bytes 1) x y → Opens new_store x y
-  create_opens becomes =
-      let r = x.disks.zero.reads in
-      let zero : y.disks.zero ≡ settled_disk (base_bytes 1 r) = ap (λ (d : Disks). d.zero) becomes in
-      let one : y.disks.one ≡ x.disks.one = ap (λ (d : Disks). d.one) becomes in
-      let zero_settled : y.disks.zero ≡ settled_disk y.disks.zero.reads = zero ∙ ap (λ (d : Disk). settled_disk d.reads) (sym zero) in
-      let one_settled : y.disks.one ≡ settled_disk y.disks.one.reads = one ∙ ready.one ∙ ap (λ (d : Disk). settled_disk d.reads) (sym one) in
+  pub create_opens : (state : State) (at : ℕ) (closed : Bool) → state ≡ opening_state → at ≡ page_place (pages_needed (length image)) → closed ≡ nat_le 24 sizes.one
+      → Becomes Zero (base_bytes 1 image) x y → Opens (record { side = Zero; epoch = 1; end = at; other_closed = closed }) (record { state = state; epoch = 1; end = at }) x y
+  create_opens state at closed opens place other becomes =
+      let now = replaced Zero (base_bytes 1 image x.disks.zero.reads) x.disks y.disks ready.settled becomes in
+      let first = first_image (reads_of y.disks) now.other now.here in
+      let shown : record { state = state; epoch = 1; end = at } ≡ new_store = λ i. record { state = opens i; epoch = 1; end = (place ∙ end) i } in
       record {
-        before = blank_shows (reads_of x.disks) ready.blank;
-        stored = record { shows = subst (λ (d : Disk). ShowsBase Zero d.reads new_store) (sym zero) (base_shows r); settled = λ i. record { zero = zero_settled i; one = one_settled i } };
+        before = subst (λ (s : Store). Shows (reads_of x.disks) s) (sym shown) (blank_shows (reads_of x.disks) ready.blank.0 ready.blank.1);
+        stored = record {
+          header = base_header 1 image;
+          side = first.0.is_side;
+          epoch = refl;
+          end = refl;
+          closed = other ∙ (λ i. is_none (sym ready.blank.1 i) && nat_le 24 (ready.long.one i)) ∙ closed_by x.disks.one.reads ∙ ap (λ (l : List ℕ). has_closed_gate l) (sym now.other);
+          shows = subst (λ (s : Store). Shows (reads_of y.disks) s) (sym shown) first.1;
+          settled = now.settled;
+        };
       }
-
--- from the start of the opening
-pub opening_stays : (x y z : Seen) → Settling x y → y.disks ≡ all_settled x.disks → Stays y z → Opening x z
-opening_stays x y z works disks stays = inr (
-  y,
-  works,
-  disks,
-  works_to _ y y z stays (works_start _ y
-      (λ c image. inl (settled_images x.disks c (subst (λ (d : Disks). IsImageOf d c) disks image) ∙ ap reads_of (sym disks)))),
-)
 
 pub same_reads : (x y : Seen) → y.disks ≡ all_settled x.disks → reads_of y.disks ≡ reads_of x.disks
 same_reads x y disks = ap (λ (d : Disks). reads_of d) disks
 
-pub opening_then : (x y z : Seen) → Settling x y → y.disks ≡ all_settled x.disks → Keeping y z → Opening x z
-opening_then x y z works disks keeps = inr (y, works, disks, keeps)
+-- neither side is shown where both are blank
+pub none_shown : (zero one : Option Header) → shown_side zero one ≡ None → (zero ≡ None) × (one ≡ None)
+none_shown None None e = (refl, refl)
+none_shown (Some h) None e = absurd (cc e)
+none_shown None (Some k) e = absurd (cc e)
+none_shown (Some h) (Some k) e = either (nat_lt h.epoch k.epoch) e
+  where
+    either : (b : Bool) → ◌≡◌ {A = Option (Side × Header)} (if b then Some (One, k) else Some (Zero, h)) None → (Some h ≡ None) × (Some k ≡ None)
+    either true e = absurd (cc e)
+    either false e = absurd (cc e)
 
-pub ready_then : (is_closed : Bool) (n : ℕ) (x y : Seen) → Settles n x y → IsBlank y.disks.zero.reads → (is_closed ≡ true → 24 ≤ n) → (is_closed ≡ false → n < 24) → IsReady is_closed y.disks
-ready_then is_closed n x y settles blank high low =
-    let zero : y.disks.zero ≡ settled_disk y.disks.zero.reads = ap (λ (d : Disks). d.zero) settles.disks ∙ ap (λ (d : Disks). settled_disk d.zero.reads) (sym settles.disks) in
-    let one : y.disks.one ≡ settled_disk y.disks.one.reads = ap (λ (d : Disks). d.one) settles.disks ∙ ap (λ (d : Disks). settled_disk d.one.reads) (sym settles.disks) in
-    let long : length y.disks.zero.reads ≡ n = ap (λ (d : Disks). length d.zero.reads) settles.disks ∙ sym settles.size in
-    record {
-      known = record {
-        settled = zero;
-        closed = λ e. record { within = omega (arith, high e, long); closed = ⊎_elim (λ short. absurd (omega (arith, high e, long))) (λ shut. shut) blank };
-        not_closed = λ e. inl (omega (arith, low e, long));
-      };
-      one = one;
-      blank = blank;
-    }
+-- after both syncs, and after the headers were read
+module _ (sizes : Sizes) (headers : Headers) (x y z : Seen) (settles : Settles sizes x y) (found : Inspects headers y z) where
+  same : z.disks ≡ all_settled x.disks
+  same = ap (λ (s : Seen). s.disks) found.stays ∙ settles.disks
 
--- what was found on the settled sides is what the start's sides read
-module _ (n : ℕ) (x y z : Seen) (settles : Settles n x y) where
-  pub opens_then : (shown : Store) → Opens shown y z → Opens shown x z
-  opens_then shown opens = record { before = subst (λ (c : Image). Shows c shown) (same_reads x y settles.disks) opens.before; stored = opens.stored }
+  settled : z.disks ≡ all_settled z.disks
+  settled = same ∙ ap (λ (d : Disks). all_settled d) (sym same)
 
-  pub finds_bad : (bad : BadStore) → Inspects Zero (Bad bad) y z → FindsBad bad x z
-  finds_bad bad found = record {
-    bad = subst (λ (c : Image). IsBad c bad) (same_reads x y settles.disks) (record { opened = found.says.0; first = rw found.says.1 refl });
-    disks = ap (λ (s : Seen). s.disks) found.stays ∙ settles.disks;
+  now_headers : AreHeaders headers z.disks
+  now_headers = subst (λ (s : Seen). AreHeaders headers s.disks) (sym found.stays) found.are
+
+  now_sizes : AreSizes sizes z.disks
+  now_sizes = subst (λ (d : Disks). AreSizes sizes d) (sym same) (record { zero = settles.long.zero; one = settles.long.one })
+
+  pub ready_then : shown_side headers.zero headers.one ≡ None → IsReady sizes z.disks
+  ready_then none =
+      let blank = none_shown headers.zero headers.one none in
+      record { settled = settled; blank = (sym now_headers.zero ∙ blank.0, sym now_headers.one ∙ blank.1); long = now_sizes }
+
+  pub shown_then : (side : Side) (header : Header) → headers_fault headers.zero headers.one ≡ None → shown_side headers.zero headers.one ≡ Some (side, header) → IsShownBy headers sizes side header z.disks
+  shown_then side header sound is = record { settled = settled; are = now_headers; long = now_sizes; sound = sound; shown = is }
+
+  pub blank_then : shown_side headers.zero headers.one ≡ None → AreBlank x.disks
+  blank_then none = subst (λ (d : Disks). AreBlank d) same (ready_then none).blank
+
+  pub opening_created : (w : Seen) → Settling x y → Keeping z w → Opening x w
+  opening_created w settling keeping = opening_then x y w settling settles.disks (subst (λ (s : Seen). Keeping s w) found.stays keeping)
+
+  pub blank_created : (w : Seen) → Settling x y → shown_side headers.zero headers.one ≡ None → Works (Spares One z.disks) z w → Works (WritesOnlyBlank x.disks) x w
+  blank_created w settling none works = blank_written x y w settling settles.disks (blank_then none) (subst (λ (s : Seen). Works (Spares One s.disks) s w) found.stays works)
+
+  pub finds_headers : (bad : BadStore) → headers_fault headers.zero headers.one ≡ Some bad → FindsBad bad x z
+  finds_headers bad is = record {
+    bad = subst (λ (c : Image). IsBad c bad) (same_reads x z same) (rw ((λ i. headers_fault (sym now_headers.zero i) (sym now_headers.one i)) ∙ is) refl);
+    disks = same;
   }
 
-  pub finds_fault : (w : Seen) (epoch : ℕ) (bad : BadStore) → Inspects Zero (Base epoch) y z → FailsAt Zero 24 opening_state bad z w → FindsBad bad x w
-  finds_fault w epoch bad found fails =
-      let same : z.disks ≡ y.disks = ap (λ (s : Seen). s.disks) found.stays in
+  pub opens_then : (w : Seen) (place : Place) (shown : Store) → Opens place shown z w → Opens place shown x w
+  opens_then w place shown opens = record { before = subst (λ (c : Image). Shows c shown) (same_reads x z same) opens.before; stored = opens.stored }
+
+  pub bad_then : (w : Seen) (bad : BadStore) → FindsBad bad z w → FindsBad bad x w
+  bad_then w bad found = record { bad = subst (λ (c : Image). IsBad c bad) (same_reads x z same) found.bad; disks = found.disks ∙ sym settled ∙ same }
+
+-- the shown side is read
+module _ (headers : Headers) (sizes : Sizes) (side : Side) (header : Header) (z w : Seen) (by : IsShownBy headers sizes side header z.disks) where
+  here : IsShown (reads_of z.disks) side header
+  here = record { sound = (λ i. headers_fault (sym by.are.zero i) (sym by.are.one i)) ∙ by.sound; is_side = (λ i. shown_side (sym by.are.zero i) (sym by.are.one i)) ∙ by.shown }
+
+  pub shown_opens : (state : State) (end : ℕ) (closed : Bool) → closed ≡ has_closed_gate (bytes_of (other_side side) (reads_of z.disks)) → Resumes side header state end z w
+      → Opens (record { side = side; epoch = header.epoch; end = end; other_closed = closed }) (record { state = state; epoch = header.epoch; end = end }) z w
+  shown_opens state end closed other resumes =
+      let shows : Shows (reads_of z.disks) (record { state = state; epoch = header.epoch; end = end }) =
+      shows_here (reads_of z.disks) side header (record { state = state; epoch = header.epoch; end = end }) here
+      (subst (λ (l : List ℕ). ShowsBase side l header (record { state = state; epoch = header.epoch; end = end })) (reads_bytes side z.disks) resumes.shows) in
       record {
-        bad = subst (λ (c : Image). IsBad c bad) (same_reads x y settles.disks) (record { opened = found.says.0; first = rw found.says.1 (subst (λ (d : Disks). Fails Zero d.zero.reads 24 opening_state bad) same fails.fails) });
-        disks = ap (λ (s : Seen). s.disks) fails.stays ∙ same ∙ settles.disks;
+        before = shows;
+        stored = subst (λ (s : Seen). IsStored (record { side = side; epoch = header.epoch; end = end; other_closed = closed }) (record { state = state; epoch = header.epoch; end = end }) s.disks) (sym resumes.stays)
+            (record { header = header; side = here.is_side; epoch = refl; end = refl; closed = other; shows = shows; settled = by.settled });
       }
 
-  pub opens_base : (w : Seen) (state : State) (epoch end : ℕ) → Inspects Zero (Base epoch) y z → Replays Zero 24 opening_state state end z w → Opens (record { state = state; epoch = epoch; end = end }) x w
-  opens_base w state epoch end found replays =
-      let disks : w.disks ≡ all_settled x.disks = ap (λ (s : Seen). s.disks) (replays.stays ∙ found.stays) ∙ settles.disks in
-      let old : y.disks.zero.reads ≡ x.disks.zero.reads = ap (λ (d : Disks). d.zero.reads) settles.disks in
-      let same : z.disks.zero.reads ≡ y.disks.zero.reads = ap (λ (s : Seen). s.disks.zero.reads) found.stays in
-      let shows : ShowsBase Zero x.disks.zero.reads (record { state = state; epoch = epoch; end = end }) = subst (λ (l : List ℕ). ShowsBase Zero l (record { state = state; epoch = epoch; end = end })) old
-      (record { opened = found.says.0; sound = found.says.1; epoch = found.says.2; journal = subst (λ (l : List ℕ). Ends l 24 opening_state state end) same replays.ends }) in
-      record {
-        before = inr shows;
-        stored = record {
-          shows = subst (λ (d : Disks). ShowsBase Zero d.zero.reads (record { state = state; epoch = epoch; end = end })) (sym disks) shows;
-          settled = disks ∙ ap all_settled (sym disks);
-        };
-      }
+  pub shown_fails : (bad : BadStore) → FailsBy side header bad z w → FindsBad bad z w
+  shown_fails bad fails = record {
+    bad = rw (here.sound, here.is_side) (subst (λ (l : List ℕ). MatchOption (base_fault side l header) (FailsBase side l header bad) (λ first. bad ≡ first)) (reads_bytes side z.disks) fails.first);
+    disks = ap (λ (s : Seen). s.disks) fails.stays ∙ by.settled;
+  }
 
--- nothing was done to sides that are ready
-keeps : (is_closed : Bool) (x : Seen) → IsReady is_closed x.disks → Keeping x x
-keeps is_closed x ready =
-    works_start _ x (λ c is. inl (settled_images x.disks c (record {
-      zero = subst (λ (d : Disk). IsImage d c.zero) ready.known.settled is.zero;
-      one = subst (λ (d : Disk). IsImage d c.one) ready.one is.one;
-    })))
+-- whether the gate of the other side is closed
+pub zero_other : (headers : Headers) (sizes : Sizes) (side : Side) (header : Header) (z : Seen) → side ≡ Zero → IsShownBy headers sizes side header z.disks
+    → (is_none headers.one && nat_le 24 sizes.one) ≡ has_closed_gate (bytes_of (other_side side) (reads_of z.disks))
+zero_other headers sizes side header z is by = (λ i. is_none (by.are.one i) && nat_le 24 (by.long.one i)) ∙ closed_by z.disks.one.reads ∙ ap (λ (s : Side). has_closed_gate (bytes_of (other_side s) (reads_of z.disks))) (sym is)
 
-pub still_keeping : (is_closed : Bool) (seen : Option Seen) → IfHonest seen (λ s. IsReady is_closed s.disks) → Honestly seen seen Keeping
-still_keeping is_closed None ready = tt
-still_keeping is_closed (Some x) ready = keeps is_closed x ready
+pub one_other : (headers : Headers) (sizes : Sizes) (side : Side) (header : Header) (z : Seen) → side ≡ One → IsShownBy headers sizes side header z.disks
+    → (is_none headers.zero && nat_le 24 sizes.zero) ≡ has_closed_gate (bytes_of (other_side side) (reads_of z.disks))
+one_other headers sizes side header z is by = (λ i. is_none (by.are.zero i) && nat_le 24 (by.long.zero i)) ∙ closed_by z.disks.zero.reads ∙ ap (λ (s : Side). has_closed_gate (bytes_of (other_side s) (reads_of z.disks))) (sym is)
+
+-- nothing was done to blank sides
+keeps : (sizes : Sizes) (x : Seen) → IsReady sizes x.disks → Keeping x x
+keeps sizes x ready = works_start _ x (λ c is. inl (settled_images x.disks c (subst (λ (d : Disks). IsImageOf d c) ready.settled is)))
+
+pub still_keeping : (sizes : Sizes) (seen : Option Seen) → IfHonest seen (λ s. IsReady sizes s.disks) → Honestly seen seen Keeping
+still_keeping sizes None ready = tt
+still_keeping sizes (Some x) ready = keeps sizes x ready
+
+-- the base of a side, and then its journal
+module _ (side : Side) (header : Header) (base : State) (x y z : Seen) (read : ReadsBase side header base x y) where
+  pub resumes_then : (state : State) (end : ℕ) → Replays side (page_place header.pages) base state end y z → Resumes side header state end x z
+  resumes_then state end replays = record {
+    stays = replays.stays ∙ read.stays;
+    shows = record {
+      sound = read.sound;
+      epoch = refl;
+      base = base;
+      is_base = read.is_base;
+      journal = subst (λ (s : Seen). Ends (disk_of side s.disks).reads (page_place header.pages) base state end) read.stays replays.ends;
+    };
+  }
+
+  pub fails_then : (bad : BadStore) → FailsAt side (page_place header.pages) base bad y z → FailsBy side header bad x z
+  fails_then bad fails = record {
+    stays = fails.stays ∙ read.stays;
+    first = rw read.sound (inr (base, read.is_base, subst (λ (s : Seen). Fails side (disk_of side s.disks).reads (page_place header.pages) base bad) read.stays fails.fails));
+  }
+
+-- a side without a base
+pub lacks_base : (side : Side) (header : Header) (bad : BadStore) (x y : Seen) → LacksBase side header bad x y → FailsBy side header bad x y
+lacks_base side header bad x y lacks = record { stays = lacks.stays; first = either (base_fault side (disk_of side x.disks).reads header) lacks.first }
+  where
+    either : (first : Option BadStore) → MatchOption first ((bad ≡ Spelling) × ((base : State) → IsBaseOf (contents_of header.pages (disk_of side x.disks).reads) base → ⊥)) (λ found. bad ≡ found)
+        → MatchOption first (FailsBase side (disk_of side x.disks).reads header bad) (λ found. bad ≡ found)
+    either None h = inl h
+    either (Some found) h = h
+
+-- the first page whose seal is wrong
+pub started : (pages size start : ℕ) → Some start ≡ (if nat_lt (page_place pages) (min size most) then Some (page_place pages) else None) → page_place pages < min size most
+started pages size start is = elim (cases_lt (page_place pages) (min size most)) [
+  | inl fits ↦ fits
+  | inr past ↦ absurd (none (nat_lt (page_place pages) (min size most)) (not_less (page_place pages) (min size most) past) is)
+]
+  where
+    not_less : (a b : ℕ) → b ≤ a → nat_lt a b ≡ false
+    not_less a b past = grind (arith, nat_tests)
+
+    none : (b : Bool) → b ≡ false → Some start ≡ (if b then Some (page_place pages) else None) → ⊥
+    none true e is = absurd (cc e)
+    none false e is = cc is
+
+pub lacks_seal : (side : Side) (header : Header) (size page : ℕ) (x y : Seen) → size ≡ length (disk_of side x.disks).reads → page_place header.pages < min size most → FindsFault side header.epoch header.pages page x y
+    → LacksBase side header (Seal page) x y
+lacks_seal side header size page x y long fits found = record {
+  stays = found.stays;
+  first = rw (fitting side (disk_of side x.disks).reads header (omega (arith, long, fits)) ∙ ap (λ (o : Option ℕ). option_map Seal o) found.fault) refl;
+}
+
+-- what is known after a step
+pub known_after : (P : Seen → Seen → Type 0) (K : Seen → Type 0) (a b : Option Seen) → Honestly a b P → ((x y : Seen) → P x y → K y) → IfHonest b K
+known_after P K None None h goes = tt
+known_after P K None (Some y) h goes = absurd h
+known_after P K (Some x) None h goes = absurd h
+known_after P K (Some x) (Some y) h goes = goes x y h
+
+pub none_left : (o : Option BadStore) → ((bad : BadStore) → o ≡ Some bad → ⊥) → o ≡ None
+none_left None not = refl
+none_left (Some bad) not = absurd (not bad refl)
+
+-- pages that were read: their contents are a base, or none
+module _ (side : Side) (header : Header) (size : ℕ) (contents : List ℕ) (x y : Seen) (long : size ≡ length (disk_of side x.disks).reads) (fits : page_place header.pages < min size most)
+    (read : ReadsPages side header.epoch header.pages contents x y) where
+  whole_pages : base_fault side (disk_of side x.disks).reads header ≡ None
+  whole_pages = fitting side (disk_of side x.disks).reads header (omega (arith, long, fits)) ∙ ap (λ (o : Option ℕ). option_map Seal o) read.whole
+
+  pub reads_base : (state : State) (rows : RowMap) → IsBase content_size contents state rows → ReadsBase side header state x y
+  reads_base state rows spelled = record {
+    stays = read.stays;
+    sound = whole_pages;
+    is_base = record { rows = rows; spelled = subst (λ (l : List ℕ). IsBase content_size l state rows) read.these spelled };
+  }
+
+  pub lacks_image : ((s : State) (rows : RowMap) → IsBase content_size contents s rows → ⊥) → LacksBase side header Spelling x y
+  lacks_image none = record {
+    stays = read.stays;
+    first = rw whole_pages (refl, λ s base. none s base.rows (subst (λ (l : List ℕ). IsBase content_size l s base.rows) (sym read.these) base.spelled));
+  }

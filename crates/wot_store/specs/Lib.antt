@@ -4,3 +4,5 @@ pub mod Shows
 pub mod Writing
 pub mod Opening
 pub mod Appending
+pub mod Compacting
+pub mod Written

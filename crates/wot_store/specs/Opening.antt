@@ -1,61 +1,82 @@
 -- What opening a store does.
-use Rattle.std.specs.Prelude.{ℕ, Bool, ◌≡◌, ◌≢◌, ◌⊎◌, ◌<◌, ◌≤◌, List, length, slice_index, Some, None}
-use Rattle.wot_site.specs.Disk.{Disks, IsImageOf, Leaves, settled_disk, disk_of, reads_of}
-use Rattle.wot_site.specs.Seen.{Seen}
-use Rattle.wot_site.specs.Work.{Works}
+use Rattle.std.specs.Prelude.{ℕ, ◌≡◌, ◌⊎◌, ◌≤◌, List, ◌++◌, length, All, Option, Some, None, MatchOption}
+use Rattle.wot_site.specs.Disk.{Disk, Disks, IsImage, Leaves, disk_of, reads_of}
+use Rattle.wot_site.specs.Seen.{Moment, Seen}
+use Rattle.wot_site.specs.Work.{Quiet, Works}
 use Rattle.wot_site.specs.declared.side.Side.{Side}
-use Rattle.wot_journal.specs.Record.{open_gate}
-use Rattle.wot_store.specs.Base.{IsBlank, IsOpened, header_fault, base_fault, header_of, epoch_of}
-use Rattle.wot_store.specs.Writing.{IsKnown}
+use Rattle.wot_pages.specs.Pages.{contents_of}
+use Rattle.wot_types.specs.State.{State}
+use Rattle.wot_store.specs.declared.header.Header.{Header}
+use Rattle.wot_store.specs.Base.{IsBaseOf, IsBlank, base_fault, header_of, headers_fault, shown_side}
 use Rattle.wot_store.specs.declared.opening.Opened.{Opened}
-use Rattle.wot_types.specs.Store.{Store}
-use Rattle.wot_store.specs.Shows.{Shows, IsBad, ShowsAs, IsStored, all_settled}
+use Rattle.wot_store.specs.declared.opening.Sizes.{Sizes}
+use Rattle.wot_store.specs.declared.pair.Headers.{Headers}
+use Rattle.wot_store.specs.declared.place.Place.{Place}
 use Rattle.wot_store.specs.declared.error.BadStore.{BadStore}
-use Rattle.wot_store.specs.declared.header.Look.{Look}
-use Rattle.wot_store.specs.declared.header.Look.TheVariants.{Blank, Bad, Base}
+use Rattle.wot_types.specs.Store.{Store}
+use Rattle.wot_store.specs.declared.error.BadStore.TheVariants.{Spelling}
+use Rattle.wot_store.specs.Shows.{Shows, ShowsBase, FailsBase, IsBad, ShowsAs, IsStored, all_settled}
 
--- both sides are on the disk as they read, and side Zero has so many bytes
-pub record Settles (n : ℕ) (old new : Seen) : Type 0 where
+-- a side has so many bytes: those of both
+pub record AreSizes (sizes : Sizes) (d : Disks) : Type 0 where
+  pub zero : sizes.zero ≡ length d.zero.reads
+  pub one : sizes.one ≡ length d.one.reads
+
+-- both sides are on the disk as they read, and have so many bytes
+pub record Settles (sizes : Sizes) (old new : Seen) : Type 0 where
   pub disks : new.disks ≡ all_settled old.disks
-  pub size : n ≡ length old.disks.zero.reads
+  pub long : AreSizes sizes old.disks
 
--- nothing was written since: the sides read as they did, and each image is one of those that there were
-pub record IsUnwritten (start now : Disks) : Type 0 where
-  pub reads : reads_of now ≡ reads_of start
-  pub images : Leaves (IsImageOf start) now
+-- nothing of a side was written since: it reads as it did, and each image of it is one that there was
+pub record IsUnwritten (start now : Disk) : Type 0 where
+  pub reads : now.reads ≡ start.reads
+  pub images : (c : List ℕ) → IsImage now c → IsImage start c
 
--- nothing was written: at each moment and at the end the sides read as at the start, and each image is one of the start's
-abbrev pub Unwritten : Seen → Seen → Type 0
-Unwritten old new = Works (IsUnwritten old.disks) old new
+-- nor of either side
+pub record AreUnwritten (start now : Disks) : Type 0 where
+  pub zero : IsUnwritten start.zero now.zero
+  pub one : IsUnwritten start.one now.one
 
--- nothing was written unless side Zero was blank
-abbrev pub WritesOnlyBlank : Seen → Seen → Type 0
-WritesOnlyBlank old new = (IsBlank old.disks.zero.reads → ⊥) → Unwritten old new
+-- both sides are blank
+abbrev pub AreBlank : Disks → Type 0
+AreBlank d = IsBlank d.zero.reads × IsBlank d.one.reads
 
--- nothing was written, and there were no more moments than the two opening syncs make
-pub record Settling (old new : Seen) : Type 0 where
-  pub works : Works (IsUnwritten old.disks) old new
-  pub few : length works.since.moments ≤ 2
+-- of side One nothing was written, and of side Zero only where both were blank
+pub record WritesOnlyBlank (start now : Disks) : Type 0 where
+  pub one : IsUnwritten start.one now.one
+  pub zero : (AreBlank start → ⊥) → IsUnwritten start.zero now.zero
 
--- what a header says
-abbrev pub Looks : Side → List ℕ → ℕ → Look → Type 0
-Looks side header size Blank = slice_index header 0 ≢ open_gate
-Looks side header size (Bad bad) = (slice_index header 0 ≡ open_gate) × (header_fault side header size ≡ Some bad)
-Looks side header size (Base epoch) = (slice_index header 0 ≡ open_gate) × (header_fault side header size ≡ None) × (epoch ≡ epoch_of header)
+-- whatever a crash leaves is what the sides read at the start, or shows what that shows
+abbrev pub Keeps : Disks → Disks → Type 0
+Keeps start now = Leaves (λ c. (c ≡ reads_of start) ⊎ ShowsAs c (reads_of start)) now
 
--- at each moment since, each image is what the sides read, or shows what that shows
 abbrev pub Keeping : Seen → Seen → Type 0
-Keeping old new = Works (Leaves (λ c. (c ≡ reads_of old.disks) ⊎ ShowsAs c (reads_of old.disks))) old new
+Keeping old new = Works (Keeps old.disks) old new
 
--- until both syncs succeeded nothing is written and each image is one of the start's; from then on the sides are on the disk as they read,
--- and each image is that or shows what that shows
-abbrev pub Opening : Seen → Seen → Type 0
-Opening old new = Settling old new ⊎ ((mid : Seen) × Settling old mid × (mid.disks ≡ all_settled old.disks) × Keeping mid new)
+-- calls of the disk alone were made. At the first moment at most, that of the first of the two opening syncs, a crash leaves what it could
+-- have left at the start; from the moment of the second sync on it leaves what the sides read, or what shows the same
+pub record Opening (old new : Seen) : Type 0 where
+  pub left : new.left ≡ old.left
+  pub told : new.told ≡ old.told
+  pub taken : new.taken ≡ old.taken
+  pub asks : new.asks ≡ old.asks
+  pub first : List Moment
+  pub later : List Moment
+  pub is : new.moments ≡ old.moments ++ (first ++ later)
+  pub few : length first ≤ 1
+  pub before : All (Quiet (AreUnwritten old.disks) old.told) first
+  pub each : All (Quiet (Keeps old.disks) old.told) later
+  pub last : AreUnwritten old.disks new.disks ⊎ Keeps old.disks new.disks
 
--- the sides as read showed this, and it is stored after it
-pub record Opens (shown : Store) (old new : Seen) : Type 0 where
+-- the same, and nothing was written
+pub record Settling (old new : Seen) : Type 0 where
+  pub unwritten : Works (AreUnwritten old.disks) old new
+  pub opening : Opening old new
+
+-- the sides as read showed this, and it is stored after it, at this place
+pub record Opens (place : Place) (shown : Store) (old new : Seen) : Type 0 where
   pub before : Shows (reads_of old.disks) shown
-  pub stored : IsStored shown new.disks
+  pub stored : IsStored place shown new.disks
 
 -- the sides as read have this fault first, and are on the disk as they were
 pub record FindsBad (first : BadStore) (old new : Seen) : Type 0 where
@@ -66,28 +87,57 @@ pub record FindsBad (first : BadStore) (old new : Seen) : Type 0 where
 abbrev pub IsSettled : Seen → Seen → Type 0
 IsSettled old new = new.disks ≡ all_settled old.disks
 
--- what the header of a side says, if it has one
-abbrev pub Says : Side → List ℕ → Look → Type 0
-Says side bytes Blank = IsBlank bytes
-Says side bytes (Bad bad) = IsOpened bytes × (base_fault side bytes ≡ Some bad)
-Says side bytes (Base epoch) = IsOpened bytes × (base_fault side bytes ≡ None) × (epoch ≡ epoch_of (header_of bytes)) × (24 < length bytes)
+-- the headers of both sides
+pub record AreHeaders (headers : Headers) (d : Disks) : Type 0 where
+  pub zero : headers.zero ≡ header_of d.zero.reads
+  pub one : headers.one ≡ header_of d.one.reads
 
--- the header was read, and nothing was changed
-pub record Inspects (side : Side) (look : Look) (old new : Seen) : Type 0 where
+-- the headers were read, and nothing was changed
+pub record Inspects (headers : Headers) (old new : Seen) : Type 0 where
   pub stays : new ≡ old
-  pub says : Says side (disk_of side old.disks).reads look
-
--- nothing is pending, side Zero is blank, and it is known whether its gate must be closed
-pub record IsReady (is_closed : Bool) (d : Disks) : Type 0 where
-  pub known : IsKnown is_closed d.zero
-  pub one : d.one ≡ settled_disk d.one.reads
-  pub blank : IsBlank d.zero.reads
+  pub are : AreHeaders headers old.disks
 
 -- what the store shows that was opened
 abbrev pub shown_of : Opened → Store
 shown_of o = record { state = o.engine; epoch = o.place.epoch; end = o.place.end }
 
--- a sound header leaves room for a gate behind it
-abbrev pub Leads : Look → ℕ → Type 0
-Leads (Base epoch) size = 24 < size
-Leads look size = Unit {0}
+-- the header of a side was read, and nothing was changed
+pub record InspectsSide (side : Side) (header : Option Header) (old new : Seen) : Type 0 where
+  pub stays : new ≡ old
+  pub is : header ≡ header_of (disk_of side old.disks).reads
+
+-- nothing is pending, both sides are blank, and they have so many bytes
+pub record IsReady (sizes : Sizes) (d : Disks) : Type 0 where
+  pub settled : d ≡ all_settled d
+  pub blank : AreBlank d
+  pub long : AreSizes sizes d
+
+-- nothing is pending, these are the headers and sizes of the sides, their headers have no fault, and this side is shown
+pub record IsShownBy (headers : Headers) (sizes : Sizes) (side : Side) (header : Header) (d : Disks) : Type 0 where
+  pub settled : d ≡ all_settled d
+  pub are : AreHeaders headers d
+  pub long : AreSizes sizes d
+  pub sound : headers_fault headers.zero headers.one ≡ None
+  pub shown : shown_side headers.zero headers.one ≡ Some (side, header)
+
+-- the base of a side was read, and nothing was changed
+pub record ReadsBase (side : Side) (header : Header) (base : State) (old new : Seen) : Type 0 where
+  pub stays : new ≡ old
+  pub sound : base_fault side (disk_of side old.disks).reads header ≡ None
+  pub is_base : IsBaseOf (contents_of header.pages (disk_of side old.disks).reads) base
+
+-- the side has no base: it has this fault first, and nothing was changed
+pub record LacksBase (side : Side) (header : Header) (bad : BadStore) (old new : Seen) : Type 0 where
+  pub stays : new ≡ old
+  pub first : MatchOption (base_fault side (disk_of side old.disks).reads header)
+      ((bad ≡ Spelling) × ((base : State) → IsBaseOf (contents_of header.pages (disk_of side old.disks).reads) base → ⊥)) (λ first. bad ≡ first)
+
+-- the base and the journal of a side were read, and nothing was changed
+pub record Resumes (side : Side) (header : Header) (state : State) (end : ℕ) (old new : Seen) : Type 0 where
+  pub stays : new ≡ old
+  pub shows : ShowsBase side (disk_of side old.disks).reads header (record { state = state; epoch = header.epoch; end = end })
+
+-- the base or the journal of a side has this fault first, and nothing was changed
+pub record FailsBy (side : Side) (header : Header) (bad : BadStore) (old new : Seen) : Type 0 where
+  pub stays : new ≡ old
+  pub first : MatchOption (base_fault side (disk_of side old.disks).reads header) (FailsBase side (disk_of side old.disks).reads header bad) (λ first. bad ≡ first)

@@ -3,33 +3,34 @@
 ghost use Rattle.std.specs.Prelude.{◌≡◌, ◌+◌, length, IfOk, OnOk};
 ghost use Rattle.wot_site.specs.Seen.{Honestly, IfHonest};
 ghost use Rattle.wot_site.specs.Site.{HasCause, disk_faults};
+ghost use Rattle.wot_site.specs.Work.{Works};
 ghost use Rattle.wot_types.specs.Outcome.{edited_store};
 ghost use Rattle.wot_types.specs.Store.{Store};
 ghost use Rattle.wot_types.specs.declared.edit.Edit.{Edit};
 ghost use Rattle.wot_store.specs.Shows.{IsStored};
-ghost use Rattle.wot_store.specs.Appending.{Appending, Appends, IsNext, IsRecordOf};
+ghost use Rattle.wot_store.specs.Written.{WritesBehind};
+ghost use Rattle.wot_store.specs.Appending.{Appending, Appends, IsNext, IsRecordOf, place_after};
 
 use crate::place::Place;
 use wot_journal::{Built, commit};
-use wot_site::{DiskFault, Side, Site};
+use wot_site::{DiskFault, Site};
 
-/// Appends the record of an edit, which was built for this place; it answers the new place.
-pub fn append<S: Site>(site: &mut S, place: Place, built: &Built) -> Result<Place, DiskFault>
-    requires next { IfHonest (S.seen site.old) (λ s. IsNext built.now s.disks) }
-    ensures place { IfOk result (λ new. new ≡ record { epoch = place.epoch; end = built.now.end + length built.now.payload + 5 }) }
+/// Appends the record of an edit, which was built for this place; it answers the new place. Of the sides the shown one alone is
+/// written, from its journal's end on.
+pub fn append<S: Site>(place: Place, site: &mut S, built: &Built) -> Result<Place, DiskFault>
+    requires next { IfHonest (S.seen site.old) (λ s. IsNext place built.now s.disks) }
+    ensures place { IfOk result (λ new. new ≡ place_after place built.now) }
     ensures appended { OnOk result ((shown : Store) (edit : Edit) → IsRecordOf built.now shown edit
-        → IfHonest (S.seen site.old) (λ s. IsStored shown s.disks)
-        → Honestly (S.seen site.old) (S.seen site.new) (Appends (edited_store shown edit))) }
+        → IfHonest (S.seen site.old) (λ s. IsStored place shown s.disks)
+        → Honestly (S.seen site.old) (S.seen site.new) (Appends (place_after place built.now) (edited_store shown edit))) }
     ensures any_moment { (shown : Store) (edit : Edit) → IsRecordOf built.now shown edit
-        → IfHonest (S.seen site.old) (λ s. IsStored shown s.disks)
+        → IfHonest (S.seen site.old) (λ s. IsStored place shown s.disks)
         → Honestly (S.seen site.old) (S.seen site.new) (Appending shown (edited_store shown edit)) }
+    ensures written { Honestly (S.seen site.old) (S.seen site.new) (λ old new. Works (WritesBehind place.side place.end old.disks) old new) }
     ensures cause { HasCause disk_faults (S.faults site.old) (S.faults site.new) result }
 {
-    match commit(site, Side::Zero, built) {
-        Ok(end) => Ok(Place {
-            epoch: place.epoch,
-            end,
-        }),
+    match commit(site, place.side, built) {
+        Ok(end) => Ok(Place { end, ..place }),
         Err(DiskFault) => Err(DiskFault),
     }
 }

@@ -1,57 +1,34 @@
 //! The header of a side.
 
-ghost use Rattle.std.specs.Prelude.{◌≡◌, ◌+◌, ◌≤◌, length, take, drop};
-ghost use Rattle.std.specs.Int.{from_be_bytes, w64};
-ghost use Rattle.wot_store.specs.Opening.{Looks};
+ghost use Rattle.std.specs.Prelude.{◌≡◌, length, Some, None, slice_index, if◌then◌else◌, ◌==◌};
+ghost use Rattle.wot_site.specs.Gate.{open_gate};
+ghost use Rattle.wot_store.specs.Base.{header_in};
 
-use crate::error::BadStore;
-use wot_journal::OPEN;
-use wot_site::Side;
+use byteorder::{BigEndian, ByteOrder};
+use wot_site::OPEN;
 
-/// What a header says.
+/// What stands behind the gate of a side that this program wrote.
+pub const MAGIC: [u8; 7] = *b"WOTBASE";
+
+/// What the header of a side says behind an open gate.
 #[derive(Clone, Copy, Debug, PartialEq, Eq)]
-pub enum Look {
-    /// Its gate is closed.
-    Blank,
-    /// It has this fault first.
-    Bad(BadStore),
-    /// It is sound, and has this epoch.
-    Base(u64),
+pub struct Header {
+    pub has_magic: bool,
+    pub epoch: u64,
+    pub pages: u64,
 }
 
-// The number of eight bytes from a place on.
-fn number_at(header: &[u8], at: usize) -> u64
-    requires { at + 8 ≤ length header.now }
-    ensures { result ≡ from_be_bytes w64 (take 8 (drop at header.now)) }
+/// What 24 bytes say; None where their gate is closed.
+pub fn look_at(bytes: &[u8]) -> Option<Header>
+    requires { length bytes.now ≡ 24 }
+    ensures { result ≡ (if slice_index bytes.now 0 == open_gate then Some (header_in bytes.now) else None) }
 {
-    u64::from_be_bytes([
-        header[at],
-        header[at + 1],
-        header[at + 2],
-        header[at + 3],
-        header[at + 4],
-        header[at + 5],
-        header[at + 6],
-        header[at + 7],
-    ])
-}
-
-/// Looks at the header of a side of this size.
-pub fn look_at(header: &[u8], side: Side, size: u64) -> Look
-    requires { length header.now ≡ 24 }
-    ensures { Looks side header.now size result }
-{
-    if header[0] != OPEN {
-        return Look::Blank;
+    if bytes[0] != OPEN {
+        return None;
     }
-    if &header[1..8] != b"WOTBASE".as_slice() {
-        return Look::Bad(BadStore::Magic(side));
-    }
-    if number_at(header, 16) != 0 {
-        return Look::Bad(BadStore::Spelling);
-    }
-    if size == 24 {
-        return Look::Bad(BadStore::Short(side, 24));
-    }
-    Look::Base(number_at(header, 8))
+    Some(Header {
+        has_magic: &bytes[1..8] == MAGIC.as_slice(),
+        epoch: BigEndian::read_u64(&bytes[8..16]),
+        pages: BigEndian::read_u64(&bytes[16..24]),
+    })
 }

@@ -1,23 +1,26 @@
-//! Opening a store of one side.
+//! Opening a store.
 
-ghost use Rattle.std.specs.Prelude.{◌≡◌, ◌<◌, length, IfOk, OnErr, IsErrOf, None};
+ghost use Rattle.std.specs.Prelude.{◌≡◌, ◌&&◌, ◌<◌, is_none, nat_le, length, IfOk, OnErr, IsErrOf, None};
 ghost use Rattle.wot_site.specs.Seen.{Honestly, IfHonest};
 ghost use Rattle.wot_site.specs.Site.{HasCause, disk_faults, Rose, NoneFell, Stays};
 ghost use Rattle.wot_site.specs.Disk.{disk_of};
-ghost use Rattle.wot_site.specs.declared.side.Side.TheVariants.{Zero};
-ghost use Rattle.wot_types.specs.State.{opening_state};
-ghost use Rattle.wot_store.specs.Journal.{Replays, FailsAt};
-ghost use Rattle.wot_store.specs.Opening.{Settles, Settling, Inspects, Leads, IsReady, Keeping, Opening, Opens, FindsBad, IsSettled, WritesOnlyBlank, shown_of};
+ghost use Rattle.wot_site.specs.Work.{Works};
+ghost use Rattle.wot_site.specs.declared.side.Side.TheVariants.{One};
+ghost use Rattle.wot_types.specs.WellFormedState.{IsWellFormedState};
+ghost use Rattle.wot_store.specs.Opening.{AreSizes, Settles, Settling, InspectsSide, Inspects, IsReady, IsShownBy, Keeping, Opening, Opens, FindsBad, IsSettled, WritesOnlyBlank, shown_of};
+ghost use Rattle.wot_store.specs.Shows.{IsStored};
+ghost use Rattle.wot_store.specs.Written.{Spares};
 
-use crate::creation::write_side;
+use crate::base::resume;
 use crate::error::{BadStore, StoreError};
-use crate::header::{Look, look_at};
+use crate::header::{Header, look_at};
+use crate::image::spell_state;
+use crate::pair::{Headers, headers_fault, shown_side};
 use crate::place::Place;
-use crate::replay::replay;
+use crate::writing::write_side;
 use std::alloc::Global;
-use wot_journal::{RangeError, read_range};
-use wot_live::{Engine, Parts};
-use wot_site::{DiskFault, Failed, Side, Site};
+use wot_live::Engine;
+use wot_site::{DiskFault, Failed, RangeError, Side, Site, read_range};
 use wot_types::Mem;
 
 /// A store that was opened: the engine of its state, and where its journal ends.
@@ -27,9 +30,16 @@ pub struct Opened {
     pub place: Place,
 }
 
-// Has both sides on the disk as they read, and answers the size of side Zero.
-fn settle<S: Site>(site: &mut S) -> Result<u64, DiskFault>
-    ensures settled { IfOk result (λ n. Honestly (S.seen site.old) (S.seen site.new) (Settles n)) }
+/// How many bytes each side has.
+#[derive(Clone, Copy, Debug, PartialEq, Eq)]
+pub struct Sizes {
+    pub zero: u64,
+    pub one: u64,
+}
+
+// Has both sides on the disk as they read, and answers their sizes.
+fn settle<S: Site>(site: &mut S) -> Result<Sizes, DiskFault>
+    ensures settled { IfOk result (λ sizes. Honestly (S.seen site.old) (S.seen site.new) (Settles sizes)) }
     ensures any_moment { Honestly (S.seen site.old) (S.seen site.new) Settling }
     ensures cause { HasCause disk_faults (S.faults site.old) (S.faults site.new) result }
 {
@@ -41,21 +51,25 @@ fn settle<S: Site>(site: &mut S) -> Result<u64, DiskFault>
         Ok(()) => {}
         Err(Failed) => return Err(DiskFault),
     }
-    let size = match site.size(Side::Zero) {
+    let zero = match site.size(Side::Zero) {
         Ok(size) => size,
         Err(Failed) => return Err(DiskFault),
     };
     match site.size(Side::One) {
-        Ok(_) => Ok(size),
+        Ok(one) => Ok(Sizes { zero, one }),
         Err(Failed) => Err(DiskFault),
     }
 }
 
-// Reads the header of side Zero, which has so many bytes.
-fn inspect<S: Site>(alloc: Global, site: &mut S, size: u64) -> Result<Look, StoreError>
-    requires size { IfHonest (S.seen site.old) (λ s. size ≡ length (disk_of Zero s.disks).reads) }
-    ensures says { IfOk result (λ look. Honestly (S.seen site.old) (S.seen site.new) (Inspects Zero look)) }
-    ensures leads { IfOk result (λ look. Leads look size) }
+// Reads the header of a side that has so many bytes; None where the side is blank.
+fn inspect_side<S: Site>(
+    alloc: Global,
+    site: &mut S,
+    side: Side,
+    size: u64,
+) -> Result<Option<Header>, StoreError>
+    requires size { IfHonest (S.seen site.old) (λ s. size ≡ length (disk_of side s.disks).reads) }
+    ensures says { IfOk result (λ header. Honestly (S.seen site.old) (S.seen site.new) (InspectsSide side header)) }
     ensures stays { OnErr result (Honestly (S.seen site.old) (S.seen site.new) Stays) }
     ensures never { (b : _) → IsErrOf result (StoreError.Bad b) → S.seen site.old ≡ None }
     ensures cause { IsErrOf result StoreError.DiskFault → Rose (S.faults site.old).disk (S.faults site.new).disk }
@@ -63,23 +77,52 @@ fn inspect<S: Site>(alloc: Global, site: &mut S, size: u64) -> Result<Look, Stor
     ensures quiet { (IsErrOf result StoreError.DiskFault → ⊥) → S.faults site.new ≡ S.faults site.old }
 {
     if size < 24 {
-        return Ok(Look::Blank);
+        return Ok(None);
     }
-    match read_range(alloc, site, Side::Zero, 0, 24) {
-        Ok(header) => Ok(look_at(&header, Side::Zero, size)),
+    match read_range(alloc, site, side, 0, 24) {
+        Ok(bytes) => Ok(look_at(&bytes)),
         Err(RangeError::DiskFault) => Err(StoreError::DiskFault),
-        Err(RangeError::Short) => Err(StoreError::Bad(BadStore::Short(Side::Zero, 0))),
+        Err(RangeError::Short) => Err(StoreError::Bad(BadStore::Short(side, 0))),
         Err(RangeError::Memory) => Err(StoreError::Memory),
     }
 }
 
-// Writes a first side. All memory is taken before its first write.
-fn create<S: Site>(alloc: Global, site: &mut S, is_closed: bool) -> Result<Opened, StoreError>
-    requires ready { IfHonest (S.seen site.old) (λ s. IsReady is_closed s.disks) }
-    ensures created { IfOk result (λ o. Honestly (S.seen site.old) (S.seen site.new) (Opens (shown_of o))) }
+// Reads the headers of sides that have so many bytes.
+fn inspect<S: Site>(alloc: Global, site: &mut S, sizes: Sizes) -> Result<Headers, StoreError>
+    requires sizes { IfHonest (S.seen site.old) (λ s. AreSizes sizes s.disks) }
+    ensures says { IfOk result (λ headers. Honestly (S.seen site.old) (S.seen site.new) (Inspects headers)) }
+    ensures stays { OnErr result (Honestly (S.seen site.old) (S.seen site.new) Stays) }
+    ensures never { (b : _) → IsErrOf result (StoreError.Bad b) → S.seen site.old ≡ None }
+    ensures cause { IsErrOf result StoreError.DiskFault → Rose (S.faults site.old).disk (S.faults site.new).disk }
+    ensures counts { NoneFell (S.faults site.old) (S.faults site.new) }
+    ensures quiet { (IsErrOf result StoreError.DiskFault → ⊥) → S.faults site.new ≡ S.faults site.old }
+{
+    let zero = match inspect_side(alloc, site, Side::Zero, sizes.zero) {
+        Ok(header) => header,
+        Err(e) => return Err(e),
+    };
+    match inspect_side(alloc, site, Side::One, sizes.one) {
+        Ok(one) => Ok(Headers { zero, one }),
+        Err(e) => Err(e),
+    }
+}
+
+// Whether the gate of a side with this header and size is closed, in front of room for a header.
+fn has_closed_gate(header: Option<Header>, size: u64) -> bool
+    ensures { result ≡ (is_none header && nat_le 24 size) }
+{
+    header.is_none() && 24 <= size
+}
+
+// Writes a first side over blank ones that have so many bytes. All memory is taken before its first write.
+fn create<S: Site>(alloc: Global, site: &mut S, sizes: Sizes) -> Result<Opened, StoreError>
+    requires ready { IfHonest (S.seen site.old) (λ s. IsReady sizes s.disks) }
+    ensures sound { IfOk result (λ o. IsWellFormedState o.engine) }
+    ensures created { IfOk result (λ o. Honestly (S.seen site.old) (S.seen site.new) (Opens o.place (shown_of o))) }
     ensures memory { IsErrOf result StoreError.Memory → Honestly (S.seen site.old) (S.seen site.new) Stays }
     ensures never_bad { (b : _) → IsErrOf result (StoreError.Bad b) → ⊥ }
     ensures any_moment { Honestly (S.seen site.old) (S.seen site.new) Keeping }
+    ensures written { Honestly (S.seen site.old) (S.seen site.new) (λ old new. Works (Spares One old.disks) old new) }
     ensures cause { IsErrOf result StoreError.DiskFault → Rose (S.faults site.old).disk (S.faults site.new).disk }
     ensures counts { NoneFell (S.faults site.old) (S.faults site.new) }
     ensures quiet { (IsErrOf result StoreError.DiskFault → ⊥) → S.faults site.new ≡ S.faults site.old }
@@ -88,67 +131,92 @@ fn create<S: Site>(alloc: Global, site: &mut S, is_closed: bool) -> Result<Opene
         Ok(engine) => engine,
         Err(Mem::Memory) => return Err(StoreError::Memory),
     };
-    match write_side(site, Side::Zero, 1, is_closed) {
-        Ok(()) => Ok(Opened {
+    let image = match spell_state(alloc, &engine) {
+        Ok(image) => image,
+        Err(Mem::Memory) => return Err(StoreError::Memory),
+    };
+    match write_side(
+        site,
+        Side::Zero,
+        1,
+        &image,
+        has_closed_gate(None, sizes.zero),
+    ) {
+        Ok(end) => Ok(Opened {
             engine,
-            place: Place { epoch: 1, end: 24 },
+            place: Place {
+                side: Side::Zero,
+                epoch: 1,
+                end,
+                other_closed: has_closed_gate(None, sizes.one),
+            },
         }),
         Err(DiskFault) => Err(StoreError::DiskFault),
     }
 }
 
-// Makes the edits of side Zero's records in the opening state, and counts once, after the last.
-fn resume<S: Site>(alloc: Global, site: &mut S, size: u64) -> Result<(Engine, u64), StoreError>
-    requires within { 24 < size }
-    requires size { IfHonest (S.seen site.old) (λ s. size ≡ length (disk_of Zero s.disks).reads) }
-    ensures replayed { IfOk result (λ r. Honestly (S.seen site.old) (S.seen site.new) (Replays Zero 24 opening_state r.0 r.1)) }
-    ensures stays { OnErr result (Honestly (S.seen site.old) (S.seen site.new) Stays) }
-    ensures bad { (b : _) → IsErrOf result (StoreError.Bad b) → Honestly (S.seen site.old) (S.seen site.new) (FailsAt Zero 24 opening_state b) }
+// Opens the shown side. Beside it the other one has this header and size.
+fn open_shown<S: Site>(
+    alloc: Global,
+    site: &mut S,
+    headers: Headers,
+    sizes: Sizes,
+    side: Side,
+    header: Header,
+) -> Result<Opened, StoreError>
+    requires shown { IfHonest (S.seen site.old) (λ s. IsShownBy headers sizes side header s.disks) }
+    ensures sound { IfOk result (λ o. IsWellFormedState o.engine) }
+    ensures opened { IfOk result (λ o. Honestly (S.seen site.old) (S.seen site.new) (Opens o.place (shown_of o))) }
+    ensures stays { Honestly (S.seen site.old) (S.seen site.new) Stays }
+    ensures bad { (b : _) → IsErrOf result (StoreError.Bad b) → Honestly (S.seen site.old) (S.seen site.new) (FindsBad b) }
     ensures cause { IsErrOf result StoreError.DiskFault → Rose (S.faults site.old).disk (S.faults site.new).disk }
     ensures counts { NoneFell (S.faults site.old) (S.faults site.new) }
     ensures quiet { (IsErrOf result StoreError.DiskFault → ⊥) → S.faults site.new ≡ S.faults site.old }
 {
-    let base = match Parts::new(alloc) {
-        Ok(base) => base,
-        Err(Mem::Memory) => return Err(StoreError::Memory),
+    let (size, other_closed) = match side {
+        Side::Zero => (sizes.zero, has_closed_gate(headers.one, sizes.one)),
+        Side::One => (sizes.one, has_closed_gate(headers.zero, sizes.zero)),
     };
-    let (parts, end) = match replay(alloc, site, Side::Zero, 24, size, base) {
-        Ok(replayed) => replayed,
-        Err(e) => return Err(e),
-    };
-    match parts.into_engine() {
-        Ok(engine) => Ok((engine, end)),
-        Err(Mem::Memory) => Err(StoreError::Memory),
+    match resume(alloc, site, side, header, size) {
+        Ok((engine, end)) => Ok(Opened {
+            engine,
+            place: Place {
+                side,
+                epoch: header.epoch,
+                end,
+                other_closed,
+            },
+        }),
+        Err(e) => Err(e),
     }
 }
 
-/// Opens the store, and writes a first side where side Zero is blank.
+/// Opens the store, and writes side Zero as a first one where both sides are blank. Both sides are synced first. All memory for a first
+/// side is taken before it is written.
 pub fn open_store<S: Site>(alloc: Global, site: &mut S) -> Result<Opened, StoreError>
-    ensures opened { IfOk result (λ o. Honestly (S.seen site.old) (S.seen site.new) (Opens (shown_of o))) }
+    ensures sound { IfOk result (λ o. IsWellFormedState o.engine) }
+    ensures opened { IfOk result (λ o. Honestly (S.seen site.old) (S.seen site.new) (Opens o.place (shown_of o))) }
     ensures bad { (b : _) → IsErrOf result (StoreError.Bad b) → Honestly (S.seen site.old) (S.seen site.new) (FindsBad b) }
     ensures memory { IsErrOf result StoreError.Memory → Honestly (S.seen site.old) (S.seen site.new) IsSettled }
-    ensures unwritten { Honestly (S.seen site.old) (S.seen site.new) WritesOnlyBlank }
+    ensures written { Honestly (S.seen site.old) (S.seen site.new) (λ old new. Works (WritesOnlyBlank old.disks) old new) }
     ensures any_moment { Honestly (S.seen site.old) (S.seen site.new) Opening }
     ensures cause { IsErrOf result StoreError.DiskFault → Rose (S.faults site.old).disk (S.faults site.new).disk }
     ensures counts { NoneFell (S.faults site.old) (S.faults site.new) }
     ensures quiet { (IsErrOf result StoreError.DiskFault → ⊥) → S.faults site.new ≡ S.faults site.old }
 {
-    let size = match settle(site) {
-        Ok(size) => size,
+    let sizes = match settle(site) {
+        Ok(sizes) => sizes,
         Err(DiskFault) => return Err(StoreError::DiskFault),
     };
-    match inspect(alloc, site, size) {
-        Ok(Look::Blank) => create(alloc, site, 24 <= size),
-        Ok(Look::Bad(bad)) => Err(StoreError::Bad(bad)),
-        Ok(Look::Base(epoch)) => {
-            match resume(alloc, site, size) {
-                Ok((engine, end)) => Ok(Opened {
-                    engine,
-                    place: Place { epoch, end },
-                }),
-                Err(e) => Err(e),
-            }
-        }
-        Err(e) => Err(e),
+    let headers = match inspect(alloc, site, sizes) {
+        Ok(headers) => headers,
+        Err(e) => return Err(e),
+    };
+    if let Some(bad) = headers_fault(headers) {
+        return Err(StoreError::Bad(bad));
+    }
+    match shown_side(headers) {
+        None => create(alloc, site, sizes),
+        Some((side, header)) => open_shown(alloc, site, headers, sizes, side, header),
     }
 }

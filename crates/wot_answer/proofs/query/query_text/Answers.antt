@@ -9,4 +9,4 @@ pub explanation_text-requires : goal.explanation_text-requires
 explanation_text-requires c =
     let some = subst IsProperQuery c.in-Why.is c.requires.proper in
     let none = subst (λ query. query_refusal c.args.engine.now query ≡ None) c.in-Why.is c.requires.answered in
-    record { there = subst (λ id. IsSome (spot_at c.args.engine.now.keys id (c.in-Why.place - 1))) (sym c.key_id-in-Why.ensures) (asked_there c.args.engine.now c.in-Why.fpr c.in-Why.place some none) }
+    record { from_one = some; there = subst (λ id. IsSome (spot_at c.args.engine.now.keys id (c.in-Why.place - 1))) (sym c.key_id-in-Why.ensures) (asked_there c.args.engine.now c.in-Why.fpr c.in-Why.place some none) }

@@ -1,0 +1,144 @@
+-- What a store needs of images.
+use Rattle.std.proofs.Common.{◌≡◌, ◌⊎◌, inl, inr, ℕ, zero, suc, ◌+◌, ◌-◌, ◌*◌, ◌<◌, Bool, true, false, cond, List, [], ◌++◌, length, map, take, replicate, Option, option_map, Some, None, refl, sym, ap, subst, ◌∙◌, arith}
+use Rattle.std.specs.Prelude.{All, ◌==◌, ◌&&◌, nat_lt}
+use Rattle.std.specs.FinMap as finmap
+use Rattle.std.specs.List.{filter_map, list_all}
+use Rattle.std.specs.Ordering.{nat_cmp}
+use Rattle.std.proofs.lemmas.Bool.{cases_lt}
+use Rattle.std.proofs.lemmas.List.{get_or_past, take_at}
+use Rattle.std.proofs.lemmas.List.Elements.{All-cons, All-get_or, All-nil, All-take}
+use Rattle.std.proofs.lemmas.Option.{same_Some}
+use Rattle.wot_types.specs.declared.key.Key.{Key}
+use Rattle.wot_types.specs.declared.row.Row.{Row}
+use Rattle.wot_types.specs.Candidates.{RowMap}
+use Rattle.wot_types.specs.Fingerprint.{fpr_cmp}
+use Rattle.wot_types.specs.Image.{IsImage, image_body, image_bytes}
+use Rattle.wot_types.specs.Keyring.{with_keys}
+use Rattle.wot_types.specs.Levels.{first_row, kept_or, map_by, new_row, rows_of, rows_upto}
+use Rattle.wot_types.specs.declared.ownertrust.Ownertrust.{Ownertrust}
+use Rattle.wot_types.specs.Ownertrust.{entry_of, with_entries}
+use Rattle.wot_types.specs.Spelling.{entry_bytes, flag_bytes, key_bytes, list_bytes, number_1, number_4, number_8, options_bytes, row_bytes}
+use Rattle.wot_types.specs.State.{State, opening_options, opening_state}
+use Rattle.wot_types.proofs.FinMaps.{no_entries}
+use Rattle.wot_spelling.specs.Reading.{bytes_at, number_8_at}
+use Rattle.wot_spelling.proofs.Parts.{IsBytes, bind_some, bytes_take}
+use Rattle.wot_image.specs.Bases.{front_of, padded_front}
+use Rattle.wot_image.specs.Reading.{image_of}
+use Rattle.wot_image.specs.States.{IsMadeOf, is_within, state_of, with_rows}
+use Rattle.wot_image.specs.declared.image.Image.{Image}
+use Rattle.wot_image.specs.declared.stored.Stored.{Stored}
+use Rattle.wot_image.proofs.BaseLemmas.{base_from, base_front, no_front}
+use Rattle.wot_image.proofs.Images.{found, nothing, one_image, too_much}
+use Rattle.wot_pages.specs.Page.{content_size, page_place, pages_needed}
+use Rattle.wot_pages.specs.Pages.{contents_for}
+use Rattle.wot_store.specs.Base.{IsBaseOf, image_length}
+
+-- the contents of a base are an image of one state
+pub one_base : (contents : List ℕ) (s t : State) → IsBaseOf contents s → IsBaseOf contents t → s ≡ t
+one_base contents s t x y =
+    (one_image x.spelled.image y.spelled.image x.spelled.rest y.spelled.rest s t x.rows y.rows x.spelled.spelled y.spelled.spelled (sym x.spelled.is ∙ y.spelled.is)).1
+
+-- an image and its zeros are the contents of a base
+zeros_all : (n : ℕ) → All (λ (byte : ℕ). byte ≡ 0) (replicate n 0)
+zeros_all zero = All-nil (λ (byte : ℕ). byte ≡ 0)
+zeros_all (suc n) = All-cons (λ (byte : ℕ). byte ≡ 0) 0 (replicate n 0) refl (zeros_all n)
+
+zeros_long : (n : ℕ) → length {A = ℕ} (replicate n 0) ≡ n
+zeros_long zero = refl
+zeros_long (suc n) = omega (arith, zeros_long n)
+
+pub image_base : (image : List ℕ) (s : State) (rows : RowMap) → IsImage image s rows → IsBaseOf (contents_for image) s
+image_base image s rows h = record {
+  rows = rows;
+  spelled = record {
+    image = image;
+    rest = replicate (4064 * pages_needed (length image) - length image) 0;
+    spelled = h;
+    zeros = zeros_all (4064 * pages_needed (length image) - length image);
+    few = omega (arith, zeros_long (4064 * pages_needed (length image) - length image));
+    is = refl;
+  };
+}
+
+-- the image at the front of contents is of bytes
+pub record Front (contents image : List ℕ) : Type 0 where
+  pub rest : List ℕ
+  pub is : contents ≡ image ++ rest
+
+front_parts : (contents image : List ℕ) → IsBytes contents → padded_front content_size contents ≡ Some image → Front contents image
+unfolding padded_front front_of
+front_parts contents image fits h =
+    let x = bind_some (front_of contents) (λ (x : List ℕ × List ℕ). cond {A = Option (List ℕ)} (nat_lt (length x.1) content_size && list_all (λ byte. byte == 0) x.1) (Some x.0) None) image h in
+    let n = bind_some (number_8_at contents) (λ (n : ℕ × List ℕ). bytes_at (n.0 + 8) contents) x.0 x.1 in
+    let cut = bytes_take (n.0.0 + 8) contents x.0.0 x.0.1 fits n.2 in
+    go x.0.0 x.0.1 cut.0 (nat_lt (length x.0.1) content_size && list_all (λ byte. byte == 0) x.0.1) x.2
+  where
+    go : (front rest : List ℕ) → contents ≡ front ++ rest → (b : Bool) → cond {A = Option (List ℕ)} b (Some front) None ≡ Some image → Front contents image
+    go front rest is true same = record { rest = rest; is = is ∙ ap (λ (f : List ℕ). f ++ rest) (same_Some front image same) }
+    go front rest is false same = absurd cc
+
+at_each : (bytes : List ℕ) → All (λ byte. byte < 256) bytes → IsBytes bytes
+at_each bytes each i = elim (cases_lt i (length bytes)) [
+  | inl lt ↦ All-get_or (λ byte. byte < 256) bytes i 0 lt each
+  | inr le ↦ rw (get_or_past bytes i 0 le) (omega arith)
+]
+
+front_bytes : (contents image : List ℕ) → All (λ byte. byte < 256) contents → Front contents image → All (λ byte. byte < 256) image
+front_bytes contents image each front =
+    subst (λ (l : List ℕ). All (λ byte. byte < 256) l) (ap (λ (l : List ℕ). take (length image) l) front.is ∙ take_at image front.rest (length image) refl) (All-take (λ byte. byte < 256) (length image) contents each)
+
+-- the contents are those of a base, or of none
+abbrev pub Decided : List ℕ → Type 0
+Decided contents = ((s : State) × IsBaseOf contents s) ⊎ ((s : State) → IsBaseOf contents s → ⊥)
+
+module _ (contents : List ℕ) (each : All (λ byte. byte < 256) contents) (image : List ℕ) (front : padded_front content_size contents ≡ Some image) where
+  -- a base has this image
+  its_image : (s : State) (base : IsBaseOf contents s) → IsImage image s base.rows
+  its_image s base = subst (λ (l : List ℕ). IsImage l s base.rows) (same_Some base.spelled.image image (sym (base_front content_size contents s base.rows base.spelled) ∙ front)) base.spelled.spelled
+
+  by_limits : (d : Stored) (i : Image) → image_of image ≡ Some d → IsMadeOf d i → (few : Bool) → is_within i ≡ few → Decided contents
+  by_limits d i read made true few =
+      let is : IsImage image (state_of i) i.rows = found image d i (at_each image (front_bytes contents image each (front_parts contents image (at_each contents each) front))) read made few in
+      inl (state_of i, record { rows = i.rows; spelled = base_from content_size contents image (state_of i) i.rows (at_each contents each) front is })
+  by_limits d i read made false many = inr (λ s base. too_much image d i read made many s base.rows (its_image s base))
+
+  by_parts : (o : Option Stored) → image_of image ≡ o → Decided contents
+  by_parts None read = inr (λ s base. nothing image read s base.rows (its_image s base))
+  by_parts (Some d) read =
+      let i : Image = record { table = with_keys finmap.empty d.keys; trusts = with_entries finmap.empty d.entries; date = d.date; options = d.options; rows = with_rows finmap.empty d.rows } in
+      by_limits d i read (record { table = refl; trusts = refl; date = refl; options = refl; rows = refl }) (is_within i) refl
+
+pub some_base : (contents : List ℕ) → All (λ byte. byte < 256) contents → Decided contents
+some_base contents each = by_front (padded_front content_size contents) refl
+  where
+    by_front : (o : Option (List ℕ)) → padded_front content_size contents ≡ o → Decided contents
+    by_front None none = inr (λ s base. no_front content_size contents none s base.rows base.spelled)
+    by_front (Some image) front = by_parts contents each image front (image_of image) refl
+
+-- the image of the opening state has 36 bytes, which are one page
+no_keys : finmap.entries opening_state.keys ≡ []
+no_keys = no_entries finmap.empty (finmap.len-empty nat_cmp Key)
+
+no_trusts : finmap.entries opening_state.trusts ≡ []
+no_trusts = no_entries finmap.empty (finmap.len-empty fpr_cmp Ownertrust)
+
+map_none : (rule : ℕ → Key → Option Row) → map_by opening_state.keys rule ≡ finmap.empty
+map_none rule = ap (λ (es : List (ℕ × Key)). finmap.from_entries {R = nat_cmp} (filter_map (λ (e : ℕ × Key). option_map (λ (y : Row). (e.0, y)) (rule e.0 e.1)) es)) no_keys
+
+no_rows : (n : ℕ) → finmap.entries (rows_upto opening_state n) ≡ []
+unfolding rows_upto
+no_rows zero = ap (λ (m : RowMap). finmap.entries m) (map_none (first_row opening_state)) ∙ no_entries finmap.empty (finmap.len-empty nat_cmp Row)
+no_rows (suc n) = ap (λ (m : RowMap). finmap.entries m) (map_none (λ id key. kept_or (finmap.get (rows_upto opening_state n) id) (new_row opening_state (rows_upto opening_state n) (suc n) id key))) ∙ no_entries finmap.empty (finmap.len-empty nat_cmp Row)
+
+abbrev pub body_over : List (List ℕ × Ownertrust) → List (ℕ × Key) → List (ℕ × Row) → List ℕ
+body_over es ks rs = number_1 1 ++ (number_4 0 ++ (options_bytes opening_options ++ (list_bytes entry_bytes (map entry_of es) ++ (list_bytes key_bytes (map (λ (e : ℕ × Key). e.1) ks) ++ list_bytes row_bytes (map (λ (e : ℕ × Row). e.1) rs)))))
+
+opening_length : image_length opening_state ≡ 36
+unfolding image_bytes image_body number_1 number_4 number_8 options_bytes list_bytes flag_bytes
+opening_length = over (finmap.entries opening_state.trusts) (finmap.entries opening_state.keys) (finmap.entries (rows_of opening_state)) no_trusts no_keys (no_rows 4)
+  where
+    over : (es : List (List ℕ × Ownertrust)) (ks : List (ℕ × Key)) (rs : List (ℕ × Row)) → es ≡ [] → ks ≡ [] → rs ≡ [] → length (number_8 (length (body_over es ks rs)) ++ body_over es ks rs) ≡ 36
+    over es ks rs a b c = (λ i. length (number_8 (length (body_over (a i) (b i) (c i))) ++ body_over (a i) (b i) (c i))) ∙ refl
+
+pub opening_end : (n : ℕ) → n ≡ image_length opening_state → page_place (pages_needed n) ≡ 4120
+opening_end n is = omega (arith, is, opening_length)

@@ -1,0 +1,111 @@
+//! The base of the shown side, and the journal behind it.
+
+ghost use Rattle.std.specs.Prelude.{◌≡◌, ◌<◌, length, min, nat_lt, if◌then◌else◌, Some, None, IfOk, OnErr, IsErrOf};
+ghost use Rattle.wot_site.specs.Disk.{disk_of};
+ghost use Rattle.wot_site.specs.Seen.{Honestly, IfHonest};
+ghost use Rattle.wot_site.specs.Site.{Stays, Rose, NoneFell};
+ghost use Rattle.wot_site.specs.Gate.{most};
+ghost use Rattle.wot_types.specs.Payload.{IsInRange};
+ghost use Rattle.wot_types.specs.WellFormedState.{IsWellFormedState};
+ghost use Rattle.wot_image.specs.States.{state_of};
+ghost use Rattle.wot_pages.specs.Page.{page_place};
+ghost use Rattle.wot_store.specs.Opening.{ReadsBase, LacksBase, Resumes, FailsBy};
+
+use crate::error::{BadStore, StoreError};
+use crate::header::Header;
+use crate::replay::replay;
+use std::alloc::Global;
+use wot_image::{Image, read_base};
+use wot_live::{Engine, Parts};
+use wot_pages::{CONTENT, FIRST, PAGE, PagesError, read_pages};
+use wot_site::{MOST, Side, Site};
+use wot_types::Mem;
+
+// The place behind so many pages, where it and the gate that stands there lie within a side of this size.
+fn journal_start(pages: u64, size: u64) -> Option<u64>
+    ensures { result ≡ (if nat_lt (page_place pages) (min size most) then Some (page_place pages) else None) }
+{
+    let most = size.min(MOST);
+    if most <= FIRST || (most - FIRST - 1) / (PAGE as u64) < pages {
+        return None;
+    }
+    Some(FIRST + PAGE as u64 * pages)
+}
+
+// The parts of a base. Its rows are dropped, so all is to be counted.
+fn base_parts(image: Image) -> Result<Parts, Mem>
+    requires ranges { IsInRange image.options }
+    ensures { IfOk result (λ parts. parts ≡ state_of image) }
+{
+    Parts::of(image.table, image.trusts, image.date, image.options)
+}
+
+// Reads the base of a side that has so many bytes, and answers the place behind it.
+fn load_base<S: Site>(
+    alloc: Global,
+    site: &mut S,
+    side: Side,
+    header: Header,
+    size: u64,
+) -> Result<(Parts, u64), StoreError>
+    requires size { IfHonest (S.seen site.old) (λ s. size ≡ length (disk_of side s.disks).reads) }
+    ensures sound { IfOk result (λ r. IsWellFormedState r.0) }
+    ensures base { IfOk result (λ r. Honestly (S.seen site.old) (S.seen site.new) (ReadsBase side header r.0)) }
+    ensures start { IfOk result (λ r. (r.1 ≡ page_place header.pages) × (r.1 < size) × (r.1 < most)) }
+    ensures stays { OnErr result (Honestly (S.seen site.old) (S.seen site.new) Stays) }
+    ensures bad { (b : _) → IsErrOf result (StoreError.Bad b) → Honestly (S.seen site.old) (S.seen site.new) (LacksBase side header b) }
+    ensures cause { IsErrOf result StoreError.DiskFault → Rose (S.faults site.old).disk (S.faults site.new).disk }
+    ensures counts { NoneFell (S.faults site.old) (S.faults site.new) }
+    ensures quiet { (IsErrOf result StoreError.DiskFault → ⊥) → S.faults site.new ≡ S.faults site.old }
+{
+    let start = match journal_start(header.pages, size) {
+        Some(start) => start,
+        None => return Err(StoreError::Bad(BadStore::Short(side, FIRST))),
+    };
+    let contents = match read_pages(alloc, site, side, header.epoch, header.pages) {
+        Ok(contents) => contents,
+        Err(PagesError::DiskFault) => return Err(StoreError::DiskFault),
+        Err(PagesError::Seal(page)) => return Err(StoreError::Bad(BadStore::Seal(page))),
+        Err(PagesError::Memory) => return Err(StoreError::Memory),
+    };
+    match read_base(alloc, &contents, CONTENT) {
+        Ok(Some(image)) => match base_parts(image) {
+            Ok(parts) => Ok((parts, start)),
+            Err(Mem::Memory) => Err(StoreError::Memory),
+        },
+        Ok(None) => Err(StoreError::Bad(BadStore::Spelling)),
+        Err(Mem::Memory) => Err(StoreError::Memory),
+    }
+}
+
+/// Makes the edits of the records of a side that has so many bytes in the state of its base, and counts once, after the
+/// last; it answers the end of the journal too.
+pub fn resume<S: Site>(
+    alloc: Global,
+    site: &mut S,
+    side: Side,
+    header: Header,
+    size: u64,
+) -> Result<(Engine, u64), StoreError>
+    requires size { IfHonest (S.seen site.old) (λ s. size ≡ length (disk_of side s.disks).reads) }
+    ensures sound { IfOk result (λ r. IsWellFormedState r.0) }
+    ensures resumed { IfOk result (λ r. Honestly (S.seen site.old) (S.seen site.new) (Resumes side header r.0 r.1)) }
+    ensures stays { OnErr result (Honestly (S.seen site.old) (S.seen site.new) Stays) }
+    ensures bad { (b : _) → IsErrOf result (StoreError.Bad b) → Honestly (S.seen site.old) (S.seen site.new) (FailsBy side header b) }
+    ensures cause { IsErrOf result StoreError.DiskFault → Rose (S.faults site.old).disk (S.faults site.new).disk }
+    ensures counts { NoneFell (S.faults site.old) (S.faults site.new) }
+    ensures quiet { (IsErrOf result StoreError.DiskFault → ⊥) → S.faults site.new ≡ S.faults site.old }
+{
+    let (base, start) = match load_base(alloc, site, side, header, size) {
+        Ok(loaded) => loaded,
+        Err(e) => return Err(e),
+    };
+    let (parts, end) = match replay(alloc, site, side, start, size, base) {
+        Ok(replayed) => replayed,
+        Err(e) => return Err(e),
+    };
+    match parts.into_engine() {
+        Ok(engine) => Ok((engine, end)),
+        Err(Mem::Memory) => Err(StoreError::Memory),
+    }
+}

@@ -1,0 +1,28 @@
+//! The image of an engine's state.
+
+ghost use Rattle.std.specs.Prelude.{◌≡◌, ◌<◌, ◌^◌, length, IfOk};
+ghost use Rattle.wot_types.specs.WellFormedState.{IsWellFormedState};
+ghost use Rattle.wot_pages.specs.Pages.{contents_for};
+ghost use Rattle.wot_store.specs.Base.{IsBaseOf, image_length};
+
+use std::alloc::Global;
+use wot_image::spell;
+use wot_live::Engine;
+use wot_types::Mem;
+
+/// Spells the state of an engine with its rows.
+pub fn spell_state(alloc: Global, engine: &Engine) -> Result<Vec<u8>, Mem>
+    requires sound { IsWellFormedState engine.now }
+    ensures base { IfOk result (λ image. IsBaseOf (contents_for image.items) engine.now) }
+    ensures long { IfOk result (λ image. length image.items ≡ image_length engine.now) }
+    ensures few { IfOk result (λ image. length image.items < 2 ^ 29) }
+{
+    spell(
+        alloc,
+        engine.table(),
+        engine.trusts(),
+        engine.date(),
+        engine.options(),
+        engine.rows(),
+    )
+}
