@@ -31,7 +31,7 @@ fn main(rt: HostRuntime) -> ExitCode {
     match words(&rt) {
         Ok(words) => {
             let mut site = FileSite::new(&rt, rt.reader(), writer(&rt));
-            leave(&rt, session(rt.alloc(), &words, &mut site))
+            session(&rt, rt.alloc(), &words, &mut site)
         }
         Err(fault) if fault.kind() == ErrorKind::OutOfMemory => leave(
             &rt,
@@ -56,10 +56,10 @@ fn words(rt: &(impl Env + AllocGlobal)) -> io::Result<Vec<String>> {
     Ok(words)
 }
 
-/// All that the program does once it has its words and its outside.
-fn session<'a, S: Site>(alloc: Global, words: &'a [String], site: &mut S) -> End<'a>
-    // There is a status with this line and this code, and the run is one that ends with it.
-    ensures run { (s : status.Status) × (result.line.now ≡ line_of s) × (exit_status result.code ≡ code_of s)
+/// All that the program does once it has its words and its outside; it answers the exit code.
+fn session<S: Site>(rt: &impl Eprint, alloc: Global, words: &[String], site: &mut S) -> ExitCode
+    // There is a status with this code, and the run is one that ends with it.
+    ensures run { (s : status.Status) × (exit_status result ≡ code_of s)
         × HasCauses (S.faults site.old) (S.faults site.new) s
         × (s ≡ Status.Usage → command_words (map string_bytes words.now) ≡ None)
         × (command_words (map string_bytes words.now) ≡ None → (s ≡ Status.Usage) ⊎ (s ≡ Status.Memory))
@@ -67,7 +67,7 @@ fn session<'a, S: Site>(alloc: Global, words: &'a [String], site: &mut S) -> End
         → Honestly (S.seen site.old) (S.seen site.new) (Ran command longest_input s)) }
     ensures untouched { command_words (map string_bytes words.now) ≡ None → site.new ≡ site.old }
 {
-    end_with(run(alloc, words, site))
+    leave(rt, end_with(run(alloc, words, site)))
 }
 
 /// The end of a run with this status.

@@ -14,6 +14,8 @@ use Rattle.wot_answer.specs.declared.cut.Cut.{Cut}
 use Rattle.wot_answer.specs.declared.cut.Cut.TheVariants.{Between, Over, Within}
 use Rattle.wot_site.specs.Seen.{Seen, Honestly, IfHonest}
 use Rattle.wot_site.proofs.Honest.{honest_then, honest_weaker}
+use Rattle.wot_types.specs.Store.{Store}
+use Rattle.wot_store.specs.declared.place.Place.{Place}
 use Rattle.wot_session.specs.declared.session.Session.{Session}
 use Rattle.wot_session.specs.Fed.{more, whole_from, open_from}
 use Rattle.wot_session.specs.Here.{Holds, IsAt, IsHere, IsOver}
@@ -51,6 +53,13 @@ after_push p xs line = lines_append p xs (line ∷ []) ∙ after_one (after_line
 pub commands_push : (p : Position) (xs : List ReadLine) (line : ReadLine) → commands_in p (xs ++ line ∷ []) ≡ commands_in p xs ++ made_by (after_lines p xs).cut line
 commands_push p xs line = whole_append p.cut xs (line ∷ []) ∙ ap (λ last. commands_in p xs ++ last) (one_line (after_lines p xs).cut line)
 
+-- a session at the place at which the store is open
+pub holds_at : {place other : Place} (seen : Option Seen) (store : Store) → other ≡ place → Holds place seen store → Holds other seen store
+holds_at seen store same holds = subst (λ (place : Place). Holds place seen store) (sym same) holds
+
+pub here_at : {place : Place} (session : Session) (seen : Option Seen) (p : Position) → session.place ≡ place → IsAt session p → Holds place seen p.progress.store → IsHere session seen p
+here_at session seen p same at holds = record { at = at; holds = holds_at seen p.progress.store same holds }
+
 -- these bytes were given to a session at its start, the rest of them is to be fed, and the lines before it are done
 pub record Feeding (first now : Option Seen) (start session : Session) (bytes rest : List ℕ) : Type 0 where
   pub done : List ReadLine
@@ -59,15 +68,15 @@ pub record Feeding (first now : Option Seen) (start session : Session) (bytes re
   pub whole : done ++ whole_from session.line rest ≡ whole_from start.line bytes
   pub line : open_from session.line rest ≡ open_from start.line bytes
 
-pub start_said : (p : Position) (a : Option Seen) → Holds a p.progress.store → Honestly a a (Said p.progress [])
-start_said p None holds = tt
-start_said p (Some x) holds = said_none p.progress x holds
+pub start_said : (place : Place) (p : Position) (a : Option Seen) → Holds place a p.progress.store → Honestly a a (Said p.progress [])
+start_said place p None holds = tt
+start_said place p (Some x) holds = said_none p.progress x holds
 
 pub feeding_start : (a : Option Seen) (session : Session) (bytes : List ℕ) → Feeding a a session session bytes bytes
 feeding_start a session bytes = record {
   done = [];
   at = λ p here. here;
-  said = λ p here. start_said p a here.holds;
+  said = λ p here. start_said session.place p a here.holds;
   whole = refl;
   line = refl;
 }
@@ -105,9 +114,9 @@ module _ {first now : Option Seen} {start session : Session} {bytes rest : List 
         (sym (append-nil (commands_in p feeding.done)) ∙ ap (λ last. commands_in p feeding.done ++ last) (sym none) ∙ sym (all_commands p)) said)
 
   module _ (held : Session) (part after : List ℕ) (split : slice_split is_newline rest ≡ part ∷ slice_split is_newline after)
-      (line : held.line ≡ more session.line part) (held_at : (p : Position) → IsAt session p → IsAt held p) where
+      (line : held.line ≡ more session.line part) (held_at : (p : Position) → IsAt session p → IsAt held p) (held_place : held.place ≡ session.place) where
     held_here : (p : Position) → IsHere start first p → IsHere held now (after_lines p feeding.done)
-    held_here p here = record { at = held_at _ (feeding.at p here).at; holds = (feeding.at p here).holds }
+    held_here p here = here_at held now (after_lines p feeding.done) held_place (held_at _ (feeding.at p here).at) (feeding.at p here).holds
 
     next_whole : feeding.done ++ held.line ∷ [] ++ whole_from (Some []) after ≡ whole_from start.line bytes
     next_whole =
@@ -153,10 +162,10 @@ module _ {first now : Option Seen} {start session : Session} {bytes rest : List 
     all_done =
         sym (append-nil feeding.done) ∙ ap (λ lines. feeding.done ++ lines) (sym (whole_none session.line rest unended)) ∙ feeding.whole
 
-    pub fed_at : (held : Session) → ((p : Position) → IsAt session p → IsAt held p)
+    pub fed_at : (held : Session) → ((p : Position) → IsAt session p → IsAt held p) → held.place ≡ session.place
         → (p : Position) → IsHere start first p → IsHere held now (after_lines p (whole_from start.line bytes))
-    fed_at held held_at p here =
-        subst (λ lines. IsHere held now (after_lines p lines)) all_done (record { at = held_at _ (feeding.at p here).at; holds = (feeding.at p here).holds })
+    fed_at held held_at held_place p here =
+        subst (λ lines. IsHere held now (after_lines p lines)) all_done (here_at held now (after_lines p feeding.done) held_place (held_at _ (feeding.at p here).at) (feeding.at p here).holds)
 
     pub fed_line : open_from start.line bytes ≡ more session.line rest
     fed_line = sym feeding.line ∙ open_none session.line rest unended

@@ -7,7 +7,7 @@ mod Openings
 mod Outcomes
 mod Parts
 mod Prefixes
-mod Resting
+mod Trails
 mod Runs
 mod Sayings
 mod Splits

@@ -4,6 +4,7 @@ use Rattle.wot_types.specs.Commands.Cut.{over}
 use Rattle.wot_types.specs.LineByLine.{Position, after_lines}
 use Rattle.wot_site.specs.Seen.{Seen, Honestly}
 use Rattle.wot_site.proofs.Honest.{honest_then}
+use Rattle.wot_store.specs.declared.place.Place.{Place}
 use Rattle.wot_session.specs.declared.session.Session.{Session}
 use Rattle.wot_session.specs.declared.stop.Stop.{Stop}
 use Rattle.wot_session.specs.AtEnd.{at_end, last_commands}
@@ -33,9 +34,9 @@ pub record Ending (s : Position) (first now : Option Seen) (session : Session) (
   pub bound : length fed ≤ most
   pub reached : Honestly first now (ReachedEnd s fed)
 
-start_reached : (s : Position) (a : Option Seen) → Holds a s.progress.store → (s.cut ≡ over → ⊥) → Honestly a a (Reached s [])
-start_reached s None holds goes = tt
-start_reached s (Some x) holds goes = reached_start s x holds goes
+start_reached : (place : Place) (s : Position) (a : Option Seen) → Holds place a s.progress.store → (s.cut ≡ over → ⊥) → Honestly a a (Reached s [])
+start_reached place s None holds goes = tt
+start_reached place s (Some x) holds goes = reached_start s x holds goes
 
 pub running_start : (s : Position) (a : Option Seen) (session : Session) (most : ℕ) → IsHere session a s → session.line ≡ Some [] → (IsOver session → ⊥)
     → Running s a a session most most
@@ -44,7 +45,7 @@ running_start s a session most at line goes = record {
   at = at;
   line = line;
   bound = omega arith;
-  reached = start_reached s a at.holds (not_over session s at.at goes);
+  reached = start_reached session.place s a at.holds (not_over session s at.at goes);
 }
 
 module _ {s : Position} {first now : Option Seen} {session : Session} {most room : ℕ} (running : Running s first now session most room) where

@@ -178,7 +178,7 @@ whole_exact p commands before text new told whole image is_image =
     let same : text ≡ replies p whole.done = append_cancel_left before text (replies p whole.done) (sym told ∙ whole.told) in
     record {
       store = (after_all p whole.done).store;
-      shows = stored_shows _ new.disks whole.stored image is_image;
+      shows = stored_shows _ new.disks whole.stored.stored image is_image;
       is = subst (λ commands. slice_get (states p commands) (acknowledged_count p commands (length text)) ≡ Some (after_all p whole.done).store.state) whole.split
           (ap (λ text. slice_get (states p (whole.done ++ whole.rest)) (acknowledged_count p (whole.done ++ whole.rest) (length text))) same ∙ whole_state p whole.done whole.rest);
     }

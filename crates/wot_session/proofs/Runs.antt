@@ -14,17 +14,19 @@ use Rattle.wot_site.specs.Work.{Since, moment_of}
 use Rattle.wot_site.proofs.Works.{since_start, since_then, since_weaker}
 use Rattle.wot_site.specs.declared.asked.Asked.{Asked}
 use Rattle.wot_store.specs.Shows.{IsStored}
+use Rattle.wot_store.specs.declared.place.Place.{Place}
 use Rattle.wot_session.specs.declared.stop.Stop.{Stop}
 use Rattle.wot_session.specs.AtEnd.{at_end, last_commands}
 use Rattle.wot_session.specs.Fed.{open_from}
 use Rattle.wot_session.specs.Kept.{IsPrefixOf, IsWhole, Kept}
-use Rattle.wot_session.specs.Rests.{Rests, edit_count}
+use Rattle.wot_session.specs.Open.{IsOpen}
 use Rattle.wot_session.specs.Told.{IsAnswering, Said, SaidPrefix}
 use Rattle.wot_session.specs.Turn.{StoppedTurn, TookAll, Turned, commands_fed}
+use Rattle.wot_session.specs.Written.{Written}
 use Rattle.wot_session.specs.Input.{Ended, IsOnTime, IsPunctual, Stopped, commands_at, cut_at, end_at, so_far_at, whole_at}
 use Rattle.wot_session.proofs.Inputs.{commands_end, commands_more, commands_over, cut_more, end_is, fed_cut, output_is, position_after, progress_after, so_far_append, so_far_prefix, whole_more}
 use Rattle.wot_session.proofs.Keeping.{kept_more, kept_then, stored_shows, whole_then, whole_more as whole_before}
-use Rattle.wot_session.proofs.Resting.{none_before, rests_both, rests_here}
+use Rattle.wot_session.proofs.Trails.{written_more, written_start, written_then}
 use Rattle.wot_session.proofs.Turns.{is_memory, no_long, no_read}
 
 -- a call of `take` after these bytes were fed, and all replies to the commands that are whole in them told
@@ -50,7 +52,7 @@ pub record Heard (s : Position) (fed : List ℕ) (first now : Seen) : Type 0 whe
   pub told : now.told ≡ first.told ++ so_far_at s fed
   pub timely : Timely s first now
   pub since : Since (Kept s.progress (whole_at s fed) first.told) first now
-  pub rests : edit_count s.progress (whole_at s fed) ≡ 0 → Rests first now
+  pub written : Written s.progress (whole_at s fed) first now
 
 -- the same, nothing else was taken, and `quit` did not come
 pub record Reached (s : Position) (fed : List ℕ) (first now : Seen) : Type 0 where
@@ -64,7 +66,7 @@ pub record ReachedEnd (s : Position) (fed : List ℕ) (first now : Seen) : Type 
   pub reached : Reached s fed first now
   pub all : now.left ≡ []
 
-pub reached_start : (s : Position) (x : Seen) → IsStored s.progress.store x.disks → (s.cut ≡ over → ⊥) → Reached s [] x x
+pub reached_start : {place : Place} (s : Position) (x : Seen) → IsStored place s.progress.store x.disks → (s.cut ≡ over → ⊥) → Reached s [] x x
 reached_start s x stored goes = record {
   heard = record {
     input = (x.left, refl);
@@ -72,7 +74,7 @@ reached_start s x stored goes = record {
     told = sym (append-nil x.told);
     timely = record { since = []; asks = sym (append-nil x.asks); each = All-nil _ };
     since = since_start _ x (refl, stored_shows s.progress.store x.disks stored);
-    rests = λ _. rests_here x;
+    written = written_start s.progress (whole_at s []) x;
   };
   left = refl;
   taken = omega arith;
@@ -169,11 +171,11 @@ module _ (s : Position) where
       (since_weaker _ _ first now (kept_more s.progress (whole_at s fed) more first.told) heard.since)
       (since_weaker _ _ now next (λ m. kept_behind fed more first now m heard.told) later)
 
-  -- the same where nothing was written
-  rests_behind : (fed : List ℕ) (more : List Command) (first now next : Seen) → Heard s fed first now
-      → (edit_count (position_after s fed).progress more ≡ 0 → Rests now next) → edit_count s.progress (whole_at s fed ++ more) ≡ 0 → Rests first next
-  rests_behind fed more first now next heard later =
-      rests_both s.progress (whole_at s fed) more first now next heard.rests (λ none. later (subst (λ p. edit_count p more ≡ 0) (sym (progress_after s fed)) none))
+  -- what was written up to here, and for what follows
+  written_behind : (fed : List ℕ) (more : List Command) (first now next : Seen) → Heard s fed first now
+      → Written (position_after s fed).progress more now next → Written s.progress (whole_at s fed ++ more) first next
+  written_behind fed more first now next heard later =
+      written_then s.progress (whole_at s fed) more first now next heard.told heard.written (subst (λ p. Written p more now next) (progress_after s fed) later)
 
   pub heard_more : (fed piece : List ℕ) (first now next : Seen) → Reached s fed first now
       → Turned (position_after s fed) (open_from (Some []) fed) piece now next → Heard s (fed ++ piece) first next
@@ -184,8 +186,8 @@ module _ (s : Position) where
     timely = timely_asked fed first now next _ reached turned.told (inl turned.asks);
     since = subst (λ commands. Since (Kept s.progress commands first.told) first next) (sym (whole_more s fed piece))
         (since_behind fed (commands_fed (position_after s fed) (open_from (Some []) fed) piece) first now next reached.heard turned.since);
-    rests = subst (λ commands. edit_count s.progress commands ≡ 0 → Rests first next) (sym (whole_more s fed piece))
-        (rests_behind fed (commands_fed (position_after s fed) (open_from (Some []) fed) piece) first now next reached.heard turned.rests);
+    written = subst (λ commands. Written s.progress commands first next) (sym (whole_more s fed piece))
+        (written_behind fed (commands_fed (position_after s fed) (open_from (Some []) fed) piece) first now next reached.heard turned.written);
   }
 
   pub reached_more : (fed piece : List ℕ) (first now next : Seen) → Reached s fed first now
@@ -207,8 +209,8 @@ module _ (s : Position) where
   }
 
   -- `quit` came
-  pub over_run : (most : ℕ) (refused : Bool) (fed : List ℕ) (first next : Seen) → length fed ≤ most → (position_after s fed).cut ≡ over
-      → refused ≡ (position_after s fed).progress.refused → Heard s fed first next → IsStored (position_after s fed).progress.store next.disks → Ended s most refused first next
+  pub over_run : {place : Place} (most : ℕ) (refused : Bool) (fed : List ℕ) (first next : Seen) → length fed ≤ most → (position_after s fed).cut ≡ over
+      → refused ≡ (position_after s fed).progress.refused → Heard s fed first next → IsStored place (position_after s fed).progress.store next.disks → Ended s most refused first next
   over_run most refused fed first next bound ended refusals heard stored =
       let all : commands_at s first.left ≡ whole_at s fed = ap (commands_at s) (sym heard.input.1) ∙ commands_over s fed heard.input.0 ended in
       let end : (position_after s fed).progress ≡ end_at s first.left = progress_after s fed ∙ ap (after_all s.progress) (sym all) in
@@ -222,10 +224,10 @@ module _ (s : Position) where
           quits = fed_cut s fed ∙ ended;
         });
         refusals = refusals ∙ ap (λ (p : Progress). p.refused) end;
-        stored = subst (λ (p : Progress). IsStored p.store next.disks) end stored;
+        stored = subst (λ (p : Progress). IsOpen p.store next.disks) end (record { place = _; stored = stored });
         punctual = punctual first next heard.timely;
         since = subst (λ commands. Since (Kept s.progress commands first.told) first next) (sym all) heard.since;
-        rests = subst (λ commands. edit_count s.progress commands ≡ 0 → Rests first next) (sym all) heard.rests;
+        written = subst (λ commands. Written s.progress commands first next) (sym all) heard.written;
       }
 
   -- the turn stopped
@@ -259,8 +261,8 @@ module _ (s : Position) where
             (kept_behind fed (piece_commands ++ others) first now (moment_of next) heard.told (kept_more (position_after s fed).progress piece_commands others now.told (moment_of next) stopped.here));
         whole = λ between. subst (λ commands. IsWhole s.progress commands first.told next) (sym all)
             (whole_behind fed (piece_commands ++ others) first now next heard.told (whole_before (position_after s fed).progress piece_commands others now.told next (stopped.whole between)));
-        rests = subst (λ commands. edit_count s.progress commands ≡ 0 → Rests first next) (sym all)
-            (rests_behind fed (piece_commands ++ others) first now next heard (λ none. stopped.rests (none_before (position_after s fed).progress piece_commands others none)));
+        written = subst (λ commands. Written s.progress commands first next) (sym all)
+            (written_behind fed (piece_commands ++ others) first now next heard (written_more (position_after s fed).progress piece_commands others now next stopped.written));
       }
     where
       piece_commands : List Command
@@ -296,10 +298,10 @@ module _ (s : Position) where
   end_commands fed first now end = ap (commands_at s) (all_fed fed first now end) ∙ commands_end s fed
 
   -- the end of the input came, and the rest was answered
-  pub end_run : (most : ℕ) (refused : Bool) (fed : List ℕ) (first now next : Seen) → length fed ≤ most
+  pub end_run : {place : Place} (most : ℕ) (refused : Bool) (fed : List ℕ) (first now next : Seen) → length fed ≤ most
       → refused ≡ (at_end (position_after s fed) (open_from (Some []) fed)).progress.refused
       → ReachedEnd s fed first now → Said (position_after s fed).progress (last_commands (position_after s fed) (open_from (Some []) fed)) now next
-      → IsStored (at_end (position_after s fed) (open_from (Some []) fed)).progress.store next.disks → Ended s most refused first next
+      → IsStored place (at_end (position_after s fed) (open_from (Some []) fed)).progress.store next.disks → Ended s most refused first next
   end_run most refused fed first now next bound refusals end said stored =
       let input = all_fed fed first now end in
       let heard = end.reached.heard in
@@ -308,12 +310,12 @@ module _ (s : Position) where
         told = joined fed _ first now next heard.told said.told.told ∙ ap (λ text. first.told ++ text) (sym (output_is s fed)) ∙ ap (λ bytes. first.told ++ replies s.progress (commands_at s bytes)) (sym input);
         read = inl (record { all = said.told.left ∙ end.all; within = omega (arith, bound, ap length input) });
         refusals = refusals ∙ ap (λ (p : Progress). p.refused) (sym last);
-        stored = subst (λ (p : Progress). IsStored p.store next.disks) (sym last) stored;
+        stored = subst (λ (p : Progress). IsOpen p.store next.disks) (sym last) (record { place = _; stored = stored });
         punctual = punctual first next (timely_told first now next _ heard.timely said.told.told said.told.asks);
         since = subst (λ commands. Since (Kept s.progress commands first.told) first next) (sym (end_commands fed first now end))
             (since_behind fed _ first now next heard said.since);
-        rests = subst (λ commands. edit_count s.progress commands ≡ 0 → Rests first next) (sym (end_commands fed first now end))
-            (rests_behind fed _ first now next heard said.rests);
+        written = subst (λ commands. Written s.progress commands first next) (sym (end_commands fed first now end))
+            (written_behind fed _ first now next heard said.written);
       }
 
   pub stop_end : (most : ℕ) (stop : Stop) (fed : List ℕ) (first now next : Seen) → IsAnswering stop
@@ -335,5 +337,5 @@ module _ (s : Position) where
         here = subst (λ commands. Kept s.progress commands first.told (moment_of next)) all (kept_behind fed _ first now (moment_of next) heard.told said.here);
         whole = λ between. subst (λ commands. IsWhole s.progress commands first.told next) all
             (whole_behind fed _ first now next heard.told (said.whole (is_memory stop kind between)));
-        rests = subst (λ commands. edit_count s.progress commands ≡ 0 → Rests first next) all (rests_behind fed _ first now next heard said.rests);
+        written = subst (λ commands. Written s.progress commands first next) all (written_behind fed _ first now next heard said.written);
       }

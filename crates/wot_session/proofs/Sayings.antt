@@ -3,9 +3,10 @@ use Rattle.std.proofs.Common.{◌≡◌, ◌⊎◌, ◌==◌, length, arith, inl
 use Rattle.std.proofs.lemmas.Bool.Decides.{nat_tests}
 use Rattle.std.proofs.lemmas.List.{append-nil}
 use Rattle.wot_site.specs.Seen.{Honestly, Moment, Seen}
-use Rattle.wot_site.specs.Work.{moment_of}
+use Rattle.wot_site.specs.Work.{Since, moment_of}
 use Rattle.wot_site.proofs.Works.{since_start, since_then, since_weaker}
 use Rattle.wot_store.specs.Shows.{IsStored}
+use Rattle.wot_store.specs.declared.place.Place.{Place}
 use Rattle.wot_types.specs.Commands.{Command, Cut, ReadLine, closed_command, ends, made_by, of_line, opens_block, unfinished_commands}
 use Rattle.wot_types.specs.Commands.Cut.{between, over, within}
 use Rattle.wot_types.specs.Session.{Progress, after_command, after_all, replies, reply_to}
@@ -18,12 +19,13 @@ use Rattle.wot_session.specs.Told.{Given, GivenPrefix, IsGiving, Said, SaidPrefi
 use Rattle.wot_session.specs.declared.stop.Stop.{Stop}
 use Rattle.wot_session.specs.declared.stop.Stop.TheVariants.{Memory}
 use Rattle.wot_session.proofs.Keeping.{kept_here, kept_more, kept_then, stored_shows, whole_here, whole_more, whole_then}
-use Rattle.wot_session.proofs.Resting.{no_edit, none_before, rests_both, rests_here}
+use Rattle.wot_session.specs.Written.{IsAnswered, WritesTo, Written}
+use Rattle.wot_session.proofs.Trails.{written_more, written_none, written_one, written_start, written_then}
 use Rattle.wot_session.proofs.Texts.{told_none, told_then, told_then_prefix, prefix_more}
 
 -- nothing was done yet
-pub said_none : (p : Progress) (x : Seen) → IsStored p.store x.disks → Said p [] x x
-said_none p x stored = record { told = told_none x; since = since_start _ x (refl, stored_shows p.store x.disks stored); rests = λ _. rests_here x }
+pub said_none : {place : Place} (p : Progress) (x : Seen) → IsStored place p.store x.disks → Said p [] x x
+said_none p x stored = record { told = told_none x; since = since_start _ x (refl, stored_shows p.store x.disks stored); written = written_start p [] x }
 
 -- where there is no reply and the store stays
 none_kept : (p : Progress) (told : List ℕ) (m : Moment) → IsAround p.store p.store [] told m → Kept p [] told m
@@ -44,15 +46,26 @@ none_kept p told m around = (
 pub record AtMostOne (commands : List Command) : Type 0 where
   pub cases : (commands ≡ []) ⊎ ((command : Command) × (commands ≡ command ∷ []))
 
-around_kept : (p : Progress) (commands : List Command) (told : List ℕ) (m : Moment) → AtMostOne commands
-    → IsAround p.store (after_all p commands).store (replies p commands) told m → Kept p commands told m
-around_kept p [] told m one around = none_kept p told m around
-around_kept p (command ∷ []) told m one around = inl (subst (λ reply. IsAround p.store (after_command p command).store reply told m) (append-nil (reply_to p command)) around)
-around_kept p (command ∷ other ∷ commands) told m one around = absurd (no one.cases)
+no_more : (command other : Command) (commands : List Command) → AtMostOne (command ∷ other ∷ commands) → ⊥
+no_more command other commands one = no one.cases
   where
     no : ((command ∷ other ∷ commands) ≡ []) ⊎ ((single : Command) × ((command ∷ other ∷ commands) ≡ single ∷ [])) → ⊥
     no (inl none) = cc
     no (inr (single, is)) = cc
+
+around_kept : (p : Progress) (commands : List Command) (told : List ℕ) (m : Moment) → AtMostOne commands
+    → IsAround p.store (after_all p commands).store (replies p commands) told m → Kept p commands told m
+around_kept p [] told m one around = none_kept p told m around
+around_kept p (command ∷ []) told m one around = inl (subst (λ reply. IsAround p.store (after_command p command).store reply told m) (append-nil (reply_to p command)) around)
+around_kept p (command ∷ other ∷ commands) told m one around = absurd (no_more command other commands one)
+
+around_written : (p : Progress) (commands : List Command) (x y : Seen) → AtMostOne commands
+    → Since (IsAnswered (WritesTo p.store (after_all p commands).store x.disks) (replies p commands) x.told y.disks) x y
+    → WritesTo p.store (after_all p commands).store x.disks y.disks → Written p commands x y
+around_written p [] x y one since last = written_none p x y since last
+around_written p (command ∷ []) x y one since last =
+    written_one p command x y (subst (λ reply. Since (IsAnswered (WritesTo p.store (after_command p command).store x.disks) reply x.told y.disks) x y) (append-nil (reply_to p command)) since) last
+around_written p (command ∷ other ∷ commands) x y one since last = absurd (no_more command other commands one)
 
 -- a line makes at most one command whole, and the input's end one more
 pub one_made : (cut : Cut) (line : ReadLine) → AtMostOne (made_by cut line)
@@ -76,7 +89,7 @@ pub given_said : (p : Progress) (commands : List Command) (x y : Seen) → AtMos
 given_said p commands x y one given = record {
   told = given.told;
   since = since_weaker _ _ x y (λ m. around_kept p commands x.told m one) given.since;
-  rests = λ none. given.rests (no_edit p commands none);
+  written = around_written p commands x y one given.writes given.last;
 }
 
 pub given_said_prefix : (p : Progress) (commands : List Command) (stop : Stop) (x y : Seen) → AtMostOne commands → IsGiving stop
@@ -86,7 +99,7 @@ given_said_prefix p commands stop x y one kind given = record {
   since = since_weaker _ _ x y (λ m. around_kept p commands x.told m one) given.since;
   here = around_kept p commands x.told (moment_of y) one given.here;
   whole = λ is. absurd (other kind is);
-  rests = λ none. given.rests (no_edit p commands none);
+  written = around_written p commands x y one given.writes given.last;
 }
   where
     other : IsGiving stop → stop ≡ Memory → ⊥
@@ -94,7 +107,7 @@ given_said_prefix p commands stop x y one kind given = record {
     other (inr disk) is = cc
 
 -- no memory for an answer
-pub said_nothing : (p : Progress) (commands : List Command) (x : Seen) → IsStored p.store x.disks → SaidPrefix p commands Memory x x
+pub said_nothing : {place : Place} (p : Progress) (commands : List Command) (x : Seen) → IsStored place p.store x.disks → SaidPrefix p commands Memory x x
 said_nothing p commands x stored =
     let here = kept_here p commands x.told (moment_of x) refl (stored_shows p.store x.disks stored) in
     record {
@@ -102,12 +115,12 @@ said_nothing p commands x stored =
       since = since_start _ x here;
       here = here;
       whole = λ _. whole_here p commands x.told x refl stored;
-      rests = λ _. rests_here x;
+      written = written_start p commands x;
     }
 
-pub no_memory : (p : Progress) (commands : List Command) (a : Option Seen) → Holds a p.store → Honestly a a (SaidPrefix p commands Memory)
-no_memory p commands None holds = tt
-no_memory p commands (Some x) holds = said_nothing p commands x holds
+pub no_memory : (place : Place) (p : Progress) (commands : List Command) (a : Option Seen) → Holds place a p.store → Honestly a a (SaidPrefix p commands Memory)
+no_memory place p commands None holds = tt
+no_memory place p commands (Some x) holds = said_nothing p commands x holds
 
 module _ (p : Progress) (xs ys : List Command) (x y : Seen) where
   later : y.told ≡ x.told ++ replies p xs → (m : Moment) → Kept (after_all p xs) ys y.told m → Kept p (xs ++ ys) x.told m
@@ -117,7 +130,7 @@ module _ (p : Progress) (xs ys : List Command) (x y : Seen) where
   said_then z before after = record {
     told = rw (commands_append p xs ys) (told_then _ _ x y z before.told after.told);
     since = since_then _ x y z (since_weaker _ _ x y (kept_more p xs ys x.told) before.since) (since_weaker _ _ y z (later before.told.told) after.since);
-    rests = rests_both p xs ys x y z before.rests after.rests;
+    written = written_then p xs ys x y z before.told.told before.written after.written;
   }
 
   pub said_then_prefix : (stop : Stop) (z : Seen) → Said p xs x y → SaidPrefix (after_all p xs) ys stop y z → SaidPrefix p (xs ++ ys) stop x z
@@ -126,11 +139,11 @@ module _ (p : Progress) (xs ys : List Command) (x y : Seen) where
     since = since_then _ x y z (since_weaker _ _ x y (kept_more p xs ys x.told) before.since) (since_weaker _ _ y z (later before.told.told) after.since);
     here = later before.told.told (moment_of z) after.here;
     whole = λ is. whole_then p xs ys x.told z (subst (λ t. IsWhole (after_all p xs) ys t z) before.told.told (after.whole is));
-    rests = rests_both p xs ys x y z before.rests after.rests;
+    written = written_then p xs ys x y z before.told.told before.written after.written;
   }
 
   -- some commands were answered, and there was no memory for the others
-  pub said_prefix : Said p xs x y → IsStored (after_all p xs).store y.disks → SaidPrefix p (xs ++ ys) Memory x y
+  pub said_prefix : {place : Place} → Said p xs x y → IsStored place (after_all p xs).store y.disks → SaidPrefix p (xs ++ ys) Memory x y
   said_prefix said stored = said_then_prefix Memory y said (said_nothing (after_all p xs) ys y stored)
 
   pub said_prefix_more : (stop : Stop) → SaidPrefix p xs stop x y → SaidPrefix p (xs ++ ys) stop x y
@@ -139,7 +152,7 @@ module _ (p : Progress) (xs ys : List Command) (x y : Seen) where
     since = since_weaker _ _ x y (kept_more p xs ys x.told) said.since;
     here = kept_more p xs ys x.told (moment_of y) said.here;
     whole = λ is. whole_more p xs ys x.told y (said.whole is);
-    rests = λ none. said.rests (none_before p xs ys none);
+    written = written_more p xs ys x y said.written;
   }
 
 not_empty : (b : ℕ) (bytes : List ℕ) → (length (b ∷ bytes) == 0) ≡ false

@@ -12,6 +12,7 @@ use Rattle.wot_site.specs.Site.{Takes, TakesNothing, asked_at}
 use Rattle.wot_site.specs.Work.{Since, moment_of}
 use Rattle.wot_site.proofs.Honest.{honest_after}
 use Rattle.wot_store.specs.Shows.{IsStored}
+use Rattle.wot_store.specs.declared.place.Place.{Place}
 use Rattle.wot_types.specs.Commands.{Command}
 use Rattle.std.proofs.lemmas.List.Elements.{All-nil}
 use Rattle.wot_session.specs.declared.stop.Stop.{Stop}
@@ -19,20 +20,20 @@ use Rattle.wot_session.specs.declared.stop.Stop.TheVariants.{ReadFault, Memory, 
 use Rattle.wot_session.specs.declared.session.Session.{Session}
 use Rattle.wot_session.specs.Here.{Holds, IsHere}
 use Rattle.wot_session.specs.Kept.{IsWhole, Kept}
-use Rattle.wot_session.specs.Rests.{Rests}
+use Rattle.wot_session.specs.Written.{Written}
 use Rattle.wot_session.specs.Told.{IsAnswering, Said, SaidPrefix}
 use Rattle.wot_session.specs.Turn.{IsBetween, StoppedTurn, TookAll, Turned, commands_fed, cut_fed}
 use Rattle.wot_session.proofs.Keeping.{kept_here, stored_shows, whole_all, whole_here, whole_kept}
-use Rattle.wot_session.proofs.Resting.{rests_still, rests_then}
+use Rattle.wot_session.proofs.Trails.{written_later, written_still}
 
 -- `take` leaves the store
-disks_asked : (store : Store) (x y : Seen) → IsStored store x.disks → TakesNothing x y → IsStored store y.disks
-disks_asked store x y stored (inl noted) = subst (λ (s : Seen). IsStored store s.disks) (sym noted) stored
-disks_asked store x y stored (inr stays) = subst (λ (s : Seen). IsStored store s.disks) (sym stays) stored
+disks_asked : (place : Place) (store : Store) (x y : Seen) → IsStored place store x.disks → TakesNothing x y → IsStored place store y.disks
+disks_asked place store x y stored (inl noted) = subst (λ (s : Seen). IsStored place store s.disks) (sym noted) stored
+disks_asked place store x y stored (inr stays) = subst (λ (s : Seen). IsStored place store s.disks) (sym stays) stored
 
-still_taken : (store : Store) (n : ℕ) (buf : List ℕ) (a b : Option Seen) → Holds a store → Honestly a b (Takes n buf) → Holds b store
-still_taken store n buf a b holds takes =
-    honest_after _ (λ y. IsStored store y.disks) (Takes n buf) a b holds takes (λ x y stored took. subst (λ (s : Seen). IsStored store s.disks) (sym took.after) stored)
+still_taken : (place : Place) (store : Store) (n : ℕ) (buf : List ℕ) (a b : Option Seen) → Holds place a store → Honestly a b (Takes n buf) → Holds place b store
+still_taken place store n buf a b holds takes =
+    honest_after _ (λ y. IsStored place store y.disks) (Takes n buf) a b holds takes (λ x y stored took. subst (λ (s : Seen). IsStored place store s.disks) (sym took.after) stored)
 
 -- why answering stops is no fault of reading and no bound
 pub no_read : (stop : Stop) → IsAnswering stop → stop ≡ ReadFault → ⊥
@@ -51,10 +52,10 @@ is_memory stop kind (inr (inl long)) = absurd (no_long stop kind long)
 is_memory stop kind (inr (inr memory)) = memory
 
 -- reading failed
-pub turn_failed : (p : Position) (line : Option (List ℕ)) (room : ℕ) (x y : Seen) → IsStored p.progress.store x.disks → TakesNothing x y
+pub turn_failed : {place : Place} (p : Position) (line : Option (List ℕ)) (room : ℕ) (x y : Seen) → IsStored place p.progress.store x.disks → TakesNothing x y
     → StoppedTurn p line room ReadFault x y
 turn_failed p line room x y stored nothing =
-    let after = disks_asked p.progress.store x y stored nothing in
+    let after = disks_asked _ p.progress.store x y stored nothing in
     let commands = commands_fed p line [] in
     record {
       piece = [];
@@ -73,7 +74,7 @@ turn_failed p line room x y stored nothing =
       };
       here = kept_here p.progress commands x.told (moment_of y) (told_same nothing) (stored_shows _ y.disks after);
       whole = λ _. whole_here p.progress commands x.told y (told_same nothing) after;
-      rests = λ _. rests_still x y (disks_same nothing) (moments_same nothing);
+      written = written_still p.progress commands x y (disks_same nothing) (moments_same nothing);
     }
   where
     told_same : TakesNothing x y → y.told ≡ x.told
@@ -114,8 +115,9 @@ module _ (n : ℕ) (buf : List ℕ) {x y : Seen} (takes : Takes n buf x y) where
       (λ since. record { first = since.first; moments = since.moments; is = since.is; each = since.each })
 
   -- `take` writes nothing
-  rests_before : (z : Seen) → Rests y z → Rests x z
-  rests_before z rests = rests_then x y z (rests_still x y (ap (λ (s : Seen). s.disks) takes.after) (ap (λ (s : Seen). s.moments) takes.after)) rests
+  written_before : (p : Position) (commands : List Command) (z : Seen) → Written p.progress commands y z → Written p.progress commands x z
+  written_before p commands z written =
+      written_later p.progress commands x y z told_same (ap (λ (s : Seen). s.disks) takes.after) (ap (λ (s : Seen). s.moments) takes.after) written
 
   module _ (m : ℕ) (within : m ≤ n) (p : Position) (line : Option (List ℕ)) where
     -- the lines of the first bytes that came were answered: of all, or up to `quit`
@@ -132,7 +134,7 @@ module _ (n : ℕ) (buf : List ℕ) {x y : Seen} (takes : Takes n buf x y) where
           told = said.told.told ∙ ap (λ told. told ++ replies p.progress (commands_fed p line (take m buf))) told_same;
           asks = said.told.asks ∙ ap (λ (s : Seen). s.asks) takes.after;
           since = from_before p (commands_fed p line (take m buf)) z said.since;
-          rests = λ none. rests_before z (said.rests none);
+          written = written_before p (commands_fed p line (take m buf)) z said.written;
         }
       where
         took_all : length (take m buf) ≡ m → z.left ≡ drop n x.left → z.taken ≡ x.taken + n → (n ≡ m) ⊎ (cut_fed p line (take m buf) ≡ over)
@@ -159,12 +161,12 @@ module _ (n : ℕ) (buf : List ℕ) {x y : Seen} (takes : Takes n buf x y) where
       since = from_before p (commands_fed p line (take m buf)) z said.since;
       here = subst (λ told. Kept p.progress (commands_fed p line (take m buf)) told (moment_of z)) told_same said.here;
       whole = λ between. subst (λ told. IsWhole p.progress (commands_fed p line (take m buf)) told z) told_same (said.whole (is_memory stop kind between));
-      rests = λ none. rests_before z (said.rests none);
+      written = written_before p (commands_fed p line (take m buf)) z said.written;
     }
 
     -- more bytes came than there is room for, and no `quit` among those that there is room for
-    pub turn_long : (z : Seen) → m < n → (cut_fed p line (take m buf) ≡ over → ⊥)
-        → IsStored (after_all p.progress (commands_fed p line (take m buf))).store z.disks
+    pub turn_long : {place : Place} (z : Seen) → m < n → (cut_fed p line (take m buf) ≡ over → ⊥)
+        → IsStored place (after_all p.progress (commands_fed p line (take m buf))).store z.disks
         → Said p.progress (commands_fed p line (take m buf)) y z → StoppedTurn p line m TooLong x z
     turn_long z less goes stored said =
         let commands = commands_fed p line (take m buf) in
@@ -187,7 +189,7 @@ module _ (n : ℕ) (buf : List ℕ) {x y : Seen} (takes : Takes n buf x y) where
           since = from_before p commands z said.since;
           here = whole_kept p.progress commands x.told z whole;
           whole = λ _. whole;
-          rests = λ none. rests_before z (said.rests none);
+          written = written_before p (commands_fed p line (take m buf)) z said.written;
         }
 
 pub few : (n room m : ℕ) → m ≡ min n room → m ≤ n
@@ -202,7 +204,7 @@ less_room n room m is less = grind (arith, is)
 
 -- a session stays where it is
 pub taken_here : (session : Session) (p : Position) (n : ℕ) (buf : List ℕ) (a b : Option Seen) → IsHere session a p → Honestly a b (Takes n buf) → IsHere session b p
-taken_here session p n buf a b here takes = record { at = here.at; holds = still_taken p.progress.store n buf a b here.holds takes }
+taken_here session p n buf a b here takes = record { at = here.at; holds = still_taken session.place p.progress.store n buf a b here.holds takes }
 
 -- no fewer than came: all of it
 pub all_read : (n room m : ℕ) → m ≡ min n room → n ≤ m → n ≡ m

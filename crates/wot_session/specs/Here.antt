@@ -24,14 +24,14 @@ pub record IsAt (session : Session) (p : Position) : Type 0 where
   pub refused : session.refused ≡ p.progress.refused
   pub cut : IsCut session.cut p.cut
 
--- the site, if it tells, has this store open
-abbrev pub Holds : Option Seen → Store → Type 0
-Holds seen store = IfHonest seen (λ s. IsStored store s.disks)
+-- the site, if it tells, has this store open at this place
+abbrev pub Holds : Place → Option Seen → Store → Type 0
+Holds place seen store = IfHonest seen (λ s. IsStored place store s.disks)
 
 -- the session has come so far, and the site's store is its own
 pub record IsHere (session : Session) (seen : Option Seen) (p : Position) : Type 0 where
   pub at : IsAt session p
-  pub holds : Holds seen p.progress.store
+  pub holds : Holds session.place seen p.progress.store
 
 -- it has come to some point of some input
 abbrev pub IsSomewhere : Session → Option Seen → Type 0
@@ -52,11 +52,11 @@ pub record IsDue (session : Session) (answer : Answer) (s : Store) (after : Posi
 
 -- the effect may be performed here
 abbrev pub IsReadyFor : Place → Effect → Option Seen → Type 0
-IsReadyFor place effect seen = (s t : Store) × IsPlace place s × Does effect s t × Holds seen s
+IsReadyFor place effect seen = (s t : Store) × IsPlace place s × Does effect s t × Holds place seen s
 
 -- the answer may be given here
 abbrev pub CanGive : Session → Answer → Option Seen → Type 0
-CanGive session answer seen = (s : Store) × (after : Position) × (reply : List ℕ) × IsDue session answer s after reply × Holds seen s
+CanGive session answer seen = (s : Store) × (after : Position) × (reply : List ℕ) × IsDue session answer s after reply × Holds session.place seen s
 
 -- this store was opened
 pub record IsOpened (opened : Opened) (store : Store) : Type 0 where

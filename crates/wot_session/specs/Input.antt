@@ -8,9 +8,9 @@ use Rattle.wot_types.specs.Session.{Progress, after_all, replies}
 use Rattle.wot_site.specs.Seen.{Seen}
 use Rattle.wot_site.specs.Work.{Since, moment_of}
 use Rattle.wot_site.specs.declared.asked.Asked.{Asked}
-use Rattle.wot_store.specs.Shows.{IsStored}
 use Rattle.wot_session.specs.Kept.{IsPrefixOf, IsWhole, Kept}
-use Rattle.wot_session.specs.Rests.{Rests, edit_count}
+use Rattle.wot_session.specs.Open.{IsOpen}
+use Rattle.wot_session.specs.Written.{Written}
 use Rattle.wot_session.specs.Turn.{IsBetween}
 use Rattle.wot_session.specs.declared.stop.Stop.{Stop}
 use Rattle.wot_session.specs.declared.stop.Stop.TheVariants.{ReadFault, TooLong}
@@ -61,10 +61,10 @@ pub record Ended (s : Position) (most : ℕ) (refused : Bool) (old new : Seen) :
   pub told : new.told ≡ old.told ++ replies s.progress (commands_at s old.left)
   pub read : IsRead most old new ⊎ HasQuit s most old new
   pub refusals : refused ≡ (end_at s old.left).refused
-  pub stored : IsStored (end_at s old.left).store new.disks
+  pub stored : IsOpen (end_at s old.left).store new.disks
   pub punctual : IsPunctual s old new
   pub since : Since (Kept s.progress (commands_at s old.left) old.told) old new
-  pub rests : edit_count s.progress (commands_at s old.left) ≡ 0 → Rests old new
+  pub written : Written s.progress (commands_at s old.left) old new
 
 -- it stopped, and a prefix of the replies was told. The input is too long only where more bytes than the bound were taken
 pub record Stopped (s : Position) (most : ℕ) (stop : Stop) (old new : Seen) : Type 0 where
@@ -78,4 +78,4 @@ pub record Stopped (s : Position) (most : ℕ) (stop : Stop) (old new : Seen) : 
   pub since : Since (Kept s.progress (commands_at s old.left) old.told) old new
   pub here : Kept s.progress (commands_at s old.left) old.told (moment_of new)
   pub whole : IsBetween stop → IsWhole s.progress (commands_at s old.left) old.told new
-  pub rests : edit_count s.progress (commands_at s old.left) ≡ 0 → Rests old new
+  pub written : Written s.progress (commands_at s old.left) old new

@@ -5,7 +5,8 @@ use Rattle.wot_types.specs.Commands.{Command}
 use Rattle.wot_types.specs.Session.{Progress, acknowledged_count, after_command, after_all, replies, reply_to, states}
 use Rattle.wot_site.specs.Disk.{Disks, Image, Leaves}
 use Rattle.wot_site.specs.Seen.{Moment, Seen}
-use Rattle.wot_store.specs.Shows.{IsStored, Shows}
+use Rattle.wot_store.specs.Shows.{Shows}
+use Rattle.wot_session.specs.Open.{IsOpen}
 
 -- some text begins with this one
 abbrev pub IsPrefixOf : List ℕ → List ℕ → Type 0
@@ -40,7 +41,7 @@ pub record IsWhole (p : Progress) (commands : List Command) (before : List ℕ) 
   pub rest : List Command
   pub split : done ++ rest ≡ commands
   pub told : new.told ≡ before ++ replies p done
-  pub stored : IsStored (after_all p done).store new.disks
+  pub stored : IsOpen (after_all p done).store new.disks
 
 -- the sides show the state after this many accepted edits
 pub record ShowsState (p : Progress) (commands : List Command) (j : ℕ) (image : Image) : Type 0 where

@@ -5,19 +5,19 @@ use Rattle.wot_types.specs.Commands.{Command, takes_input}
 use Rattle.wot_types.specs.Commands.Cut.{over}
 use Rattle.wot_types.specs.LineByLine.{at_first}
 use Rattle.wot_types.specs.Session.{acknowledged_count, at_start, commands_of, end_of, output_of}
-use Rattle.wot_site.specs.Disk.{Leaves, reads_of}
+use Rattle.wot_site.specs.Disk.{Disks, Leaves, reads_of}
 use Rattle.wot_site.specs.Seen.{Faults, Moment, Seen}
 use Rattle.wot_site.specs.Site.{NoneFell, Stays}
-use Rattle.wot_site.specs.Work.{Quiet, Since, moment_of}
-use Rattle.wot_store.specs.Base.{IsBlank}
-use Rattle.wot_store.specs.Opening.{FindsBad, IsSettled, IsUnwritten, Opening}
-use Rattle.wot_store.specs.Shows.{IsStored, Shows}
+use Rattle.wot_site.specs.Work.{Quiet, Since, Works, moment_of}
+use Rattle.wot_store.specs.Opening.{AreBlank, AreUnwritten, FindsBad, IsSettled, Opening, WritesOnlyBlank}
+use Rattle.wot_store.specs.Shows.{Shows, all_settled}
 use Rattle.wot_session.specs.Input.{IsPunctual, cut_at, so_far_at}
 use Rattle.wot_session.specs.Kept.{IsPrefixOf, IsSafe, ShowsState}
-use Rattle.wot_session.specs.Rests.{edit_count}
+use Rattle.wot_session.specs.Open.{IsOpen}
 use Rattle.wot_session.specs.Stop.{Causes}
 use Rattle.wot_session.specs.Turn.{IsBetween}
 use Rattle.wot_session.specs.Words.{IsUnread, Read}
+use Rattle.wot_session.specs.Written.{Trail, edit_count}
 use Rattle.wot_session.specs.declared.stop.Stop.{Stop}
 use Rattle.wot_session.specs.declared.stop.Stop.TheVariants.{DiskFault, ReadFault, TellFault, Memory, TooLong}
 use Rattle.wot_session.specs.declared.status.Status.{Status}
@@ -29,26 +29,40 @@ longest_input = 2 ^ 36
 
 -- nothing was told or written by then, and whatever a crash leaves it could have left at the start
 abbrev pub IsOfStart : Seen → Moment → Type 0
-IsOfStart start = Quiet (IsUnwritten start.disks) start.told
+IsOfStart start = Quiet (AreUnwritten start.disks) start.told
 
 -- at each moment since the start a crash leaves the state after the first j edits, where j counts every edit acknowledged by then
--- and at most one more. Until both opening syncs have succeeded, each of which makes one moment, it leaves what it could have left at the start
+-- and at most one more. Until both opening syncs have succeeded, of which the first makes one moment, it leaves what it could have left at the start;
+-- where nothing was pending then, that is such a state too
 pub record IsCrashSafe (store : Store) (commands : List Command) (old new : Seen) : Type 0 where
   pub first : List Moment
   pub later : List Moment
   pub is : new.moments ≡ old.moments ++ (first ++ later)
-  pub few : length first ≤ 2
+  pub few : length first ≤ 1
   pub before : All (IsOfStart old) first
+  pub settled : old.disks ≡ all_settled old.disks → All (IsSafe (at_start store) commands old.told) first
   pub each : All (IsSafe (at_start store) commands old.told) later
 
 -- nothing was written: at each moment and at the end the sides read as at the start, and each image is one of those that there were
 pub record IsUntouched (old new : Seen) : Type 0 where
-  pub since : Since (λ m. IsUnwritten old.disks m.disks) old new
-  pub last : IsUnwritten old.disks new.disks
+  pub since : Since (λ m. AreUnwritten old.disks m.disks) old new
+  pub last : AreUnwritten old.disks new.disks
 
--- a first side is written where side Zero is blank, and a record for each accepted edit; without either nothing is
+-- what was written by each moment: in the opening nothing, or side Zero where both sides were blank; and then for each command what its change
+-- may write, from the sides that the opening left
+pub record IsWritten (store : Store) (commands : List Command) (old new : Seen) : Type 0 where
+  pub opening : List Moment
+  pub later : List Moment
+  pub is : new.moments ≡ old.moments ++ (opening ++ later)
+  pub opened : Disks
+  pub before : All (λ m. WritesOnlyBlank old.disks m.disks) opening
+  pub left : WritesOnlyBlank old.disks opened
+  pub is_open : IsOpen store opened
+  pub trail : Trail (at_start store) commands old.told opened later new.disks
+
+-- a first side is written where both sides are blank, and a record for each accepted edit; without either nothing is
 abbrev pub WritesForEdits : Store → List Command → Seen → Seen → Type 0
-WritesForEdits store commands old new = (IsBlank old.disks.zero.reads → ⊥) → edit_count (at_start store) commands ≡ 0 → IsUntouched old new
+WritesForEdits store commands old new = (AreBlank old.disks → ⊥) → edit_count (at_start store) commands ≡ 0 → IsUntouched old new
 
 -- the run came to its end: the whole output was told, and every image shows the last store, with its journal's end and epoch
 pub record Ended (words : List (List ℕ)) (most : ℕ) (refused : Bool) (old new : Seen) : Type 0 where
@@ -57,9 +71,10 @@ pub record Ended (words : List (List ℕ)) (most : ℕ) (refused : Bool) (old ne
   pub told : new.told ≡ old.told ++ output_of store words old.left
   pub refusals : refused ≡ (end_of store words old.left).refused
   pub read : Read (at_first store words) (takes_input words) most old new
-  pub stored : IsStored (end_of store words old.left).store new.disks
+  pub stored : IsOpen (end_of store words old.left).store new.disks
   pub punctual : IsPunctual (at_first store words) old new
   pub safe : IsCrashSafe store (commands_of words old.left) old new
+  pub written : IsWritten store (commands_of words old.left) old new
   pub untouched : WritesForEdits store (commands_of words old.left) old new
 
 -- the run stopped: a prefix of the output was told, and every image shows a state of the crash clause. Where reading failed,
@@ -78,6 +93,7 @@ pub record Stopped (words : List (List ℕ)) (most : ℕ) (stop : Stop) (old new
       × (cut_at (at_first store words) (take most old.left) ≡ over → ⊥)
   pub punctual : IsPunctual (at_first store words) old new
   pub safe : IsCrashSafe store (commands_of words old.left) old new
+  pub written : IsWritten store (commands_of words old.left) old new
   pub untouched : WritesForEdits store (commands_of words old.left) old new
   pub here : IsSafe (at_start store) (commands_of words old.left) old.told (moment_of new)
   pub exact : IsBetween stop → Leaves (ShowsState (at_start store) (commands_of words old.left) (acknowledged_count (at_start store) (commands_of words old.left) (length text))) new.disks
@@ -89,7 +105,8 @@ pub record Unopened (words : List (List ℕ)) (old new : Seen) : Type 0 where
   pub left : new.left ≡ old.left
   pub asks : new.asks ≡ old.asks
   pub safe : (store : Store) → Shows (reads_of old.disks) store → IsCrashSafe store (commands_of words old.left) old new
-  pub untouched : (IsBlank old.disks.zero.reads → ⊥) → IsUntouched old new
+  pub written : Works (WritesOnlyBlank old.disks) old new
+  pub untouched : (AreBlank old.disks → ⊥) → IsUntouched old new
 
 -- what a run with these words and this bound did, by the status that it answers; words of the grammar are no wrong usage
 abbrev pub Ran : List (List ℕ) → ℕ → Status → Seen → Seen → Type 0

@@ -8,7 +8,7 @@ use Rattle.wot_site.specs.Seen.{Faults, Moment, Seen}
 use Rattle.wot_site.specs.Site.{NoneFell}
 use Rattle.wot_site.specs.Work.{Since, moment_of}
 use Rattle.wot_session.specs.Kept.{IsAround, IsPrefixOf, IsWhole, Kept}
-use Rattle.wot_session.specs.Rests.{Rests, edit_count}
+use Rattle.wot_session.specs.Written.{IsAnswered, WritesTo, Written}
 use Rattle.wot_session.specs.Stop.{StopCauses}
 use Rattle.wot_session.specs.declared.stop.Stop.{Stop}
 use Rattle.wot_session.specs.declared.stop.Stop.TheVariants.{DiskFault, TellFault, Memory}
@@ -45,24 +45,26 @@ pub record TellingPrefix (text : List ℕ) (old new : Seen) : Type 0 where
   pub is_prefix : IsPrefixOf prefix text
   pub telling : Telling prefix old new
 
--- the store was led from the one to the other, and then the reply was told; where they are the same, nothing was written
+-- the store was led from the one to the other, and then the reply was told; nothing was written but what leads there
 pub record Given (s t : Store) (reply : List ℕ) (old new : Seen) : Type 0 where
   pub told : Told reply old new
   pub since : Since (IsAround s t reply old.told) old new
-  pub rests : t ≡ s → Rests old new
+  pub writes : Since (IsAnswered (WritesTo s t old.disks) reply old.told new.disks) old new
+  pub last : WritesTo s t old.disks new.disks
 
 -- it stopped on the way
 pub record GivenPrefix (s t : Store) (reply : List ℕ) (old new : Seen) : Type 0 where
   pub told : ToldPrefix reply old new
   pub since : Since (IsAround s t reply old.told) old new
   pub here : IsAround s t reply old.told (moment_of new)
-  pub rests : t ≡ s → Rests old new
+  pub writes : Since (IsAnswered (WritesTo s t old.disks) reply old.told new.disks) old new
+  pub last : WritesTo s t old.disks new.disks
 
--- these commands were answered by a session that had come so far; where none is an accepted edit, nothing was written
+-- these commands were answered by a session that had come so far, and each wrote what its change may write
 pub record Said (p : Progress) (commands : List Command) (old new : Seen) : Type 0 where
   pub told : Told (replies p commands) old new
   pub since : Since (Kept p commands old.told) old new
-  pub rests : edit_count p commands ≡ 0 → Rests old new
+  pub written : Written p commands old new
 
 -- it stopped while it answered them. Where memory was wanted, some were answered wholly and nothing was done for the others
 pub record SaidPrefix (p : Progress) (commands : List Command) (stop : Stop) (old new : Seen) : Type 0 where
@@ -70,7 +72,7 @@ pub record SaidPrefix (p : Progress) (commands : List Command) (stop : Stop) (ol
   pub since : Since (Kept p commands old.told) old new
   pub here : Kept p commands old.told (moment_of new)
   pub whole : stop ≡ Memory → IsWhole p commands old.told new
-  pub rests : edit_count p commands ≡ 0 → Rests old new
+  pub written : Written p commands old new
 
 -- an answer that succeeds leaves every count of faults, and one that stops says why
 pub record HasStopCause {T : Type 0} (old new : Faults) (result : Result T Stop) : Type 0 where

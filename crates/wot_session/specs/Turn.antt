@@ -9,7 +9,7 @@ use Rattle.wot_site.specs.Site.{asked_at}
 use Rattle.wot_site.specs.Work.{Since, moment_of}
 use Rattle.wot_session.specs.Fed.{whole_from}
 use Rattle.wot_session.specs.Kept.{IsPrefixOf, IsWhole, Kept}
-use Rattle.wot_session.specs.Rests.{Rests, edit_count}
+use Rattle.wot_session.specs.Written.{Written}
 use Rattle.wot_session.specs.declared.stop.Stop.{Stop}
 use Rattle.wot_session.specs.declared.stop.Stop.TheVariants.{Memory, ReadFault, TooLong}
 
@@ -38,7 +38,7 @@ pub record Turned (p : Position) (line : Option (List ℕ)) (piece : List ℕ) (
   pub told : new.told ≡ old.told ++ replies p.progress (commands_fed p line piece)
   pub asks : new.asks ≡ old.asks ++ asked_at old ∷ []
   pub since : Since (Kept p.progress (commands_fed p line piece) old.told) old new
-  pub rests : edit_count p.progress (commands_fed p line piece) ≡ 0 → Rests old new
+  pub written : Written p.progress (commands_fed p line piece) old new
 
 -- it stopped: a piece of the input was taken, and a prefix of the replies to its commands was told
 pub record StoppedTurn (p : Position) (line : Option (List ℕ)) (room : ℕ) (stop : Stop) (old new : Seen) : Type 0 where
@@ -55,4 +55,4 @@ pub record StoppedTurn (p : Position) (line : Option (List ℕ)) (room : ℕ) (s
   pub since : Since (Kept p.progress (commands_fed p line piece) old.told) old new
   pub here : Kept p.progress (commands_fed p line piece) old.told (moment_of new)
   pub whole : IsBetween stop → IsWhole p.progress (commands_fed p line piece) old.told new
-  pub rests : edit_count p.progress (commands_fed p line piece) ≡ 0 → Rests old new
+  pub written : Written p.progress (commands_fed p line piece) old new

@@ -7,10 +7,10 @@ use Rattle.wot_types.specs.LineByLine.{Position, at_first}
 use Rattle.wot_types.specs.Session.{at_start, commands_of, end_of, output_of}
 use Rattle.wot_site.specs.Seen.{Seen}
 use Rattle.wot_site.specs.Work.{Since, moment_of}
-use Rattle.wot_store.specs.Shows.{IsStored}
 use Rattle.wot_session.specs.Input.{HasQuit, IsPunctual, IsRead, cut_at, so_far_at}
 use Rattle.wot_session.specs.Kept.{IsPrefixOf, IsWhole, Kept}
-use Rattle.wot_session.specs.Rests.{Rests, edit_count}
+use Rattle.wot_session.specs.Open.{IsOpen}
+use Rattle.wot_session.specs.Written.{Written}
 use Rattle.wot_session.specs.Turn.{IsBetween}
 use Rattle.wot_session.specs.declared.stop.Stop.{Stop}
 use Rattle.wot_session.specs.declared.stop.Stop.TheVariants.{ReadFault, TooLong}
@@ -31,10 +31,10 @@ pub record WordsEnded (store : Store) (words : List (List ℕ)) (most : ℕ) (re
   pub told : new.told ≡ old.told ++ output_of store words old.left
   pub refusals : refused ≡ (end_of store words old.left).refused
   pub read : Read (at_first store words) (takes_input words) most old new
-  pub stored : IsStored (end_of store words old.left).store new.disks
+  pub stored : IsOpen (end_of store words old.left).store new.disks
   pub punctual : IsPunctual (at_first store words) old new
   pub since : Since (Kept (at_start store) (commands_of words old.left) old.told) old new
-  pub rests : edit_count (at_start store) (commands_of words old.left) ≡ 0 → Rests old new
+  pub written : Written (at_start store) (commands_of words old.left) old new
 
 -- it stopped. A run of one command without a block took nothing, and an input is too long only where more bytes than the bound were taken
 pub record WordsStopped (store : Store) (words : List (List ℕ)) (most : ℕ) (stop : Stop) (old new : Seen) : Type 0 where
@@ -50,4 +50,4 @@ pub record WordsStopped (store : Store) (words : List (List ℕ)) (most : ℕ) (
   pub since : Since (Kept (at_start store) (commands_of words old.left) old.told) old new
   pub here : Kept (at_start store) (commands_of words old.left) old.told (moment_of new)
   pub whole : IsBetween stop → IsWhole (at_start store) (commands_of words old.left) old.told new
-  pub rests : edit_count (at_start store) (commands_of words old.left) ≡ 0 → Rests old new
+  pub written : Written (at_start store) (commands_of words old.left) old new

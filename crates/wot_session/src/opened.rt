@@ -26,10 +26,10 @@ pub fn run_opened<S: Site>(
     site: &mut S,
     most: u64,
 ) -> Result<bool, Stop>
-    requires { (store : Store) × IsOpened opened store × Holds (S.seen site.old) store }
-    ensures ended { IfOk result (λ refused. (store : Store) → IsOpened opened store → Holds (S.seen site.old) store
+    requires { (store : Store) × IsOpened opened store × Holds opened.place (S.seen site.old) store }
+    ensures ended { IfOk result (λ refused. (store : Store) → IsOpened opened store → Holds opened.place (S.seen site.old) store
         → Honestly (S.seen site.old) (S.seen site.new) (WordsEnded store words.now most refused)) }
-    ensures stopped { IfErr result (λ stop. (store : Store) → IsOpened opened store → Holds (S.seen site.old) store
+    ensures stopped { IfErr result (λ stop. (store : Store) → IsOpened opened store → Holds opened.place (S.seen site.old) store
         → Honestly (S.seen site.old) (S.seen site.new) (WordsStopped store words.now most stop)) }
     ensures cause { HasStopCause (S.faults site.old) (S.faults site.new) result }
 {

@@ -45,6 +45,7 @@ impl Session {
         ensures at { (p : Position) → opened.engine ≡ p.progress.store.state → IsPlace opened.place p.progress.store
             → p.progress.refused ≡ false → IsCut cut p.cut → IsAt result p }
         ensures line { result.line ≡ Some [] }
+        ensures place { result.place ≡ opened.place }
         ensures cut { result.cut ≡ cut }
     {
         Session {
@@ -74,6 +75,7 @@ impl Session {
     // Appends bytes to the open line.
     fn hold(&mut self, bytes: &[u8]) -> Result<(), Mem>
         ensures at { (p : Position) → IsAt self.old p → IsAt self.new p }
+        ensures place { self.new.place ≡ self.old.place }
         ensures line { OnOk result (self.new.line ≡ more self.old.line bytes.now) }
     {
         self.line.extend(bytes)
@@ -83,6 +85,7 @@ impl Session {
     fn read_on(&mut self) -> Result<bool, Mem>
         ensures at { result ≡ Ok true → (p : Position) → IsAt self.old p → IsAt self.new (after_line p self.old.line) }
         ensures quiet { result ≡ Ok true → (p : Position) → IsAt self.old p → made_by p.cut self.old.line ≡ [] }
+        ensures place { self.new.place ≡ self.old.place }
         ensures line { result ≡ Ok true → self.new.line ≡ Some [] }
         ensures left { result ≡ Ok false → self.new ≡ self.old }
         ensures ended { result ≡ Ok false → reads_on self.new.cut self.new.line ≡ false }
@@ -100,6 +103,7 @@ impl Session {
         requires ended { reads_on self.old.cut self.old.line ≡ false }
         ensures due { IfOk result (λ answer. (p : Position) → IsAt self.old p
             → IsDue self.new answer p.progress.store (after_line p self.old.line) (reply_to_line p self.old.line)) }
+        ensures place { self.new.place ≡ self.old.place }
         ensures line { OnOk result (self.new.line ≡ Some []) }
     {
         let Some(engine) = self.engine.take() else {
@@ -118,12 +122,12 @@ impl Session {
     fn give<S: Site>(&mut self, site: &mut S, answer: &Answer) -> Result<(), Stop>
         requires { CanGive self.old answer.now (S.seen site.old) }
         ensures here { OnOk result ((s : Store) (after : Position) (reply : List ℕ) → IsDue self.old answer.now s after reply
-            → Holds (S.seen site.old) s → IsHere self.new (S.seen site.new) after) }
+            → Holds self.old.place (S.seen site.old) s → IsHere self.new (S.seen site.new) after) }
         ensures line { self.new.line ≡ self.old.line }
         ensures given { OnOk result ((s : Store) (after : Position) (reply : List ℕ) → IsDue self.old answer.now s after reply
-            → Holds (S.seen site.old) s → Honestly (S.seen site.old) (S.seen site.new) (Given s after.progress.store reply)) }
+            → Holds self.old.place (S.seen site.old) s → Honestly (S.seen site.old) (S.seen site.new) (Given s after.progress.store reply)) }
         ensures prefix { OnErr result ((s : Store) (after : Position) (reply : List ℕ) → IsDue self.old answer.now s after reply
-            → Holds (S.seen site.old) s → Honestly (S.seen site.old) (S.seen site.new) (GivenPrefix s after.progress.store reply)) }
+            → Holds self.old.place (S.seen site.old) s → Honestly (S.seen site.old) (S.seen site.new) (GivenPrefix s after.progress.store reply)) }
         ensures cause { StopsGiving (S.faults site.old) (S.faults site.new) result }
     {
         match do_effect(site, self.place, &answer.effect) {
@@ -213,6 +217,7 @@ impl Session {
         requires { (p : Position) × IsAt self.old p }
         ensures due { IfOk result (λ answer. (p : Position) → IsAt self.old p
             → IsDue self.new answer p.progress.store (closed_at p) (closing_reply p)) }
+        ensures place { self.new.place ≡ self.old.place }
     {
         let Cut::Within(block) = mem::replace(&mut self.cut, Cut::Over) else {
             return Ok(self.nothing());
@@ -288,6 +293,7 @@ impl Session {
         requires some { 0 < length words.now }
         ensures due { IfOk result (λ answer. (p : Position) → IsAt self.old p
             → IsDue self.new answer p.progress.store (record p { progress = after_command p.progress (begun_command words.now) }) (reply_to p.progress (begun_command words.now))) }
+        ensures place { self.new.place ≡ self.old.place }
     {
         let Some(engine) = self.engine.take() else {
             return Err(Mem::Memory);

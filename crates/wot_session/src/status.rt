@@ -69,7 +69,9 @@ fn bad_store_line(fault: &BadStore) -> &'static str
 {
     match fault {
         BadStore::Magic(_) => "wot: bad store: Magic",
+        BadStore::SameEpoch(_) => "wot: bad store: SameEpoch",
         BadStore::Short(_, _) => "wot: bad store: Short",
+        BadStore::Seal(_) => "wot: bad store: Seal",
         BadStore::Spelling => "wot: bad store: Spelling",
         BadStore::BadPayload(_) => "wot: bad store: BadPayload",
         BadStore::BadEdit(_) => "wot: bad store: BadEdit",

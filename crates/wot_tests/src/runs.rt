@@ -33,14 +33,14 @@ fn exported_text(alloc: Global, site: &MemorySite, pick: Pick) -> Result<Vec<u8>
     Ok(Vec::from_slice(alloc, again.told())?)
 }
 
-// What is exported after a stop at the n-th call of the disk: opening makes the first 11, the edits 12 to 15 and 16 to 19.
+// What is exported after a stop at the n-th call of the disk: opening makes the first 12, the edits 13 to 16 and 17 to 20.
 fn shown(n: u32, pick: Pick) -> &'static [u8] {
     let may_be_written = matches!(pick, Pick::All | Pick::Fill(0xa5));
     match n {
-        0..=13 => NONE,
-        14 | 15 => { if may_be_written { FIRST } else { NONE } }
-        16 | 17 => FIRST,
-        18 | 19 => { if may_be_written { BOTH } else { FIRST } }
+        0..=14 => NONE,
+        15 | 16 => { if may_be_written { FIRST } else { NONE } }
+        17 | 18 => FIRST,
+        19 | 20 => { if may_be_written { BOTH } else { FIRST } }
         _ => BOTH,
     }
 }
@@ -49,9 +49,9 @@ fn shown(n: u32, pick: Pick) -> &'static [u8] {
 fn a_stop_at_any_call_leaves_a_prefix_of_the_edits(rt: HostRuntime) -> Result<(), Fail> {
     let alloc = rt.alloc();
     for pick in [Pick::Nothing, Pick::All, Pick::Fill(0), Pick::Fill(0xa5)] {
-        for n in 1u32..21 {
+        for n in 1u32..22 {
             let mut site = over(alloc, TWO_EDITS)?.with_stop(n);
-            let wanted = if n < 20 {
+            let wanted = if n < 21 {
                 Status::DiskFault
             } else {
                 Status::Done

@@ -6,7 +6,7 @@ use Rattle.wot_answer.specs.declared.reply.Answer.{Answer}
 use Rattle.wot_session.specs.declared.session.Session.{Session}
 use Rattle.wot_session.specs.Here.{IsAt, IsDue}
 use Rattle.wot_session.specs.Told.{IsGiving, Said}
-use Rattle.wot_session.proofs.Feeds.{start_said}
+use Rattle.wot_session.proofs.Feeds.{holds_at, start_said}
 use Rattle.wot_session.proofs.Outcomes.{if_err_from}
 use Rattle.wot_session.proofs.Sayings.{one_made, given_said, given_said_prefix, no_memory}
 use Rattle.wot_session.proofs.session.Session.answer.Goals as goal
@@ -21,10 +21,10 @@ due_left old held new answer left due = subst (λ session. Due session new answe
 pub returns-in-Ok-true-clause-told : goal.returns-in-Ok-true-clause-told
 returns-in-Ok-true-clause-told g c p here =
     let none = c.read_on.ensures.quiet (c.in-Ok-true.is ∙ ap Ok c.in-Ok-true.field-0-test) p here.at in
-    honest_weaker _ _ _ _ (start_said p _ here.holds) (λ x y said. subst (λ commands. Said p.progress commands x y) (sym none) said)
+    honest_weaker _ _ _ _ (start_said _ p _ here.holds) (λ x y said. subst (λ commands. Said p.progress commands x y) (sym none) said)
 
 pub returns-in-Err-Memory-clause-prefix : goal.returns-in-Err-Memory-clause-prefix
-returns-in-Err-Memory-clause-prefix g c p here = no_memory p.progress _ _ here.holds
+returns-in-Err-Memory-clause-prefix g c p here = no_memory _ p.progress _ _ here.holds
 
 pub reply-requires-clause-at : goal.reply-requires-clause-at
 reply-requires-clause-at g c =
@@ -32,23 +32,23 @@ reply-requires-clause-at g c =
     (c.requires.0, subst (λ session. IsAt session c.requires.0) (sym left) c.requires.1.at)
 
 pub returns-in-Err-Memory-reply-clause-prefix : goal.returns-in-Err-Memory-reply-clause-prefix
-returns-in-Err-Memory-reply-clause-prefix g c p here = no_memory p.progress _ _ here.holds
+returns-in-Err-Memory-reply-clause-prefix g c p here = no_memory _ p.progress _ _ here.holds
 
 pub give-requires : goal.give-requires
 give-requires g c =
     let left = c.read_on.ensures.left (c.in-Ok-false.is ∙ ap Ok c.in-Ok-false.field-0-test) in
-    (_, _, _, due_left _ _ _ _ left c.in-Ok.ensures.due c.requires.0 c.requires.1.at, c.requires.1.holds)
+    (_, _, _, due_left _ _ _ _ left c.in-Ok.ensures.due c.requires.0 c.requires.1.at, holds_at _ _ (c.reply.ensures.place ∙ c.read_on.ensures.place) c.requires.1.holds)
 
 pub returns-clause-at : goal.returns-clause-at
 returns-clause-at g c =
     let left = c.read_on.ensures.left (c.in-Ok-false.is ∙ ap Ok c.in-Ok-false.field-0-test) in
-    on_ok_weaker c.give.result (λ all p here. all _ _ _ (due_left _ _ _ _ left c.in-Ok.ensures.due p here.at) here.holds) c.give.ensures.here
+    on_ok_weaker c.give.result (λ all p here. all _ _ _ (due_left _ _ _ _ left c.in-Ok.ensures.due p here.at) (holds_at _ _ (c.reply.ensures.place ∙ c.read_on.ensures.place) here.holds)) c.give.ensures.here
 
 pub returns-clause-told : goal.returns-clause-told
 returns-clause-told g c =
     let left = c.read_on.ensures.left (c.in-Ok-false.is ∙ ap Ok c.in-Ok-false.field-0-test) in
     on_ok_weaker c.give.result
-    (λ all p here. honest_weaker _ _ _ _ (all _ _ _ (due_left _ _ _ _ left c.in-Ok.ensures.due p here.at) here.holds)
+    (λ all p here. honest_weaker _ _ _ _ (all _ _ _ (due_left _ _ _ _ left c.in-Ok.ensures.due p here.at) (holds_at _ _ (c.reply.ensures.place ∙ c.read_on.ensures.place) here.holds))
     (λ x y. given_said p.progress _ x y (one_made p.cut c.args.self.now.line)))
     c.give.ensures.given
 
@@ -56,5 +56,5 @@ pub returns-clause-prefix : goal.returns-clause-prefix
 returns-clause-prefix g c =
     let left = c.read_on.ensures.left (c.in-Ok-false.is ∙ ap Ok c.in-Ok-false.field-0-test) in
     if_err_from IsGiving _ c.give.result c.give.ensures.prefix c.give.ensures.cause.kinds
-    (λ stop kind all p here. honest_weaker _ _ _ _ (all _ _ _ (due_left _ _ _ _ left c.in-Ok.ensures.due p here.at) here.holds)
+    (λ stop kind all p here. honest_weaker _ _ _ _ (all _ _ _ (due_left _ _ _ _ left c.in-Ok.ensures.due p here.at) (holds_at _ _ (c.reply.ensures.place ∙ c.read_on.ensures.place) here.holds))
     (λ x y. given_said_prefix p.progress _ stop x y (one_made p.cut c.args.self.now.line) kind))

@@ -11,7 +11,7 @@ use Rattle.wot_session.proofs.session.Session.answer_last.Goals as goal
 pub returns-then-is_empty-clause-told : goal.returns-then-is_empty-clause-told
 returns-then-is_empty-clause-told g c p here =
     let none : c.args.self.now.line ≡ Some [] = search rules in
-    honest_weaker _ _ _ _ (start_said p _ here.holds) (λ x y said. subst (λ commands. Said p.progress commands x y) (sym (last_none p _ none)) said)
+    honest_weaker _ _ _ _ (start_said _ p _ here.holds) (λ x y said. subst (λ commands. Said p.progress commands x y) (sym (last_none p _ none)) said)
 
 pub returns-clause-at : goal.returns-clause-at
 returns-clause-at g c =

@@ -1,26 +1,27 @@
 use Rattle.std.proofs.lemmas.Result.{on_ok_weaker}
 use Rattle.wot_site.proofs.Honest.{honest_weaker}
 use Rattle.wot_session.specs.Told.{IsGiving}
+use Rattle.wot_session.proofs.Feeds.{holds_at}
 use Rattle.wot_session.proofs.Outcomes.{if_err_from}
 use Rattle.wot_session.proofs.Sayings.{one_unfinished, given_said, given_said_prefix, no_memory}
 use Rattle.wot_session.proofs.session.Session.answer_unfinished.Goals as goal
 
 pub returns-in-Err-Memory-clause-prefix : goal.returns-in-Err-Memory-clause-prefix
-returns-in-Err-Memory-clause-prefix g c p here = no_memory p.progress _ _ here.holds
+returns-in-Err-Memory-clause-prefix g c p here = no_memory _ p.progress _ _ here.holds
 
 pub give-requires : goal.give-requires
-give-requires g c = (_, _, _, c.in-Ok.ensures.due c.requires.0 c.requires.1.at, c.requires.1.holds)
+give-requires g c = (_, _, _, c.in-Ok.ensures.due c.requires.0 c.requires.1.at, holds_at _ _ c.close.ensures.place c.requires.1.holds)
 
 pub returns-clause-at : goal.returns-clause-at
-returns-clause-at g c = on_ok_weaker c.give.result (λ all p here. all _ _ _ (c.in-Ok.ensures.due p here.at) here.holds) c.give.ensures.here
+returns-clause-at g c = on_ok_weaker c.give.result (λ all p here. all _ _ _ (c.in-Ok.ensures.due p here.at) (holds_at _ _ c.close.ensures.place here.holds)) c.give.ensures.here
 
 pub returns-clause-told : goal.returns-clause-told
 returns-clause-told g c =
     on_ok_weaker c.give.result
-    (λ all p here. honest_weaker _ _ _ _ (all _ _ _ (c.in-Ok.ensures.due p here.at) here.holds) (λ x y. given_said p.progress _ x y (one_unfinished p.cut)))
+    (λ all p here. honest_weaker _ _ _ _ (all _ _ _ (c.in-Ok.ensures.due p here.at) (holds_at _ _ c.close.ensures.place here.holds)) (λ x y. given_said p.progress _ x y (one_unfinished p.cut)))
     c.give.ensures.given
 
 pub returns-clause-prefix : goal.returns-clause-prefix
 returns-clause-prefix g c =
     if_err_from IsGiving _ c.give.result c.give.ensures.prefix c.give.ensures.cause.kinds
-    (λ stop kind all p here. honest_weaker _ _ _ _ (all _ _ _ (c.in-Ok.ensures.due p here.at) here.holds) (λ x y. given_said_prefix p.progress _ stop x y (one_unfinished p.cut) kind))
+    (λ stop kind all p here. honest_weaker _ _ _ _ (all _ _ _ (c.in-Ok.ensures.due p here.at) (holds_at _ _ c.close.ensures.place here.holds)) (λ x y. given_said_prefix p.progress _ stop x y (one_unfinished p.cut) kind))
