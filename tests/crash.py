@@ -1,7 +1,7 @@
 #!/usr/bin/env python3
 """Ends the built program by a signal at random moments of runs of many edits, and opens the store again.
 
-What is reopened is a prefix of the edits that holds each acknowledged one, and at most one more.
+What is reopened is a prefix of the edits that holds each acknowledged one, and at most one more; a second reader of the files finds the same.
 """
 import os
 import random
@@ -11,6 +11,8 @@ import sys
 import tempfile
 import time
 
+import keyring
+import store as files
 from program import PROGRAM, folder, run
 
 RUNS, EDITS = 200, 400
@@ -50,6 +52,12 @@ def stopped_run(store, first, delay):
         return told.read().count(b"ok\n")
 
 
+def found_by_reader(where):
+    """What a second reader of the files has `export` tell."""
+    found = files.shown(*files.read_sides(where))
+    return found.name if isinstance(found, files.Bad) else keyring.export(found.state).decode() + "ok\n"
+
+
 wanted, chance = exports(), random.Random(11)
 runs, reached, more = 0, 0, 0
 while runs < RUNS:
@@ -57,10 +65,11 @@ while runs < RUNS:
         done = 0
         while runs < RUNS and done < EDITS:
             acknowledged = done + stopped_run(store, done, chance.random() ** 2 * 0.25)
+            read = found_by_reader(store)
             shown = run("export\n", where=store).stdout.decode()
             fits = [n for n in (acknowledged, acknowledged + 1) if n <= EDITS and wanted[n] == shown]
-            if not fits:
-                sys.exit(f"crash: after {acknowledged} acknowledged edits the store shows {shown!r}")
+            if not fits or read != shown:
+                sys.exit(f"crash: after {acknowledged} acknowledged edits the store shows {shown!r}, and to a second reader {read!r}")
             more += fits[0] > acknowledged
             done, runs, reached = fits[0], runs + 1, reached + 1
 print(f"crash: {runs} stops, each acknowledged edit kept; one edit more after {more} of them")

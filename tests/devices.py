@@ -1,9 +1,11 @@
 #!/usr/bin/env python3
 """Runs the built program on devices that fail, and looks at the order of its calls.
 
-Standard output on a full device, a folder as standard input, a store on a full disk, and the writes and syncs between two replies.
+Standard output on a full device, a folder as standard input, streams that were closed before the run, a store on a full disk, and the
+writes and syncs between two replies.
 What the machine has no means for is skipped, and said so.
 """
+import itertools
 import os
 import re
 import shutil
@@ -11,7 +13,7 @@ import subprocess
 import sys
 import tempfile
 
-from program import PROGRAM, fingerprint, folder, run, trust
+from program import PROGRAM, fingerprint, folder, imported, key, run, short, trust
 
 
 def full_output():
@@ -42,6 +44,62 @@ def usage_makes_nothing():
         done = run(words=["--help"], where=store)
         left = os.listdir(store)
     return "ok" if (done.returncode, left) == (2, []) else f"FAULT: {done}, {left}"
+
+
+A, B = fingerprint("A"), fingerprint("B")
+LISTED = run(trust("A", "u") + "list\nexport\n").stdout[len("ok\n"):]
+TRU, EXPORTED = LISTED.split(b"ok\n")[:2]
+# what a run is given, its words, what it tells and changes of the ownertrust and of the keys
+RUNS = {
+    "a query": (b"", ["list"], TRU + b"ok\n", b"", 0),
+    "a query of a session": (b"list\n", [], TRU + b"ok\n", b"", 0),
+    "an edit": (b"", ["trust", B, "f"], b"ok\n", f"{B}:5:\n".encode(), 0),
+    "an edit of a session": (f"trust {B} f\n".encode(), [], b"ok\n", f"{B}:5:\n".encode(), 0),
+    "an import": (key("A").encode(), ["import"], b"ok keys 1 kept 0 passed 0\n", b"", 1),
+    "an import of a session": (imported(key("A")).encode(), [], b"ok keys 1 kept 0 passed 0\n", b"", 1),
+}
+
+
+def run_without(closed, given, words, where):
+    """A run that begins with these descriptors closed."""
+    def close():
+        for number in closed:
+            os.close(number)
+    return subprocess.run([PROGRAM, *words], input=given, capture_output=True, cwd=where, timeout=60, preexec_fn=close, check=False)
+
+
+def without(closed, given, words, told, entries, keys):
+    """What differs in a run without these streams, and in what a later run finds."""
+    with folder() as store:
+        run(trust("A", "u"), where=store)
+        done = run_without(closed, given, words, store)
+        later = run("export\nlist\n", where=store).stdout
+    status, fault = (3, b"wot: read fault\n") if given and 0 in closed else (4, b"wot: write fault\n") if 1 in closed else (0, b"")
+    wanted = (status, b"" if status else told, b"" if 2 in closed else fault)
+    found = (later.partition(b"ok\n")[0], later.count(b"pub:"))
+    made = (EXPORTED, 0) if status == 3 else (EXPORTED + entries, keys)
+    return None if ((done.returncode, done.stdout, done.stderr), found) == (wanted, made) else (done, later)
+
+
+def bad_store_without(closed, words):
+    """What differs in a run without these streams over files that are no store."""
+    with folder() as store:
+        for name in ("wot.0", "wot.1"):
+            with open(os.path.join(store, name), "wb") as file:
+                file.write(b"\xa5" * 100)
+        done = run_without(closed, b"list\n", words, store)
+        left = [open(os.path.join(store, name), "rb").read() for name in ("wot.0", "wot.1")]
+    wanted = (6, b"", b"" if 2 in closed else b"wot: bad store: Magic\n")
+    return None if (done.returncode, done.stdout, done.stderr) == wanted and left == [b"\xa5" * 100] * 2 else (done, left)
+
+
+def closed_streams():
+    """Without any of the three streams no file of the store is taken for one."""
+    sets = [closed for size in (1, 2, 3) for closed in itertools.combinations(range(3), size)]
+    tries = {(closed, name): without(closed, *RUNS[name]) for closed in sets for name in RUNS}
+    tries |= {(closed, "a bad store"): bad_store_without(closed, words) for closed in sets for words in ([], ["list"])}
+    wrong = {name: short(repr(differs)) for name, differs in tries.items() if differs is not None}
+    return f"FAULT: {wrong}" if wrong else f"ok, {len(sets)} sets of them"
 
 
 def full_disk():
@@ -96,7 +154,7 @@ def order_of_calls():
 
 
 faults = False
-for check in (full_output, folder_as_input, folder_as_store, usage_makes_nothing, full_disk, order_of_calls):
+for check in (full_output, folder_as_input, folder_as_store, usage_makes_nothing, closed_streams, full_disk, order_of_calls):
     said = check()
     faults = faults or said.startswith("FAULT")
     print(f"devices: {check.__name__}: {said}")

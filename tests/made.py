@@ -35,6 +35,10 @@ def certifications(seed, number):
         yield f"sig:!:::{issuer}:{made}::{trusts}:::10x:\n"
 
 
+def is_revoked(number):
+    return number % 97 == 96
+
+
 def lines(seed, number, owner):
     """The lines of a key as `sigs` prints them, with nothing in place of the letters of validity."""
     expires = "1700000000" if number % 50 == 49 else ""

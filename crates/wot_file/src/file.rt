@@ -7,7 +7,7 @@ ghost use Rattle.wot_file.specs.FileSite.{input_of, output_of, faults_of};
 
 use crate::sides::Sides;
 use crate::streams::{read_some, write_some};
-use std::fs::Files;
+use std::fs::{File, Files};
 use std::io;
 use std::io::{Read, Write};
 use wot_site::{Failed, Side, Site};
@@ -16,7 +16,7 @@ use wot_site::{Failed, Side, Site};
 /// current folder. It tells nothing of what they hold; its counts stand for the calls that an error of the
 /// system made fail, and stay at 2^64 - 1.
 #[derive(Drop)]
-pub struct FileSite<F: Files, I, O> {
+pub struct FileSite<F: Files<File = File>, I, O> {
     input: I,
     output: O,
     sides: Sides<F>,
@@ -25,7 +25,7 @@ pub struct FileSite<F: Files, I, O> {
     disk_faults: u64,
 }
 
-impl<F: Files, I: Read, O: Write> FileSite<F, I, O> {
+impl<F: Files<File = File>, I: Read, O: Write> FileSite<F, I, O> {
     /// Takes what the runtime lends: `FileSite::new(&rt, rt.reader(), io::writer(&rt))` in a program. No file
     /// is touched before the first call of the disk.
     pub fn new(files: F, input: I, output: O) -> FileSite<F, I, O>
@@ -61,7 +61,7 @@ impl<F: Files, I: Read, O: Write> FileSite<F, I, O> {
     }
 }
 
-impl<F: Files, I: Read, O: Write> Site for FileSite<F, I, O> {
+impl<F: Files<File = File>, I: Read, O: Write> Site for FileSite<F, I, O> {
     ghost seen = { λ _. None };
 
     ghost faults = { faults_of };

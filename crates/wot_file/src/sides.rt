@@ -3,29 +3,38 @@
 ghost use Rattle.std.specs.Prelude.{◌≤◌, length, IfOk};
 
 use crate::streams::read_some;
-use std::fs::{File, Files, OpenFile, OpenOptions};
+use std::fs::{File, Files, OpenOptions};
 use std::io;
 use std::io::{ErrorKind, Seek, SeekFrom, Write};
+use std::os::fd::{AsRawFd, IntoRawFd};
 use wot_site::Side;
 
 const ZERO: &str = "wot.0";
 
 const ONE: &str = "wot.1";
 
+// The descriptors of standard input, output and error are those up to this one.
+const LAST_STREAM: i32 = 2;
+
 /// The files of the current folder that are the two sides. They are made ready at the first call.
 #[derive(Drop)]
-pub struct Sides<F: Files> {
+pub struct Sides<F: Files<File = File>> {
     files: F,
-    zero: Option<F::File>,
-    one: Option<F::File>,
+    opened: Option<Opened>,
 }
 
-impl<F: Files> Sides<F> {
+// Both files. `zero` is locked as long as it is open.
+#[derive(Drop)]
+struct Opened {
+    zero: File,
+    one: File,
+}
+
+impl<F: Files<File = File>> Sides<F> {
     pub fn new(files: F) -> Sides<F> {
         Sides {
             files,
-            zero: None,
-            one: None,
+            opened: None,
         }
     }
 
@@ -56,25 +65,52 @@ impl<F: Files> Sides<F> {
     }
 
     // The file of a side, once both are ready.
-    fn file(&mut self, side: Side) -> io::Result<&mut F::File> {
-        if self.zero.is_none() || self.one.is_none() {
-            let zero = open(&self.files, ZERO)?;
-            let one = open(&self.files, ONE)?;
-            // Their names, too, are to outlive a crash.
-            File::open(&self.files, ".")?.sync_all()?;
-            self.zero = Some(zero);
-            self.one = Some(one);
+    fn file(&mut self, side: Side) -> io::Result<&mut File> {
+        if self.opened.is_none() {
+            self.opened = Some(open_both(&self.files)?);
         }
-        let file = match side {
-            Side::Zero => self.zero.as_mut(),
-            Side::One => self.one.as_mut(),
-        };
-        file.ok_or(io::Error::from(ErrorKind::Other))
+        match self.opened.as_mut() {
+            Some(opened) => Ok(opened.file(side)),
+            None => Err(io::Error::from(ErrorKind::Other)),
+        }
     }
 }
 
+impl Opened {
+    fn file(&mut self, side: Side) -> &mut File {
+        match side {
+            Side::Zero => &mut self.zero,
+            Side::One => &mut self.one,
+        }
+    }
+}
+
+// Opens both files, and fails where another run has them.
+fn open_both(files: &impl Files<File = File>) -> io::Result<Opened> {
+    let folder = folder(files)?;
+    let zero = open(files, ZERO)?;
+    zero.try_lock()?;
+    let one = open(files, ONE)?;
+    // Their names, too, are to outlive a crash.
+    folder.sync_all()?;
+    Ok(Opened { zero, one })
+}
+
+// Opens the current folder at a descriptor behind those of the streams. Of these each that was closed is left to
+// the folder, which can be neither read nor written: a file of the store there would be taken for the stream.
+fn folder(files: &impl Files<File = File>) -> io::Result<File> {
+    for _stream in 0..=LAST_STREAM {
+        let folder = File::open(files, ".")?;
+        if folder.as_raw_fd() > LAST_STREAM {
+            return Ok(folder);
+        }
+        folder.into_raw_fd();
+    }
+    File::open(files, ".")
+}
+
 // Opens a file, which is created where it is missing.
-fn open<F: Files>(files: &F, name: &str) -> io::Result<F::File> {
+fn open(files: &impl Files<File = File>, name: &str) -> io::Result<File> {
     OpenOptions::new()
         .read(true)
         .write(true)

@@ -75,8 +75,11 @@ fn the_files_keep_what_was_written(rt: HostRuntime) -> Result<(), Fail> {
     assert_eq!(rt; site.write(Side::Zero, 0, b"a journal"), Ok(()));
     assert_eq!(rt; site.write(Side::Zero, 2, b"dis"), Ok(()));
     assert_eq!(rt; site.sync(Side::Zero), Ok(()));
-    let mut buf = [0u8; 16];
+    // As long as a site has the files no other one gets them.
     let mut again = FileSite::new(&rt, rt.reader(), io::writer(&rt));
+    assert_eq!(rt; again.size(Side::Zero), Err(Failed));
+    drop(site);
+    let mut buf = [0u8; 16];
     assert_eq!(rt; again.size(Side::Zero), Ok(9));
     assert_eq!(rt; again.size(Side::One), Ok(0));
     assert_eq!(rt; again.read(Side::Zero, 1, &mut buf), Ok(8));

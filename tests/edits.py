@@ -1,0 +1,154 @@
+#!/usr/bin/env python3
+"""Makes edits of all kinds at random in sessions on small keyrings, and recounts each state from nothing.
+
+`edits.py PROGRAM [SECONDS [SEED]]`: after each edit the state, as `sigs` and `export` print it, is given to another process with an empty
+store, and what `list`, `sigs`, `export` and some `why` tell there is compared. A session's store is reopened too. The first difference
+ends the check and leaves the session's commands in a file.
+"""
+import random
+import sys
+import tempfile
+import time
+from concurrent.futures import ThreadPoolExecutor
+
+from program import folder, run
+
+SECONDS = float(sys.argv[2]) if len(sys.argv) > 2 else 10
+SEED = int(sys.argv[3]) if len(sys.argv) > 3 else 1
+NAMES, EDITS = 12, 40
+DATES = (1000, 1002, 1003, 1004, 1005)
+SCOPES = ("", "", "", "<[^>]+[@.]a\\x5c.example>$", "<[^>]+[@.]example>$", "a.example")
+
+
+def fingerprint(name, other=False):
+    """Of a key with that key ID, or of another one with the same key ID; every third is one of 32 bytes."""
+    front = "F" if other else "0"
+    return f"{name:016X}{front * 48}" if name % 3 == 0 else f"{front * 24}{name:016X}"
+
+
+class Edits:
+    """Edits that hang on earlier ones only in the date and the options, which it keeps."""
+
+    def __init__(self, chance):
+        self.chance = chance
+        self.date, self.options = 0, "pgp 1 3 5 2"
+
+    def name(self):
+        return self.chance.randrange(1, NAMES + 1)
+
+    def expiry(self):
+        return self.chance.choice((*[""] * 30, *DATES))
+
+    def certification(self, name):
+        issuer = self.chance.choice((1, 2, self.name(), self.name()))
+        record, kind = self.chance.choice((*[("sig", "1" + c + x) for c in "0123" for x in "xl"], ("sig", "13x"), ("rev", "30x")))
+        trusts = self.chance.choice(("", "", "1 120", "1 60", "2 120", "3 60", "2 30"))
+        made = self.chance.randrange(1, 5)
+        return f"{record}:!:::{issuer:016X}:{made}:{self.expiry()}:{trusts}:{self.chance.choice(SCOPES) if trusts else ''}::{kind}:\n"
+
+    def key(self, name):
+        revoked = self.chance.choice("-------r")
+        lines = [f"pub:{revoked}:255:22:{name:016X}:1:{self.expiry()}::-:::scSC:\n", f"fpr:::::::::{fingerprint(name, self.chance.random() < 0.03)}:\n"]
+        for user in range(self.chance.choice((1, 1, 1, 2, 0))):
+            lines.append(f"uid:{self.chance.choice('------r')}::::1:{self.expiry()}:::K {name} <{user}@{self.chance.choice('ab')}.example>:\n")
+            lines += [self.certification(name) for _ in range(self.chance.randrange(5))]
+        return "".join(lines)
+
+    def imported(self):
+        names = self.chance.sample(range(1, NAMES + 1), self.chance.choice((1, 1, 1, 2, 4, NAMES)))
+        return "import\n" + "".join(self.key(name) for name in names) + ".\n"
+
+    def begun(self):
+        """All keys at once, and ownertrust that makes introducers of some: what a session begins with."""
+        owned = "".join(f"{fingerprint(name)}:{6 if name < 3 else self.chance.choice((4, 5))}:\n" for name in range(1, NAMES + 1) if name % 4)
+        return ["ownertrust\n" + owned + ".\n", "import\n" + "".join(self.key(name) for name in range(1, NAMES + 1)) + ".\n"]
+
+    def owned(self):
+        numbers = (0, 2, 3, 4, 4, 5, 5, 6, 128, 132, 133)
+        return "ownertrust\n" + "".join(f"{fingerprint(self.name())}:{self.chance.choice(numbers)}:\n" for _ in range(self.chance.choice((1, 2, 5)))) + ".\n"
+
+    def next(self):
+        kind = self.chance.random()
+        name = self.name()
+        fpr = fingerprint(name, self.chance.random() < 0.05)
+        if kind < 0.25:
+            return self.imported()
+        if kind < 0.32:
+            return self.owned()
+        if kind < 0.58:
+            return f"trust {fpr} {self.chance.choice('uuuf' if name < 3 else '-qnmmmfffu')}\n"
+        if kind < 0.62:
+            return f"{self.chance.choice(('disable', 'enable'))} {fpr}\n"
+        if kind < 0.68:
+            return f"delete {fpr}\n"
+        if kind < 0.90:
+            self.date = self.chance.choice((0, *DATES * 2, 2**32 - 1))
+            return f"date {self.date}\n"
+        if kind < 0.97:
+            depth = self.chance.choice((1, 2, 3, 5, 255))
+            self.options = f"{self.chance.choice(('pgp', 'pgp', 'classic'))} {self.chance.choice((1, 1, 2))} {self.chance.choice((2, 3))} {depth} {self.chance.choice((1, 2, 3))}"
+            return f"options {self.options}\n"
+        return f"sample {self.chance.choice((7, 8))} {self.chance.randrange(1, 13)}\n"
+
+    def questions(self):
+        return "".join(f"why {fingerprint(name)} {self.chance.choice((1, 1, 2))}\n" for name in range(1, NAMES + 1)) + "list\n"
+
+
+def replies(told):
+    """Replies, each up to the line that ends it."""
+    found, lines = [], []
+    for line in told.decode().splitlines(keepends=True):
+        lines.append(line)
+        if line.startswith(("ok", "err")):
+            found.append("".join(lines))
+            lines = []
+    return found
+
+
+def recounted(date, options, sigs, export, questions):
+    """The replies of an empty store to which the state is given, ownertrust first; and those that are wanted."""
+    given = f"ownertrust\n{export.removesuffix('ok' + chr(10))}.\nimport\n{sigs.removesuffix('ok' + chr(10))}.\noptions {options}\ndate {date}\n"
+    return replies(run(given + "sigs\nexport\n" + questions).stdout)[4:]
+
+
+def session(seed, pool):
+    """One session; its commands, how many edits were refused, how many explanations have an introducer, and what differs."""
+    edits = Edits(random.Random(seed))
+    commands, states = [], []
+    begun = edits.begun()
+    for number in range(EDITS):
+        edit = begun[number] if number < len(begun) else edits.next()
+        states.append((edits.date, edits.options, edits.questions()))
+        commands.append(edit + "sigs\nexport\n" + states[-1][2])
+    with folder() as store:
+        told = replies(run("".join(commands), where=store).stdout)
+        again = replies(run("sigs\nexport\n" + states[-1][2], where=store).stdout)
+    count = NAMES + 4
+    if len(told) != EDITS * count:
+        return commands, 0, 0, [("the session", [f"{len(told)} replies\n"], [f"{EDITS * count} replies\n"])]
+    groups = [told[i * count : (i + 1) * count] for i in range(EDITS)]
+    counted = pool.map(lambda both: recounted(*both[0][:2], both[1][1], both[1][2], both[0][2]), zip(states, groups))
+    wrong = [(f"after edit {i + 1}", group[1:], wanted) for i, (group, wanted) in enumerate(zip(groups, counted)) if group[1:] != wanted]
+    if again != groups[-1][1:]:
+        wrong.append(("reopened", again, groups[-1][1:]))
+    refused = sum(group[0].startswith("err") for group in groups)
+    reasons = sum("\nrow:" in reply for group in groups for reply in group)
+    return commands, refused, reasons, wrong
+
+
+def first_difference(told, wanted):
+    return next((f"told\n{a}recounted\n{b}" for a, b in zip(told, wanted) if a != b), f"{len(told)} replies, and {len(wanted)} recounted")
+
+
+begun, sessions, refusals, explained = time.monotonic(), 0, 0, 0
+with ThreadPoolExecutor(2) as pool:
+    while sessions == 0 or time.monotonic() - begun < SECONDS:
+        seed = SEED * 1_000_000 + sessions
+        commands, refused, reasons, wrong = session(seed, pool)
+        if wrong:
+            with tempfile.NamedTemporaryFile("w", prefix="edits", suffix=".session", delete=False) as kept:
+                kept.write("".join(commands))
+            place, told, wanted = wrong[0]
+            sys.exit(f"edits: session {seed}, {place}: {first_difference(told, wanted)}its commands are in {kept.name}")
+        sessions, refusals, explained = sessions + 1, refusals + refused, explained + reasons
+print(f"edits: {sessions * EDITS} edits at random in {sessions} sessions from seed {SEED}, {refusals} of them refused: each state has the letters that it has when counted from nothing, and {explained} explanations the same introducers and counts")
