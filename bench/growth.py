@@ -46,6 +46,8 @@ def commands(count):
         "`trust` of a key that certifies many": itertools.cycle([f"trust {second} m\n", f"trust {second} f\n"]),
         "`date`, one key in fifty expires or is back": itertools.cycle(["date 1750000000\n", "date 1650000000\n"]),
         "`import` of one key": (key_more(number, (0, 1, 2, count // 3)) for number in itertools.count(count)),
+        "`delete` of that key": (f"delete {fingerprint(number)}\n" for number in itertools.count(count)),
+        "`options`": itertools.cycle(["options pgp 1 3 5 1\n", "options pgp 1 3 5 2\n"]),
     }
 
 
