@@ -3,12 +3,14 @@
 //! A key is named by a number. Key 10 is ultimately trusted where it stands among the introducers.
 #![tactic(auto)]
 
+mod compaction;
 mod expiry;
 mod samples;
 mod scopes;
 mod selection;
 mod trust_signatures;
 
+pub use compaction::stores_move_to_the_next_epoch;
 pub use expiry::{keys_end_at_their_expiry, next_check_is_at_the_next_expiry};
 pub use samples::{numbers_are_drawn_by_splitmix64, samples_are_made_from_their_seed};
 pub use scopes::scopes_admit_their_domain;

@@ -6,7 +6,8 @@ use Rattle.wot_site.specs.declared.side.Side.{Side}
 use Rattle.wot_site.specs.Disk.{disk_of}
 use Rattle.wot_site.specs.Seen.{Seen}
 use Rattle.wot_site.specs.Reading.{IsRange, IsShort}
-use Rattle.wot_pages.specs.Page.{seal, page_place}
+use Rattle.wot_types.specs.PagePlaces.{page_place}
+use Rattle.wot_pages.specs.Page.{seal}
 use Rattle.wot_pages.specs.Pages.{page_at, content_at, is_sealed}
 use Rattle.wot_pages.specs.Reading.{ReadsPages, FindsFault}
 use Rattle.wot_pages.proofs.Runs.{flat_more, find_more, find_first}

@@ -15,7 +15,8 @@ use Rattle.wot_site.proofs.Images.{settled_image, take_written, length_written, 
 use Rattle.wot_site.proofs.Sides.{disk_with, with_with, with_same}
 use Rattle.wot_site.proofs.Works.{works_start, works_push, works_then}
 use Rattle.wot_site.specs.Gate.{IsClosed, open_gate}
-use Rattle.wot_pages.specs.Page.{page, pages_needed}
+use Rattle.wot_types.specs.PagePlaces.{pages_needed}
+use Rattle.wot_pages.specs.Page.{page}
 use Rattle.wot_pages.specs.Pages.{contents_for, content_in}
 use Rattle.wot_pages.proofs.Held.{content_long, page_long}
 use Rattle.wot_pages.proofs.Runs.{flat_length, flat_more}

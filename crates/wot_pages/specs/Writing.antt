@@ -6,7 +6,7 @@ use Rattle.wot_site.specs.Disk.{Disk, Disks, IsImage, disk_of, with_disk, bytes_
 use Rattle.wot_site.specs.Seen.{Seen}
 use Rattle.wot_site.specs.Work.{Works}
 use Rattle.wot_site.specs.Gate.{IsClosed}
-use Rattle.wot_pages.specs.Page.{first_page, pages_needed}
+use Rattle.wot_types.specs.PagePlaces.{first_page, pages_needed}
 use Rattle.wot_pages.specs.Pages.{pages_for}
 
 -- a side has a header, and in each image the gate in front of it is closed

@@ -4,7 +4,7 @@ ghost use Rattle.std.specs.Prelude.{◌≡◌, ◌*◌, ◌-◌, ◌^◌, ◌<�
 ghost use Rattle.wot_site.specs.Disk.{disk_of};
 ghost use Rattle.wot_site.specs.Seen.{Honestly, IfHonest};
 ghost use Rattle.wot_site.specs.Site.{Stays, Rose, NoneFell};
-ghost use Rattle.wot_pages.specs.Page.{content_size, page_place};
+ghost use Rattle.wot_types.specs.PagePlaces.{content_size, page_place};
 ghost use Rattle.wot_pages.specs.Reading.{ReadsPages, FindsFault};
 
 use crate::page::{CONTENT, FIRST, PAGE, seal};

@@ -14,7 +14,7 @@ use Rattle.wot_types.specs.declared.edit.Edit.TheVariants.{Import, Ownertrust, S
 use Rattle.wot_types.specs.declared.head.Head.{Head}
 use Rattle.wot_types.specs.declared.head.Head.TheVariants.{Edit as EditHead, Query as QueryHead, DeleteKey, Import as ImportHead, Ownertrust as OwnertrustHead}
 use Rattle.wot_types.specs.declared.query.Query.{Query}
-use Rattle.wot_types.specs.declared.query.Query.TheVariants.{List as ListAll, ListOne, Sigs, SigsOne, Export, Why, Quit}
+use Rattle.wot_types.specs.declared.query.Query.TheVariants.{List as ListAll, ListOne, Sigs, SigsOne, Export, Why, Check, Compact, Quit}
 use Rattle.wot_types.specs.declared.fault.ListingFault.{ListingFault}
 use Rattle.wot_types.specs.declared.fault.ListingWhat.{ListingWhat}
 use Rattle.wot_types.specs.declared.fault.ListingWhat.TheVariants.{ShortRecord, BadNumber, BadDate, BadHex, BadQuote, NoFingerprint, KeyIdDiffers, RepeatedKey, RepeatedUser, BadTrustField, LimitReached}
@@ -40,13 +40,13 @@ use Rattle.wot_types.specs.Lines.{front_of, is_newline, last_of, open_line, whol
 use Rattle.wot_types.proofs.ListEnds.{front_of_more, last_of_more}
 use Rattle.wot_types.specs.Listing.{fault_at_end, kept_of, listed_keys, passed_of}
 use Rattle.wot_types.specs.NextCheck.{next_check}
-use Rattle.wot_types.specs.Outcome.{Outcome, answer_to, block_outcome, edit_outcome, edit_reply, state_after, entries_outcome, has_long_line, head_outcome, is_past, listing_outcome, ok_line, outcome, query_refusal, refusal_of, refuse, sample_reply, unless_refused, unless_unanswered, words_outcome}
+use Rattle.wot_types.specs.Outcome.{Outcome, answer_to, block_outcome, edit_outcome, edit_reply, state_after, entries_outcome, has_long_line, head_outcome, is_past, listing_outcome, ok_line, outcome, query_refusal, refusal_of, refuse, sample_reply, unless_refused, unless_unanswered, words_outcome, change_by}
 use Rattle.wot_types.specs.Ownertrust.{ownertrust_of, ownertrust_line}
 use Rattle.wot_types.specs.OwnertrustText.{listed_entries, ownertrust_fault}
 use Rattle.wot_types.specs.Printing.{cert_line, key_id_text, key_lines, list_text, listed_keyblocks, user_lines}
 use Rattle.wot_types.specs.Refusals.{fault_name, limit_name, ownertrust_fault_name, refusal_text, reply_line}
 use Rattle.wot_types.specs.Selection.{spots_from}
-use Rattle.wot_types.specs.Store.{Store}
+use Rattle.wot_types.specs.Store.{Change, Store}
 use Rattle.wot_types.specs.Store.Change.{makes}
 use Rattle.wot_types.specs.Tally.{tally_line}
 use Rattle.wot_types.specs.WellFormed.{IsUser, IsWellFormed}
@@ -272,11 +272,13 @@ answer_goes_on s Sigs w = list_goes_on s None true w
 answer_goes_on s (SigsOne fpr) w = list_goes_on s (Some (key_id_of fpr)) true w
 answer_goes_on s Export w = each ownertrust_line entry_goes_on (map.entries s.trusts)
 answer_goes_on s (Why fpr place) w = why_text_goes_on s (key_id_of fpr) (place - 1)
+answer_goes_on s Check w = tally_goes_on s (rows_of s)
+answer_goes_on s Compact w = nothing
 answer_goes_on s Quit w = nothing
 
-query_replies : (why : Option Refusal) (text : List ℕ) → GoesOn text → Replies (unless_unanswered why text)
-query_replies (Some why) text p = refused why
-query_replies None text p = reply false text (codes "ok") p ok_ends
+query_replies : (why : Option Refusal) (text : List ℕ) (change : Change) → GoesOn text → Replies (unless_unanswered why text change)
+query_replies (Some why) text change p = refused why
+query_replies None text change p = reply false text (codes "ok") p ok_ends
 
 -- ---- commands
 
@@ -284,7 +286,7 @@ module _ (s : Store) (command : Command) (w : AreWellFormed s.state.keys) where
   head_replies : (head : Result Head Refusal) → Replies (head_outcome s command head)
   head_replies (Err why) = refused why
   head_replies (Ok (EditHead edit)) = edit_replies (edit_reply s.state edit) s edit (reply_to s.state edit)
-  head_replies (Ok (QueryHead query)) = query_replies (query_refusal s.state query) (answer_to s.state query) (answer_goes_on s.state query w)
+  head_replies (Ok (QueryHead query)) = query_replies (query_refusal s.state query) (answer_to s.state query) (change_by query) (answer_goes_on s.state query w)
   head_replies (Ok (DeleteKey fpr)) = delete_replies s fpr (has_fpr s.state.keys fpr)
   head_replies (Ok ImportHead) =
       ended_replies (block_outcome ImportHead s (block_texts command.block)) command.ended (listing_replies (fault_at_end (block_texts command.block)) s (block_texts command.block))

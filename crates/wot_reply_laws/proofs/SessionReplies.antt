@@ -70,7 +70,7 @@ first_good p (command ∷ commands) w = cases (first_good (after_command p comma
     cases : (AreGood (states (after_command p command) commands) → AreWellFormed (after_command p command).store.state.keys) → (edit : Bool) → is_edit p command ≡ edit
         → AreGood (if edit then p.store.state ∷ states (after_command p command) commands else states (after_command p command) commands) → AreWellFormed p.store.state.keys
     cases next true is w = All-head (λ (s : State). AreWellFormed s.keys) p.store.state (states (after_command p command) commands) w
-    cases next false is w = subst (λ (s : Store). AreWellFormed s.state.keys) (kept p command is) (next w)
+    cases next false is w = subst (λ (s : State). AreWellFormed s.keys) (kept p command is) (next w)
 
 rest_good : (edit : Bool) (first : State) (rest : List State) → AreGood (if edit then first ∷ rest else rest) → AreGood rest
 rest_good true first rest w = All-tail (λ (s : State). AreWellFormed s.keys) first rest w

@@ -39,10 +39,12 @@ pub mod Spelling
 pub mod Payload
 pub mod WellFormedState
 pub mod Image
+pub mod PagePlaces
 pub mod Grammar
 pub mod Commands
 pub mod Refusals
 pub mod Store
+pub mod Compaction
 pub mod Outcome
 pub mod Session
 pub mod Soonest

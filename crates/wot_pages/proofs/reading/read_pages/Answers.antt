@@ -5,7 +5,8 @@ use Rattle.wot_site.specs.Seen.{Seen}
 use Rattle.wot_site.specs.Site.{Stays}
 use Rattle.wot_site.proofs.Honest.{honest_then, honest_with_then}
 use Rattle.wot_site.specs.Reading.{IsRange, IsShort}
-use Rattle.wot_pages.specs.Page.{seal, page_place}
+use Rattle.wot_types.specs.PagePlaces.{page_place}
+use Rattle.wot_pages.specs.Page.{seal}
 use Rattle.wot_pages.specs.Reading.{ReadsPages, FindsFault}
 use Rattle.wot_pages.proofs.Readings.{reads_more, finds_fault, never_short, differ, agree, split_agrees, split_same}
 use Rattle.wot_pages.proofs.reading.read_pages.Goals as goal
