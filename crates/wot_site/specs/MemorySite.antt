@@ -4,7 +4,7 @@ use Rattle.std.specs.List.{Contains}
 use Rattle.wot_site.specs.Calls.{calls_in, one_more, device_after}
 use Rattle.wot_site.specs.Disk.{Image, settled_disk}
 use Rattle.wot_site.specs.MemorySide.{Both, IsPicked, disks_of}
-use Rattle.wot_site.specs.Notes.{Past, past_at_start, replay}
+use Rattle.wot_site.specs.Notes.{Past, past_at_start, past_now}
 use Rattle.wot_site.specs.Seen.{Seen, Faults}
 use Rattle.wot_site.specs.Stop.{IsStopped}
 use Rattle.wot_site.specs.declared.memory.calls.Calls.{Calls}
@@ -15,7 +15,7 @@ use Rattle.wot_site.specs.declared.memory.MemorySite.{MemorySite}
 
 -- what its record of calls tells
 abbrev pub past_of : MemorySite → Past
-past_of site = replay (past_at_start site.first_zero.items site.first_one.items) site.notes.items
+past_of site = past_now (past_at_start site.first_zero.items site.first_one.items) site.notes.items site.fresh
 
 -- its sides
 abbrev pub sides_of : MemorySite → Both
@@ -35,6 +35,10 @@ seen_of site = record {
 -- what it tells at the start: nothing told, nothing pending
 abbrev pub first_seen : List ℕ → List ℕ → List ℕ → Seen
 first_seen input zero one = record { left = input; told = []; taken = 0; asks = []; disks = record { zero = settled_disk zero; one = settled_disk one }; moments = [] }
+
+-- what it tells when one more run begins: another input, and nothing told
+abbrev pub again_seen : List ℕ → Seen → Seen
+again_seen input s = record s { left = input; told = []; taken = 0 }
 
 -- how often its calls have failed
 abbrev pub faults_of : MemorySite → Faults

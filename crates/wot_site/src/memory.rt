@@ -14,7 +14,7 @@ use crate::bytes::{bytes_per_call, copy_front, read_at};
 use crate::failed::Failed;
 use crate::memory::calls::Calls;
 use crate::memory::crash::image_of;
-use crate::memory::notes::Note;
+use crate::memory::notes::Noted;
 use crate::memory::plan::Plan;
 use crate::memory::side::MemorySide;
 use crate::side::Side;
@@ -37,7 +37,9 @@ pub struct MemorySite {
     // What the sides had at the start, and what was done since.
     first_zero: Vec<u8>,
     first_one: Vec<u8>,
-    notes: Vec<Note>,
+    notes: Vec<Noted>,
+    // Whether nothing was noted since the run began.
+    fresh: bool,
     plan: Plan,
     calls: Calls,
     take_faults: u64,
@@ -45,12 +47,12 @@ pub struct MemorySite {
     disk_faults: u64,
     starved: u64,
     ghost taken_of_input: { taken ≤ vec_len input },
-    ghost noted: { IsNoted first_zero.items first_one.items notes.items zero one told.items },
+    ghost noted: { IsNoted first_zero.items first_one.items notes.items fresh zero one told.items },
 }
 
 impl MemorySite {
     ghost use Rattle.wot_site.specs.Disk.{IsImageOf};
-    ghost use Rattle.wot_site.specs.MemorySite.{seen_of, first_seen, starved_of, plan_of, stop_of, cut_of, calls_of, device_of, IsPickedOf, IsPlanned, IsDue, SameRun};
+    ghost use Rattle.wot_site.specs.MemorySite.{seen_of, first_seen, starved_of, plan_of, stop_of, cut_of, calls_of, device_of, past_of, again_seen, IsPickedOf, IsPlanned, IsDue, SameCounts, SameRun};
 
     /// A site over this input and these sides, with nothing told, nothing pending, no call planned to fail and no cut.
     pub fn new(
@@ -84,6 +86,7 @@ impl MemorySite {
             first_zero,
             first_one,
             notes: Vec::new(alloc),
+            fresh: true,
             plan: Plan {
                 fails: Vec::new(alloc),
                 stop: None,
@@ -136,6 +139,28 @@ impl MemorySite {
         ensures run { SameRun self result }
     {
         self.plan.cut = Some(most);
+        self
+    }
+
+    /// The site for one more run, with another input: nothing is told, no call is planned to fail, and there is no stop
+    /// and no cut. What is pending stays pending, and the calls are counted on.
+    pub fn again(mut self, input: Vec<u8>) -> MemorySite
+        ensures seen { ⟦<MemorySite as Site>⟧.seen result ≡ Some (again_seen input.items (seen_of self)) }
+        ensures notes { past_of result ≡ record (past_of self) { told = [] } }
+        ensures plan { plan_of result ≡ [] }
+        ensures stop { stop_of result ≡ None }
+        ensures cut { cut_of result ≡ None }
+        ensures counts { SameCounts self result }
+    {
+        self.input = input;
+        self.taken = 0;
+        self.told.clear();
+        self.fresh = true;
+        self.plan = Plan {
+            fails: Vec::new(self.alloc),
+            stop: None,
+            cut: None,
+        };
         self
     }
 

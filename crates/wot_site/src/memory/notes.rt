@@ -19,6 +19,13 @@ pub enum Note {
     Synced(Side),
 }
 
+/// A call in the record, and whether it is the first of its run.
+#[derive(Debug, Drop)]
+pub struct Noted {
+    pub first: bool,
+    pub note: Note,
+}
+
 impl MemorySite {
     ghost use Rattle.wot_site.specs.MemorySite.{seen_of, SameCounts, SamePlan};
 
@@ -32,13 +39,17 @@ impl MemorySite {
         ensures plan { SamePlan self.old self.new }
     {
         let copy = Vec::from_slice(self.alloc, bytes)?;
-        self.notes.push(Note::Wrote(side, at, copy))?;
+        self.notes.push(Noted {
+            first: self.fresh,
+            note: Note::Wrote(side, at, copy),
+        })?;
         match side {
             Side::Zero => {
                 if self.zero.write(self.alloc, at as usize, bytes).is_err() {
                     let _ = self.notes.pop();
                     return Err(Mem::Memory);
                 }
+                self.fresh = false;
                 Ok(())
             }
             Side::One => {
@@ -46,6 +57,7 @@ impl MemorySite {
                     let _ = self.notes.pop();
                     return Err(Mem::Memory);
                 }
+                self.fresh = false;
                 Ok(())
             }
         }
@@ -60,11 +72,15 @@ impl MemorySite {
         ensures plan { SamePlan self.old self.new }
     {
         let copy = Vec::from_slice(self.alloc, bytes)?;
-        self.notes.push(Note::Told(copy))?;
+        self.notes.push(Noted {
+            first: self.fresh,
+            note: Note::Told(copy),
+        })?;
         if self.told.extend_from_slice(bytes).is_err() {
             let _ = self.notes.pop();
             return Err(Mem::Memory);
         }
+        self.fresh = false;
         Ok(())
     }
 
@@ -76,13 +92,17 @@ impl MemorySite {
         ensures counts { SameCounts self.old self.new }
         ensures plan { SamePlan self.old self.new }
     {
-        self.notes.push(Note::Synced(side))?;
+        self.notes.push(Noted {
+            first: self.fresh,
+            note: Note::Synced(side),
+        })?;
         match side {
             Side::Zero => {
                 if self.zero.sync(self.alloc).is_err() {
                     let _ = self.notes.pop();
                     return Err(Mem::Memory);
                 }
+                self.fresh = false;
                 Ok(())
             }
             Side::One => {
@@ -90,6 +110,7 @@ impl MemorySite {
                     let _ = self.notes.pop();
                     return Err(Mem::Memory);
                 }
+                self.fresh = false;
                 Ok(())
             }
         }
