@@ -3,3 +3,4 @@ pub mod Checks
 pub mod Edits
 pub mod Stored
 pub mod Sizes
+pub mod Fields

@@ -2,6 +2,7 @@
 #![tactic(auto)]
 
 mod checks; // what is tested of the values that are read
+mod fields; // a key and a user ID up to the lists that they end with
 mod payload; // the payloads of edits
 mod reader; // reading parts from the front
 mod sizes; // how many bytes a payload has
@@ -9,6 +10,7 @@ mod stop; // why a value could not be read
 mod values; // the values that stand in lists
 mod writer; // writing parts at the end
 
+pub use fields::{KeyFields, UserFields};
 pub use payload::{decode, encode, one_payload};
 pub use reader::{Part, Reader};
 pub use sizes::payload_length;

@@ -3,6 +3,7 @@
 ghost use Rattle.wot_types.specs.Spelling.{cert_bytes, user_bytes, key_bytes, entry_bytes, EntryFits, CertFits, UserFits, KeyFits, row_bytes, RowFits};
 ghost use Rattle.wot_spelling.specs.Reading.{cert_at, user_at, key_at, entry_at, row_at};
 
+use crate::fields::{KeyFields, UserFields};
 use crate::reader::{Part, Reader};
 use crate::stop::Stop;
 use crate::writer::Writer;
@@ -79,14 +80,15 @@ impl Part for User {
         })
     }
 
-    #[tactic(auto, unfolding(wot_types::specs::Spelling::user_bytes))]
     fn write(&self, writer: &mut Writer) -> Result<(), Mem> {
-        writer.user_kind(self.kind)?;
-        writer.text(&self.text)?;
-        writer.text(&self.hash)?;
-        writer.number_4(self.made)?;
-        writer.number_4(self.expires)?;
-        writer.flag(self.revoked)?;
+        writer.user_fields(&UserFields {
+            kind: self.kind,
+            text: &self.text,
+            hash: &self.hash,
+            made: self.made,
+            expires: self.expires,
+            revoked: self.revoked,
+        })?;
         writer.list(&self.certs)?;
         Ok(())
     }
@@ -121,15 +123,16 @@ impl Part for Key {
         })
     }
 
-    #[tactic(auto, unfolding(wot_types::specs::Spelling::key_bytes))]
     fn write(&self, writer: &mut Writer) -> Result<(), Mem> {
-        writer.fpr(&self.fpr)?;
-        writer.number_4(self.bits)?;
-        writer.number_4(self.algo)?;
-        writer.number_4(self.made)?;
-        writer.number_4(self.expires)?;
-        writer.flag(self.revoked)?;
-        writer.text(&self.caps)?;
+        writer.key_fields(&KeyFields {
+            fpr: &self.fpr,
+            bits: self.bits,
+            algo: self.algo,
+            made: self.made,
+            expires: self.expires,
+            revoked: self.revoked,
+            caps: &self.caps,
+        })?;
         writer.list(&self.users)?;
         Ok(())
     }

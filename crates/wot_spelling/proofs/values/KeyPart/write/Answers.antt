@@ -1,10 +1,9 @@
-use Rattle.std.proofs.Common.{append_assoc}
-use Rattle.wot_types.specs.Spelling.{key_bytes}
+use Rattle.std.proofs.Common.{◌∙◌}
 use Rattle.wot_spelling.proofs.Rooms.{key_room}
 use Rattle.wot_spelling.proofs.values.KeyPart.write.Goals as goal
 
-pub text-requires : goal.text-requires
-text-requires c = (key_room c.args.self.now c.requires).caps
+pub key_fields-requires : goal.key_fields-requires
+key_fields-requires c = (key_room c.args.self.now c.requires).caps
 
 pub list-requires-clause-few : goal.list-requires-clause-few
 list-requires-clause-few c = (key_room c.args.self.now c.requires).few
@@ -13,17 +12,7 @@ pub list-requires-clause-room : goal.list-requires-clause-room
 list-requires-clause-room c = (key_room c.args.self.now c.requires).users
 
 pub returns-clause-ok : goal.returns-clause-ok
-unfolding key_bytes
-returns-clause-ok c =
-    rw (c.in_ok-list.ensures.ok, c.in_ok-text.ensures, c.in_ok-flag.ensures, c.in_ok-number_4-4.ensures.ok, c.in_ok-number_4-3.ensures.ok, c.in_ok-number_4-2.ensures.ok, c.in_ok-number_4.ensures.ok, c.in_ok-fpr.ensures.ok) (simp append_assoc)
+returns-clause-ok c = c.in_ok-list.ensures.ok ∙ c.in_ok-key_fields.ensures.ok c.args.self.now.users
 
 pub returns-clause-fits : goal.returns-clause-fits
-returns-clause-fits c = record {
-  fpr = c.in_ok-fpr.ensures.fits;
-  bits = c.in_ok-number_4.ensures.fits;
-  algo = c.in_ok-number_4-2.ensures.fits;
-  made = c.in_ok-number_4-3.ensures.fits;
-  expires = c.in_ok-number_4-4.ensures.fits;
-  caps = (key_room c.args.self.now c.requires).caps;
-  users = c.in_ok-list.ensures.fits;
-}
+returns-clause-fits c = c.in_ok-key_fields.ensures.fits c.args.self.now.users c.in_ok-list.ensures.fits

@@ -1,0 +1,67 @@
+//! A key and a user ID up to the lists that they end with, wherever their fields are.
+
+ghost use Rattle.std.specs.Prelude.{◌≡◌, ◌++◌, List, OnOk};
+ghost use Rattle.wot_types.specs.declared.cert.Cert.{Cert as CertSeen};
+ghost use Rattle.wot_types.specs.declared.user.User.{User as UserSeen};
+ghost use Rattle.wot_types.specs.Spelling.{CertFits, IsShort, KeyFits, ListFits, UserFits, cert_bytes, key_bytes, list_bytes, user_bytes};
+ghost use Rattle.wot_spelling.specs.Fields.{key_with, user_with};
+
+use crate::writer::Writer;
+use wot_types::{Fpr, Mem, Text, UserKind};
+
+/// All of a key but its user IDs.
+#[derive(Clone, Copy, Debug)]
+pub struct KeyFields<'a> {
+    pub fpr: &'a Fpr,
+    pub bits: u32,
+    pub algo: u32,
+    pub made: u32,
+    pub expires: u32,
+    pub revoked: bool,
+    pub caps: &'a Text,
+}
+
+/// All of a user ID but its certifications.
+#[derive(Clone, Copy, Debug)]
+pub struct UserFields<'a> {
+    pub kind: UserKind,
+    pub text: &'a Text,
+    pub hash: &'a Text,
+    pub made: u32,
+    pub expires: u32,
+    pub revoked: bool,
+}
+
+impl Writer {
+    /// A key up to its user IDs: with the list of these behind it, it is spelled.
+    pub fn key_fields(&mut self, fields: &KeyFields<'_>) -> Result<(), Mem>
+        requires { IsShort fields.now.caps.now }
+        ensures ok { (users : List UserSeen) → OnOk result (self.new ++ list_bytes user_bytes users ≡ self.old ++ key_bytes (key_with fields.now users)) }
+        ensures fits { (users : List UserSeen) → ListFits UserFits users → OnOk result (KeyFits (key_with fields.now users)) }
+    {
+        self.fpr(fields.fpr)?;
+        self.number_4(fields.bits)?;
+        self.number_4(fields.algo)?;
+        self.number_4(fields.made)?;
+        self.number_4(fields.expires)?;
+        self.flag(fields.revoked)?;
+        self.text(fields.caps)?;
+        Ok(())
+    }
+
+    /// A user ID up to its certifications: with the list of these behind it, it is spelled.
+    pub fn user_fields(&mut self, fields: &UserFields<'_>) -> Result<(), Mem>
+        requires text { IsShort fields.now.text.now }
+        requires hash { IsShort fields.now.hash.now }
+        ensures ok { (certs : List CertSeen) → OnOk result (self.new ++ list_bytes cert_bytes certs ≡ self.old ++ user_bytes (user_with fields.now certs)) }
+        ensures fits { (certs : List CertSeen) → ListFits CertFits certs → OnOk result (UserFits (user_with fields.now certs)) }
+    {
+        self.user_kind(fields.kind)?;
+        self.text(fields.text)?;
+        self.text(fields.hash)?;
+        self.number_4(fields.made)?;
+        self.number_4(fields.expires)?;
+        self.flag(fields.revoked)?;
+        Ok(())
+    }
+}
