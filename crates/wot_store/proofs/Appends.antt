@@ -10,7 +10,7 @@ use Rattle.wot_site.specs.Seen.{Seen}
 use Rattle.wot_site.specs.Work.{Works}
 use Rattle.wot_site.specs.declared.side.Side.{Side}
 use Rattle.wot_store.specs.Base.{IsBaseOf}
-use Rattle.wot_pages.specs.Page.{page_place}
+use Rattle.wot_types.specs.PagePlaces.{page_place}
 use Rattle.wot_pages.specs.Pages.{contents_of}
 use Rattle.wot_store.specs.declared.header.Header.{Header}
 use Rattle.wot_store.specs.declared.place.Place.{Place}

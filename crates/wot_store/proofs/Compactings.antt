@@ -1,22 +1,23 @@
 -- What the images of a compaction show.
-use Rattle.std.proofs.Common.{◌≡◌, ◌⊎◌, inl, inr, ⊎_elim, ℕ, ◌+◌, ◌^◌, ◌<◌, Bool, true, false, List, length, refl, sym, ◌∙◌, ap, subst, arith, Option, None, Some}
-use Rattle.std.specs.Prelude.{◌==◌, if◌then◌else◌}
+use Rattle.std.proofs.Common.{◌≡◌, ◌⊎◌, inl, inr, ⊎_elim, ℕ, ◌+◌, ◌^◌, ◌<◌, true, false, List, length, refl, sym, ◌∙◌, ap, subst, arith, Option, None, Some}
+use Rattle.std.specs.Prelude.{◌==◌, nat_eq, if◌then◌else◌}
 use Rattle.std.proofs.lemmas.Bool.Decides.{nat_tests}
 use Rattle.wot_types.specs.State.{State}
 use Rattle.wot_types.specs.Store.{Store}
-use Rattle.wot_store.specs.Base.{IsBaseOf, image_length}
+use Rattle.wot_types.specs.Compaction.{base_end, compacted_end, compacted_store, image_length, last_epoch, next_epoch}
+use Rattle.wot_store.specs.Base.{IsBaseOf}
 use Rattle.wot_site.specs.Disk.{Disks, Image, IsImageOf, disk_of, reads_of}
 use Rattle.wot_site.specs.Seen.{Honestly, IfHonest, Seen}
 use Rattle.wot_site.specs.declared.side.Side.{Side}
 use Rattle.wot_site.specs.declared.side.Side.TheVariants.{Zero, One}
 use Rattle.wot_site.proofs.Works.{works_start, works_weaker}
 use Rattle.wot_journal.specs.Record.{most}
-use Rattle.wot_pages.specs.Page.{page_place, pages_needed}
+use Rattle.wot_types.specs.PagePlaces.{page_place, pages_needed}
 use Rattle.wot_pages.specs.Pages.{contents_for}
 use Rattle.wot_store.specs.declared.place.Place.{Place}
 use Rattle.wot_store.specs.Appending.{Appending, Appends}
 use Rattle.wot_store.specs.Base.{bytes_of, has_closed_gate, header_of, other_side}
-use Rattle.wot_store.specs.Compacting.{base_end, compacted_place, compacted_store, last_epoch}
+use Rattle.wot_store.specs.Compacting.{compacted_place}
 use Rattle.wot_store.specs.Shows.{IsStored, Shows, ShowsBase}
 use Rattle.wot_store.specs.Writing.{Becomes, IsKnown, IsWriting, Writing, base_bytes}
 use Rattle.wot_store.proofs.Headers.{shown_header}
@@ -35,6 +36,17 @@ other_known place shown d stored = by_side place.side stored.closed
     by_side : (side : Side) → place.other_closed ≡ has_closed_gate (bytes_of (other_side side) (reads_of d)) → IsKnown place.other_closed (disk_of (other_side side) d)
     by_side Zero closed = record { settled = ap (λ (e : Disks). e.one) stored.settled; closed = closed }
     by_side One closed = record { settled = ap (λ (e : Disks). e.zero) stored.settled; closed = closed }
+
+-- the compacted store, before the last epoch and in it
+compacted_before : (s : Store) → nat_eq s.epoch last_epoch ≡ false → compacted_store s ≡ record { state = s.state; epoch = s.epoch + 1; end = base_end s.state }
+unfolding next_epoch compacted_end
+compacted_before s not_yet = λ i. record { state = s.state; epoch = if not_yet i then s.epoch else s.epoch + 1; end = if not_yet i then s.end else base_end s.state }
+
+compacted_last : (s : Store) → s.epoch ≡ last_epoch → compacted_store s ≡ s
+unfolding next_epoch compacted_end
+compacted_last s last =
+    let same : nat_eq s.epoch last_epoch ≡ true = ap (λ (n : ℕ). nat_eq n last_epoch) last in
+    λ i. record { state = s.state; epoch = if same i then s.epoch else s.epoch + 1; end = if same i then s.end else base_end s.state }
 
 -- nothing was done
 pub unmoved : (place : Place) (shown : Store) (x : Seen) → IsStored place shown x.disks → Appending shown shown x x
@@ -112,15 +124,11 @@ module _ (place : Place) (shown : Store) (image : List ℕ) (x y : Seen) (stored
       }
 
   module _ (long : length image ≡ image_length shown.state) where
-    not_last : (place.epoch == last_epoch) ≡ false
+    not_last : nat_eq place.epoch last_epoch ≡ false
     not_last = grind (arith, nat_tests)
 
     after_is : after ≡ compacted_store shown
-    after_is = (λ i. record { state = shown.state; epoch = stored.epoch i + 1; end = page_place (pages_needed (long i)) }) ∙ sym (if_not (shown.epoch == last_epoch) (ap (λ (n : ℕ). n == last_epoch) (sym stored.epoch) ∙ not_last))
-      where
-        if_not : (b : Bool) → b ≡ false → (if b then shown else record { state = shown.state; epoch = shown.epoch + 1; end = base_end shown.state }) ≡ record { state = shown.state; epoch = shown.epoch + 1; end = base_end shown.state }
-        if_not true e = absurd (cc e)
-        if_not false e = refl
+    after_is = (λ i. record { state = shown.state; epoch = stored.epoch i + 1; end = page_place (pages_needed (long i)) }) ∙ sym (compacted_before shown (ap (λ (n : ℕ). nat_eq n last_epoch) (sym stored.epoch) ∙ not_last))
 
     pub compact_moments : Writing (other_side place.side) (place.epoch + 1) image x y → Appending shown (compacted_store shown) x y
     compact_moments works = subst (λ (s : Store). Appending shown s x y) after_is (moments works)
@@ -144,7 +152,7 @@ module _ (place : Place) (shown : Store) (last : place.epoch ≡ last_epoch) whe
   place_last s = rw last refl
 
   store_last : (d : Disks) → IsStored place shown d → compacted_store shown ≡ shown
-  store_last d stored = rw (sym stored.epoch ∙ last) refl
+  store_last d stored = compacted_last shown (sym stored.epoch ∙ last)
 
   pub still_compacted : (s : State) (seen : Option Seen) → IfHonest seen (λ x. IsStored place shown x.disks) → Honestly seen seen (Appends (compacted_place place s) (compacted_store shown))
   still_compacted s None stored = tt

@@ -8,7 +8,7 @@ use Rattle.wot_site.specs.declared.range.Range.{Range}
 use Rattle.wot_site.specs.Disk.{Disk, IsImage, after_write, after_sync, settled_disk, bytes_after_write}
 use Rattle.wot_site.proofs.Images.{image_front, take_written, back_written, length_written, length_written_end}
 use Rattle.wot_journal.specs.Record.{IsClosed}
-use Rattle.wot_pages.specs.Page.{page_place, pages_needed}
+use Rattle.wot_types.specs.PagePlaces.{page_place, pages_needed}
 use Rattle.wot_pages.specs.Pages.{pages_for}
 use Rattle.wot_pages.specs.Writing.{IsWrittenFrom}
 use Rattle.wot_store.specs.Base.{header_tail}

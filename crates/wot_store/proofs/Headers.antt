@@ -9,7 +9,7 @@ use Rattle.wot_site.specs.Disk.{Image}
 use Rattle.wot_site.specs.declared.side.Side.{Side}
 use Rattle.wot_site.specs.declared.side.Side.TheVariants.{Zero, One}
 use Rattle.wot_journal.specs.Record.{IsClosed, open_gate, most}
-use Rattle.wot_pages.specs.Page.{page_place}
+use Rattle.wot_types.specs.PagePlaces.{page_place}
 use Rattle.wot_pages.specs.Pages.{seal_fault}
 use Rattle.wot_store.specs.declared.header.Header.{Header}
 use Rattle.wot_store.specs.declared.error.BadStore.TheVariants.{Short, Seal}

@@ -12,7 +12,7 @@ use Rattle.wot_types.specs.declared.key.Key.{Key}
 use Rattle.wot_types.specs.declared.row.Row.{Row}
 use Rattle.wot_types.specs.Candidates.{RowMap}
 use Rattle.wot_types.specs.Fingerprint.{fpr_cmp}
-use Rattle.wot_types.specs.Image.{IsImage, image_body, image_bytes}
+use Rattle.wot_types.specs.Image.{IsBase, IsImage, image_body, image_bytes}
 use Rattle.wot_types.specs.Keyring.{with_keys}
 use Rattle.wot_types.specs.Levels.{first_row, kept_or, map_by, new_row, rows_of, rows_upto}
 use Rattle.wot_types.specs.declared.ownertrust.Ownertrust.{Ownertrust}
@@ -29,14 +29,73 @@ use Rattle.wot_image.specs.declared.image.Image.{Image}
 use Rattle.wot_image.specs.declared.stored.Stored.{Stored}
 use Rattle.wot_image.proofs.BaseLemmas.{base_from, base_front, no_front}
 use Rattle.wot_image.proofs.Images.{found, nothing, one_image, too_much}
-use Rattle.wot_pages.specs.Page.{content_size, page_place, pages_needed}
+use Rattle.wot_types.specs.PagePlaces.{content_size, page_place, pages_needed}
 use Rattle.wot_pages.specs.Pages.{contents_for}
-use Rattle.wot_store.specs.Base.{IsBaseOf, image_length}
+use Rattle.wot_types.specs.Compaction.{image_length}
+use Rattle.wot_check.specs.declared.fault.RowFault.{RowFault}
+use Rattle.wot_check.specs.FirstFault.{first_fault}
+use Rattle.wot_check.specs.Stored.{IsFirstFault, IsLeastFault, Stands}
+use Rattle.wot_check.proofs.FaultLaws.{first_fault_is, one_first_fault}
+use Rattle.wot_check.proofs.Local.{rows_stand, standing_rows}
+use Rattle.wot_store.specs.declared.error.BadStore.{BadStore}
+use Rattle.wot_store.specs.declared.error.BadStore.TheVariants.{Magic, SameEpoch, Short, Seal, Spelling, Row as BadRow, BadPayload, BadEdit}
+use Rattle.wot_store.specs.Base.{IsBaseOf, IsNoBase}
 
--- the contents of a base are an image of one state
+-- contents spell one state with its rows
+one_spelled : (contents : List ℕ) (s t : State) (rows more : RowMap) → IsBase content_size contents s rows → IsBase content_size contents t more → (s ≡ t) × (rows ≡ more)
+one_spelled contents s t rows more x y =
+    let same = one_image x.image y.image x.rest y.rest s t rows more x.spelled y.spelled (sym x.is ∙ y.is) in
+    (same.1, same.2)
+
+-- contents are a base of one state
 pub one_base : (contents : List ℕ) (s t : State) → IsBaseOf contents s → IsBaseOf contents t → s ≡ t
-one_base contents s t x y =
-    (one_image x.spelled.image y.spelled.image x.spelled.rest y.spelled.rest s t x.rows y.rows x.spelled.spelled y.spelled.spelled (sym x.spelled.is ∙ y.spelled.is)).1
+one_base contents s t x y = (one_spelled contents s t (rows_of s) (rows_of t) x y).0
+
+-- a base isn't none
+pub base_not_none : (contents : List ℕ) (s : State) (bad : BadStore) → IsBaseOf contents s → IsNoBase contents bad → ⊥
+base_not_none contents s Spelling x none = none s (rows_of s) x
+base_not_none contents s (BadRow fault) x none =
+    let same = one_spelled contents s none.0 (rows_of s) none.1 x none.2 in
+    let stands : Stands s (rows_of s) fault.key = rows_stand s x.spelled.sound.options.depth fault.key in
+    none.3.falls (subst (λ (p : State × RowMap). Stands p.0 p.1 fault.key) (λ i. (same.0 i, same.1 i)) stands)
+base_not_none contents s (Magic side) x none = none
+base_not_none contents s (SameEpoch epoch) x none = none
+base_not_none contents s (Short side at) x none = none
+base_not_none contents s (Seal page) x none = none
+base_not_none contents s (BadPayload number) x none = none
+base_not_none contents s (BadEdit number) x none = none
+
+-- contents that are no base spell nothing, or rows that don't all stand
+record OfRows (contents : List ℕ) (bad : BadStore) : Type 0 where
+  pub fault : RowFault
+  pub state : State
+  pub rows : RowMap
+  pub spelled : IsBase content_size contents state rows
+  pub least : IsLeastFault state rows fault
+  pub is : bad ≡ BadRow fault
+
+none_cases : (contents : List ℕ) (bad : BadStore) → IsNoBase contents bad → ((bad ≡ Spelling) × IsNoBase contents Spelling) ⊎ OfRows contents bad
+none_cases contents Spelling none = inl (refl, none)
+none_cases contents (BadRow fault) none = inr (record { fault = fault; state = none.0; rows = none.1; spelled = none.2; least = none.3; is = refl })
+none_cases contents (Magic side) none = absurd none
+none_cases contents (SameEpoch epoch) none = absurd none
+none_cases contents (Short side at) none = absurd none
+none_cases contents (Seal page) none = absurd none
+none_cases contents (BadPayload number) none = absurd none
+none_cases contents (BadEdit number) none = absurd none
+
+-- they have one fault
+pub none_once : (contents : List ℕ) (a b : BadStore) → IsNoBase contents a → IsNoBase contents b → a ≡ b
+none_once contents a b p q = both (none_cases contents a p) (none_cases contents b q)
+  where
+    both : ((a ≡ Spelling) × IsNoBase contents Spelling) ⊎ OfRows contents a → ((b ≡ Spelling) × IsNoBase contents Spelling) ⊎ OfRows contents b → a ≡ b
+    both (inl x) (inl y) = x.0 ∙ sym y.0
+    both (inl x) (inr y) = absurd (x.1 y.state y.rows y.spelled)
+    both (inr x) (inl y) = absurd (y.1 x.state x.rows x.spelled)
+    both (inr x) (inr y) =
+        let same = one_spelled contents x.state y.state x.rows y.rows x.spelled y.spelled in
+        let least : IsFirstFault y.state y.rows (Some x.fault) = subst (λ (p : State × RowMap). IsLeastFault p.0 p.1 x.fault) (λ i. (same.0 i, same.1 i)) x.least in
+        x.is ∙ ap (λ (fault : RowFault). BadRow fault) (same_Some x.fault y.fault (one_first_fault y.state y.rows (Some x.fault) (Some y.fault) least y.least)) ∙ sym y.is
 
 -- an image and its zeros are the contents of a base
 zeros_all : (n : ℕ) → All (λ (byte : ℕ). byte ≡ 0) (replicate n 0)
@@ -47,17 +106,14 @@ zeros_long : (n : ℕ) → length {A = ℕ} (replicate n 0) ≡ n
 zeros_long zero = refl
 zeros_long (suc n) = omega (arith, zeros_long n)
 
-pub image_base : (image : List ℕ) (s : State) (rows : RowMap) → IsImage image s rows → IsBaseOf (contents_for image) s
+pub image_base : (image : List ℕ) (s : State) (rows : RowMap) → IsImage image s rows → IsBase content_size (contents_for image) s rows
 image_base image s rows h = record {
-  rows = rows;
-  spelled = record {
-    image = image;
-    rest = replicate (4064 * pages_needed (length image) - length image) 0;
-    spelled = h;
-    zeros = zeros_all (4064 * pages_needed (length image) - length image);
-    few = omega (arith, zeros_long (4064 * pages_needed (length image) - length image));
-    is = refl;
-  };
+  image = image;
+  rest = replicate (4064 * pages_needed (length image) - length image) 0;
+  spelled = h;
+  zeros = zeros_all (4064 * pages_needed (length image) - length image);
+  few = omega (arith, zeros_long (4064 * pages_needed (length image) - length image));
+  is = refl;
 }
 
 -- the image at the front of contents is of bytes
@@ -89,21 +145,25 @@ front_bytes contents image each front =
 
 -- the contents are those of a base, or of none
 abbrev pub Decided : List ℕ → Type 0
-Decided contents = ((s : State) × IsBaseOf contents s) ⊎ ((s : State) → IsBaseOf contents s → ⊥)
+Decided contents = ((s : State) × IsBaseOf contents s) ⊎ ((bad : BadStore) × IsNoBase contents bad)
+
+by_rows : (contents : List ℕ) (s : State) (rows : RowMap) → IsBase content_size contents s rows → (first : Option RowFault) → IsFirstFault s rows first → Decided contents
+by_rows contents s rows x None stand = inl (s, subst (λ (r : RowMap). IsBase content_size contents s r) (standing_rows s rows stand x.spelled.sound.options.depth) x)
+by_rows contents s rows x (Some fault) least = inr (BadRow fault, (s, rows, x, least))
 
 module _ (contents : List ℕ) (each : All (λ byte. byte < 256) contents) (image : List ℕ) (front : padded_front content_size contents ≡ Some image) where
   -- a base has this image
-  its_image : (s : State) (base : IsBaseOf contents s) → IsImage image s base.rows
-  its_image s base = subst (λ (l : List ℕ). IsImage l s base.rows) (same_Some base.spelled.image image (sym (base_front content_size contents s base.rows base.spelled) ∙ front)) base.spelled.spelled
+  its_image : (s : State) (rows : RowMap) (base : IsBase content_size contents s rows) → IsImage image s rows
+  its_image s rows base = subst (λ (l : List ℕ). IsImage l s rows) (same_Some base.image image (sym (base_front content_size contents s rows base) ∙ front)) base.spelled
 
   by_limits : (d : Stored) (i : Image) → image_of image ≡ Some d → IsMadeOf d i → (few : Bool) → is_within i ≡ few → Decided contents
   by_limits d i read made true few =
       let is : IsImage image (state_of i) i.rows = found image d i (at_each image (front_bytes contents image each (front_parts contents image (at_each contents each) front))) read made few in
-      inl (state_of i, record { rows = i.rows; spelled = base_from content_size contents image (state_of i) i.rows (at_each contents each) front is })
-  by_limits d i read made false many = inr (λ s base. too_much image d i read made many s base.rows (its_image s base))
+      by_rows contents (state_of i) i.rows (base_from content_size contents image (state_of i) i.rows (at_each contents each) front is) (first_fault (state_of i) i.rows) (first_fault_is (state_of i) i.rows)
+  by_limits d i read made false many = inr (Spelling, λ s rows base. too_much image d i read made many s rows (its_image s rows base))
 
   by_parts : (o : Option Stored) → image_of image ≡ o → Decided contents
-  by_parts None read = inr (λ s base. nothing image read s base.rows (its_image s base))
+  by_parts None read = inr (Spelling, λ s rows base. nothing image read s rows (its_image s rows base))
   by_parts (Some d) read =
       let i : Image = record { table = with_keys finmap.empty d.keys; trusts = with_entries finmap.empty d.entries; date = d.date; options = d.options; rows = with_rows finmap.empty d.rows } in
       by_limits d i read (record { table = refl; trusts = refl; date = refl; options = refl; rows = refl }) (is_within i) refl
@@ -112,7 +172,7 @@ pub some_base : (contents : List ℕ) → All (λ byte. byte < 256) contents →
 some_base contents each = by_front (padded_front content_size contents) refl
   where
     by_front : (o : Option (List ℕ)) → padded_front content_size contents ≡ o → Decided contents
-    by_front None none = inr (λ s base. no_front content_size contents none s base.rows base.spelled)
+    by_front None none = inr (Spelling, λ s rows base. no_front content_size contents none s rows base)
     by_front (Some image) front = by_parts contents each image front (image_of image) refl
 
 -- the image of the opening state has 36 bytes, which are one page

@@ -16,16 +16,19 @@ use Rattle.wot_site.proofs.Works.{works_weaker, works_start}
 use Rattle.wot_journal.specs.Record.{most, open_gate}
 use Rattle.wot_types.specs.Candidates.{RowMap}
 use Rattle.wot_types.specs.Image.{IsBase}
-use Rattle.wot_pages.specs.Page.{content_size, page_place, pages_needed}
+use Rattle.wot_types.specs.Levels.{rows_of}
+use Rattle.wot_types.specs.PagePlaces.{content_size, page_place, pages_needed}
 use Rattle.wot_pages.specs.Pages.{contents_for, contents_of}
 use Rattle.wot_pages.specs.Reading.{FindsFault, ReadsPages}
+use Rattle.wot_check.specs.declared.fault.RowFault.{RowFault}
+use Rattle.wot_check.specs.Stored.{IsLeastFault}
 use Rattle.wot_store.specs.declared.error.BadStore.{BadStore}
-use Rattle.wot_store.specs.declared.error.BadStore.TheVariants.{Seal, Spelling}
+use Rattle.wot_store.specs.declared.error.BadStore.TheVariants.{Seal, Spelling, Row}
 use Rattle.wot_store.specs.declared.header.Header.{Header}
 use Rattle.wot_store.specs.declared.opening.Sizes.{Sizes}
 use Rattle.wot_store.specs.declared.pair.Headers.{Headers}
 use Rattle.wot_store.specs.declared.place.Place.{Place}
-use Rattle.wot_store.specs.Base.{IsBlank, base_fault, bytes_of, has_closed_gate, header_in, header_of, headers_fault, other_side, shown_side}
+use Rattle.wot_store.specs.Base.{IsBlank, IsNoBase, base_fault, bytes_of, has_closed_gate, header_in, header_of, headers_fault, other_side, shown_side}
 use Rattle.wot_store.specs.Journal.{Ends, Fails, FailsAt, Replays}
 use Rattle.wot_store.specs.Shows.{FailsBase, IsBad, IsStored, Shows, ShowsBase, all_settled, new_store}
 use Rattle.wot_store.specs.Writing.{Becomes, IsWriting, Writing, base_bytes}
@@ -210,7 +213,7 @@ module _ (side : Side) (header : Header) (base : State) (x y z : Seen) (read : R
 pub lacks_base : (side : Side) (header : Header) (bad : BadStore) (x y : Seen) → LacksBase side header bad x y → FailsBy side header bad x y
 lacks_base side header bad x y lacks = record { stays = lacks.stays; first = either (base_fault side (disk_of side x.disks).reads header) lacks.first }
   where
-    either : (first : Option BadStore) → MatchOption first ((bad ≡ Spelling) × ((base : State) → IsBaseOf (contents_of header.pages (disk_of side x.disks).reads) base → ⊥)) (λ found. bad ≡ found)
+    either : (first : Option BadStore) → MatchOption first (IsNoBase (contents_of header.pages (disk_of side x.disks).reads) bad) (λ found. bad ≡ found)
         → MatchOption first (FailsBase side (disk_of side x.disks).reads header bad) (λ found. bad ≡ found)
     either None h = inl h
     either (Some found) h = h
@@ -253,15 +256,24 @@ module _ (side : Side) (header : Header) (size : ℕ) (contents : List ℕ) (x y
   whole_pages : base_fault side (disk_of side x.disks).reads header ≡ None
   whole_pages = fitting side (disk_of side x.disks).reads header (omega (arith, long, fits)) ∙ ap (λ (o : Option ℕ). option_map Seal o) read.whole
 
-  pub reads_base : (state : State) (rows : RowMap) → IsBase content_size contents state rows → ReadsBase side header state x y
-  reads_base state rows spelled = record {
+  these_spell : (state : State) (rows : RowMap) → IsBase content_size contents state rows → IsBase content_size (contents_of header.pages (disk_of side x.disks).reads) state rows
+  these_spell state rows spelled = subst (λ (l : List ℕ). IsBase content_size l state rows) read.these spelled
+
+  pub reads_base : (state : State) (rows : RowMap) → IsBase content_size contents state rows → rows ≡ rows_of state → ReadsBase side header state x y
+  reads_base state rows spelled stand = record {
     stays = read.stays;
     sound = whole_pages;
-    is_base = record { rows = rows; spelled = subst (λ (l : List ℕ). IsBase content_size l state rows) read.these spelled };
+    is_base = subst (λ (r : RowMap). IsBase content_size (contents_of header.pages (disk_of side x.disks).reads) state r) stand (these_spell state rows spelled);
   }
 
   pub lacks_image : ((s : State) (rows : RowMap) → IsBase content_size contents s rows → ⊥) → LacksBase side header Spelling x y
   lacks_image none = record {
     stays = read.stays;
-    first = rw whole_pages (refl, λ s base. none s base.rows (subst (λ (l : List ℕ). IsBase content_size l s base.rows) (sym read.these) base.spelled));
+    first = rw whole_pages (λ s rows base. none s rows (subst (λ (l : List ℕ). IsBase content_size l s rows) (sym read.these) base));
+  }
+
+  pub lacks_rows : (state : State) (rows : RowMap) (fault : RowFault) → IsBase content_size contents state rows → IsLeastFault state rows fault → LacksBase side header (Row fault) x y
+  lacks_rows state rows fault spelled least = record {
+    stays = read.stays;
+    first = rw whole_pages (state, rows, these_spell state rows spelled, least);
   }

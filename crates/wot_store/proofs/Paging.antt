@@ -3,7 +3,7 @@ use Rattle.std.proofs.Common.{ℕ, zero, suc, ◌+◌, List, drop}
 use Rattle.std.specs.Prelude.{All, flat_map}
 use Rattle.std.specs.List.{range_with_len}
 use Rattle.std.proofs.lemmas.List.Elements.{All-nil, All-append, All-take, All-drop}
-use Rattle.wot_pages.specs.Page.{page_place}
+use Rattle.wot_types.specs.PagePlaces.{page_place}
 use Rattle.wot_pages.specs.Pages.{content_at, contents_of, page_at}
 
 -- the contents of bytes are bytes

@@ -6,7 +6,7 @@ use Rattle.wot_types.specs.State.{State}
 use Rattle.wot_store.specs.Base.{IsBaseOf}
 use Rattle.wot_site.specs.declared.side.Side.{Side}
 use Rattle.wot_journal.specs.Record.{IsClosed, most, open_gate}
-use Rattle.wot_pages.specs.Page.{page_place, pages_needed}
+use Rattle.wot_types.specs.PagePlaces.{page_place, pages_needed}
 use Rattle.wot_pages.specs.Pages.{HasPages, contents_for, pages_for}
 use Rattle.wot_store.specs.declared.header.Header.{Header}
 use Rattle.wot_store.specs.Base.{header_of}

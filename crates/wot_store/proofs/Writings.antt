@@ -15,7 +15,7 @@ use Rattle.wot_site.proofs.Works.{works_start, works_then, works_weaker}
 use Rattle.wot_journal.specs.Record.{IsClosed, open_gate}
 use Rattle.wot_journal.specs.Commit.{Puts, PutsNot, IsEnd}
 use Rattle.wot_journal.proofs.Commits.{puts_work, puts_not_work}
-use Rattle.wot_pages.specs.Page.{page_place, pages_needed}
+use Rattle.wot_types.specs.PagePlaces.{page_place, pages_needed}
 use Rattle.wot_pages.specs.Pages.{pages_for}
 use Rattle.wot_pages.specs.Writing.{FillsPages, IsShut, WritesPages}
 use Rattle.wot_store.specs.Base.{IsBlank, header_tail}

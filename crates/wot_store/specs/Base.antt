@@ -8,14 +8,15 @@ use Rattle.wot_site.specs.declared.side.Side.{Side}
 use Rattle.wot_site.specs.declared.side.Side.TheVariants.{Zero, One}
 use Rattle.wot_journal.specs.Record.{open_gate, most}
 use Rattle.wot_types.specs.Candidates.{RowMap}
-use Rattle.wot_types.specs.Image.{IsBase, image_bytes}
+use Rattle.wot_types.specs.Image.{IsBase}
 use Rattle.wot_types.specs.Levels.{rows_of}
 use Rattle.wot_types.specs.State.{State}
-use Rattle.wot_pages.specs.Page.{content_size, page_place}
+use Rattle.wot_types.specs.PagePlaces.{content_size, page_place}
 use Rattle.wot_pages.specs.Pages.{seal_fault}
+use Rattle.wot_check.specs.Stored.{IsLeastFault}
 use Rattle.wot_store.specs.declared.header.Header.{Header}
 use Rattle.wot_store.specs.declared.error.BadStore.{BadStore}
-use Rattle.wot_store.specs.declared.error.BadStore.TheVariants.{Magic, SameEpoch, Short, Seal}
+use Rattle.wot_store.specs.declared.error.BadStore.TheVariants.{Magic, SameEpoch, Short, Seal, Spelling, Row}
 
 abbrev pub magic : List ℕ
 magic = codes "WOTBASE"
@@ -77,11 +78,12 @@ abbrev pub base_fault : Side → List ℕ → Header → Option BadStore
 base_fault side bytes header =
     if nat_lt (page_place header.pages) (min (length bytes) most) then option_map Seal (seal_fault header.epoch header.pages bytes) else Some (Short side 24)
 
--- the contents of a base: an image of this state, with whatever rows, and fewer bytes 00 than a page has
-pub record IsBaseOf (contents : List ℕ) (s : State) : Type 0 where
-  pub rows : RowMap
-  pub spelled : IsBase content_size contents s rows
+-- the contents of a base: an image of this state with its rows, and fewer bytes 00 than a page has
+abbrev pub IsBaseOf : List ℕ → State → Type 0
+IsBaseOf contents s = IsBase content_size contents s (rows_of s)
 
--- how many bytes the image of a state has, with the rows of the state
-abbrev pub image_length : State → ℕ
-image_length s = length (image_bytes s (rows_of s))
+-- contents that are no base: they spell no state with rows, or one whose rows don't all stand; the fault is that of the least key whose row doesn't
+abbrev pub IsNoBase : List ℕ → BadStore → Type 0
+IsNoBase contents Spelling = (s : State) (rows : RowMap) → IsBase content_size contents s rows → ⊥
+IsNoBase contents (Row fault) = (s : State) × (rows : RowMap) × IsBase content_size contents s rows × IsLeastFault s rows fault
+IsNoBase contents bad = ⊥

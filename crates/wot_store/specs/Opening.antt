@@ -7,14 +7,13 @@ use Rattle.wot_site.specs.declared.side.Side.{Side}
 use Rattle.wot_pages.specs.Pages.{contents_of}
 use Rattle.wot_types.specs.State.{State}
 use Rattle.wot_store.specs.declared.header.Header.{Header}
-use Rattle.wot_store.specs.Base.{IsBaseOf, IsBlank, base_fault, header_of, headers_fault, shown_side}
+use Rattle.wot_store.specs.Base.{IsBaseOf, IsBlank, IsNoBase, base_fault, header_of, headers_fault, shown_side}
 use Rattle.wot_store.specs.declared.opening.Opened.{Opened}
 use Rattle.wot_store.specs.declared.opening.Sizes.{Sizes}
 use Rattle.wot_store.specs.declared.pair.Headers.{Headers}
 use Rattle.wot_store.specs.declared.place.Place.{Place}
 use Rattle.wot_store.specs.declared.error.BadStore.{BadStore}
 use Rattle.wot_types.specs.Store.{Store}
-use Rattle.wot_store.specs.declared.error.BadStore.TheVariants.{Spelling}
 use Rattle.wot_store.specs.Shows.{Shows, ShowsBase, FailsBase, IsBad, ShowsAs, IsStored, all_settled}
 
 -- a side has so many bytes: those of both
@@ -129,8 +128,7 @@ pub record ReadsBase (side : Side) (header : Header) (base : State) (old new : S
 -- the side has no base: it has this fault first, and nothing was changed
 pub record LacksBase (side : Side) (header : Header) (bad : BadStore) (old new : Seen) : Type 0 where
   pub stays : new ≡ old
-  pub first : MatchOption (base_fault side (disk_of side old.disks).reads header)
-      ((bad ≡ Spelling) × ((base : State) → IsBaseOf (contents_of header.pages (disk_of side old.disks).reads) base → ⊥)) (λ first. bad ≡ first)
+  pub first : MatchOption (base_fault side (disk_of side old.disks).reads header) (IsNoBase (contents_of header.pages (disk_of side old.disks).reads) bad) (λ first. bad ≡ first)
 
 -- the base and the journal of a side were read, and nothing was changed
 pub record Resumes (side : Side) (header : Header) (state : State) (end : ℕ) (old new : Seen) : Type 0 where

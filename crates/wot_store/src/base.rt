@@ -1,21 +1,22 @@
 //! The base of the shown side, and the journal behind it.
 
-ghost use Rattle.std.specs.Prelude.{◌≡◌, ◌<◌, length, min, nat_lt, if◌then◌else◌, Some, None, IfOk, OnErr, IsErrOf};
+ghost use Rattle.std.specs.Prelude.{◌≡◌, ◌<◌, ◌≤◌, length, min, nat_lt, if◌then◌else◌, Some, None, IfOk, OnErr, IsErrOf};
 ghost use Rattle.wot_site.specs.Disk.{disk_of};
 ghost use Rattle.wot_site.specs.Seen.{Honestly, IfHonest};
 ghost use Rattle.wot_site.specs.Site.{Stays, Rose, NoneFell};
 ghost use Rattle.wot_site.specs.Gate.{most};
-ghost use Rattle.wot_types.specs.Payload.{IsInRange};
 ghost use Rattle.wot_types.specs.WellFormedState.{IsWellFormedState};
-ghost use Rattle.wot_image.specs.States.{state_of};
-ghost use Rattle.wot_pages.specs.Page.{page_place};
+ghost use Rattle.wot_types.specs.PagePlaces.{page_place};
 ghost use Rattle.wot_store.specs.Opening.{ReadsBase, LacksBase, Resumes, FailsBy};
 
 use crate::error::{BadStore, StoreError};
 use crate::header::Header;
 use crate::replay::replay;
+use crate::rows::take_rows;
 use std::alloc::Global;
-use wot_image::{Image, read_base};
+use std::thread::Threads;
+use wot_check::Gate;
+use wot_image::read_base;
 use wot_live::{Engine, Parts};
 use wot_pages::{CONTENT, FIRST, PAGE, PagesError, read_pages};
 use wot_site::{MOST, Side, Site};
@@ -32,22 +33,18 @@ fn journal_start(pages: u64, size: u64) -> Option<u64>
     Some(FIRST + PAGE as u64 * pages)
 }
 
-// The parts of a base. Its rows are dropped, so all is to be counted.
-fn base_parts(image: Image) -> Result<Parts, Mem>
-    requires ranges { IsInRange image.options }
-    ensures { IfOk result (λ parts. parts ≡ state_of image) }
-{
-    Parts::of(image.table, image.trusts, image.date, image.options)
-}
-
 // Reads the base of a side that has so many bytes, and answers the place behind it.
-fn load_base<S: Site>(
+fn load_base<R: Threads + Sync, S: Site, G: Gate + Sync>(
+    rt: &R,
     alloc: Global,
     site: &mut S,
     side: Side,
     header: Header,
     size: u64,
+    workers: u32,
+    gate: &G,
 ) -> Result<(Parts, u64), StoreError>
+    requires workers { (1 ≤ workers) × (workers ≤ 64) }
     requires size { IfHonest (S.seen site.old) (λ s. size ≡ length (disk_of side s.disks).reads) }
     ensures sound { IfOk result (λ r. IsWellFormedState r.0) }
     ensures base { IfOk result (λ r. Honestly (S.seen site.old) (S.seen site.new) (ReadsBase side header r.0)) }
@@ -69,24 +66,28 @@ fn load_base<S: Site>(
         Err(PagesError::Memory) => return Err(StoreError::Memory),
     };
     match read_base(alloc, &contents, CONTENT) {
-        Ok(Some(image)) => match base_parts(image) {
+        Ok(Some(image)) => match take_rows(rt, alloc, image, workers, gate) {
             Ok(parts) => Ok((parts, start)),
-            Err(Mem::Memory) => Err(StoreError::Memory),
+            Err(e) => Err(e),
         },
         Ok(None) => Err(StoreError::Bad(BadStore::Spelling)),
         Err(Mem::Memory) => Err(StoreError::Memory),
     }
 }
 
-/// Makes the edits of the records of a side that has so many bytes in the state of its base, and counts once, after the
-/// last; it answers the end of the journal too.
-pub fn resume<S: Site>(
+/// Makes the edits of the records of a side that has so many bytes in the state of its base, and counts what they touch once,
+/// after the last; it answers the end of the journal too. The base's rows are taken where all stand.
+pub fn resume<R: Threads + Sync, S: Site, G: Gate + Sync>(
+    rt: &R,
     alloc: Global,
     site: &mut S,
     side: Side,
     header: Header,
     size: u64,
+    workers: u32,
+    gate: &G,
 ) -> Result<(Engine, u64), StoreError>
+    requires workers { (1 ≤ workers) × (workers ≤ 64) }
     requires size { IfHonest (S.seen site.old) (λ s. size ≡ length (disk_of side s.disks).reads) }
     ensures sound { IfOk result (λ r. IsWellFormedState r.0) }
     ensures resumed { IfOk result (λ r. Honestly (S.seen site.old) (S.seen site.new) (Resumes side header r.0 r.1)) }
@@ -96,7 +97,7 @@ pub fn resume<S: Site>(
     ensures counts { NoneFell (S.faults site.old) (S.faults site.new) }
     ensures quiet { (IsErrOf result StoreError.DiskFault → ⊥) → S.faults site.new ≡ S.faults site.old }
 {
-    let (base, start) = match load_base(alloc, site, side, header, size) {
+    let (base, start) = match load_base(rt, alloc, site, side, header, size, workers, gate) {
         Ok(loaded) => loaded,
         Err(e) => return Err(e),
     };

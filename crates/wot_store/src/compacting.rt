@@ -1,6 +1,6 @@
 //! Writing the state anew on the other side.
 
-ghost use Rattle.std.specs.Prelude.{◌≡◌, ◌-◌, ◌^◌, Ok, IfOk, OnOk, IsErrOf};
+ghost use Rattle.std.specs.Prelude.{◌≡◌, Ok, IfOk, OnOk, IsErrOf};
 ghost use Rattle.wot_site.specs.Seen.{Honestly, IfHonest};
 ghost use Rattle.wot_site.specs.Site.{NoneFell, Rose, Stays};
 ghost use Rattle.wot_site.specs.Work.{Works};
@@ -8,7 +8,8 @@ ghost use Rattle.wot_types.specs.WellFormedState.{IsWellFormedState};
 ghost use Rattle.wot_types.specs.Store.{Store};
 ghost use Rattle.wot_store.specs.Base.{other_side};
 ghost use Rattle.wot_store.specs.Appending.{Appending, Appends};
-ghost use Rattle.wot_store.specs.Compacting.{IsCompactable, compacted_place, compacted_store, last_epoch};
+ghost use Rattle.wot_types.specs.Compaction.{compacted_store, last_epoch};
+ghost use Rattle.wot_store.specs.Compacting.{IsCompactable, compacted_place};
 ghost use Rattle.wot_store.specs.Shows.{IsStored};
 ghost use Rattle.wot_store.specs.Written.{Spares};
 

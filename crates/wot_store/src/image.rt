@@ -3,7 +3,8 @@
 ghost use Rattle.std.specs.Prelude.{◌≡◌, ◌<◌, ◌^◌, length, IfOk};
 ghost use Rattle.wot_types.specs.WellFormedState.{IsWellFormedState};
 ghost use Rattle.wot_pages.specs.Pages.{contents_for};
-ghost use Rattle.wot_store.specs.Base.{IsBaseOf, image_length};
+ghost use Rattle.wot_types.specs.Compaction.{image_length};
+ghost use Rattle.wot_store.specs.Base.{IsBaseOf};
 
 use std::alloc::Global;
 use wot_image::spell;

@@ -1,6 +1,6 @@
 //! Opening a store.
 
-ghost use Rattle.std.specs.Prelude.{◌≡◌, ◌&&◌, ◌<◌, is_none, nat_le, length, IfOk, OnErr, IsErrOf, None};
+ghost use Rattle.std.specs.Prelude.{◌≡◌, ◌&&◌, ◌<◌, ◌≤◌, is_none, nat_le, length, IfOk, OnErr, IsErrOf, None};
 ghost use Rattle.wot_site.specs.Seen.{Honestly, IfHonest};
 ghost use Rattle.wot_site.specs.Site.{HasCause, disk_faults, Rose, NoneFell, Stays};
 ghost use Rattle.wot_site.specs.Disk.{disk_of};
@@ -19,6 +19,8 @@ use crate::pair::{Headers, headers_fault, shown_side};
 use crate::place::Place;
 use crate::writing::write_side;
 use std::alloc::Global;
+use std::thread::Threads;
+use wot_check::Gate;
 use wot_live::Engine;
 use wot_site::{DiskFault, Failed, RangeError, Side, Site, read_range};
 use wot_types::Mem;
@@ -156,14 +158,18 @@ fn create<S: Site>(alloc: Global, site: &mut S, sizes: Sizes) -> Result<Opened, 
 }
 
 // Opens the shown side. Beside it the other one has this header and size.
-fn open_shown<S: Site>(
+fn open_shown<R: Threads + Sync, S: Site, G: Gate + Sync>(
+    rt: &R,
     alloc: Global,
     site: &mut S,
     headers: Headers,
     sizes: Sizes,
     side: Side,
     header: Header,
+    workers: u32,
+    gate: &G,
 ) -> Result<Opened, StoreError>
+    requires workers { (1 ≤ workers) × (workers ≤ 64) }
     requires shown { IfHonest (S.seen site.old) (λ s. IsShownBy headers sizes side header s.disks) }
     ensures sound { IfOk result (λ o. IsWellFormedState o.engine) }
     ensures opened { IfOk result (λ o. Honestly (S.seen site.old) (S.seen site.new) (Opens o.place (shown_of o))) }
@@ -177,7 +183,7 @@ fn open_shown<S: Site>(
         Side::Zero => (sizes.zero, has_closed_gate(headers.one, sizes.one)),
         Side::One => (sizes.one, has_closed_gate(headers.zero, sizes.zero)),
     };
-    match resume(alloc, site, side, header, size) {
+    match resume(rt, alloc, site, side, header, size, workers, gate) {
         Ok((engine, end)) => Ok(Opened {
             engine,
             place: Place {
@@ -192,8 +198,16 @@ fn open_shown<S: Site>(
 }
 
 /// Opens the store, and writes side Zero as a first one where both sides are blank. Both sides are synced first. All memory for a first
-/// side is taken before it is written.
-pub fn open_store<S: Site>(alloc: Global, site: &mut S) -> Result<Opened, StoreError>
+/// side is taken before it is written. The rows of the base are checked by so many workers, each of which calls the gate first;
+/// the answer is the same for every gate and every number of workers.
+pub fn open_store<R: Threads + Sync, S: Site, G: Gate + Sync>(
+    rt: &R,
+    alloc: Global,
+    site: &mut S,
+    workers: u32,
+    gate: &G,
+) -> Result<Opened, StoreError>
+    requires workers { (1 ≤ workers) × (workers ≤ 64) }
     ensures sound { IfOk result (λ o. IsWellFormedState o.engine) }
     ensures opened { IfOk result (λ o. Honestly (S.seen site.old) (S.seen site.new) (Opens o.place (shown_of o))) }
     ensures bad { (b : _) → IsErrOf result (StoreError.Bad b) → Honestly (S.seen site.old) (S.seen site.new) (FindsBad b) }
@@ -217,6 +231,8 @@ pub fn open_store<S: Site>(alloc: Global, site: &mut S) -> Result<Opened, StoreE
     }
     match shown_side(headers) {
         None => create(alloc, site, sizes),
-        Some((side, header)) => open_shown(alloc, site, headers, sizes, side, header),
+        Some((side, header)) => open_shown(
+            rt, alloc, site, headers, sizes, side, header, workers, gate,
+        ),
     }
 }

@@ -6,7 +6,7 @@ ghost use Rattle.wot_site.specs.Seen.{Honestly, IfHonest};
 ghost use Rattle.wot_site.specs.Site.{HasCause, disk_faults};
 ghost use Rattle.wot_journal.specs.Commit.{IsEnd};
 ghost use Rattle.wot_site.specs.Gate.{most};
-ghost use Rattle.wot_pages.specs.Page.{page_place, pages_needed};
+ghost use Rattle.wot_types.specs.PagePlaces.{page_place, pages_needed};
 ghost use Rattle.wot_store.specs.Base.{header_tail};
 ghost use Rattle.wot_store.specs.Writing.{Becomes, IsKnown, ClosingGate, Filling, OpeningGate, Writing, closed_bytes, with_base, with_open_gate, base_bytes};
 

@@ -1,5 +1,5 @@
 use Rattle.wot_site.proofs.Honest.{honest_then, honest_weaker}
-use Rattle.wot_pages.specs.Page.{page_place}
+use Rattle.wot_types.specs.PagePlaces.{page_place}
 use Rattle.wot_store.specs.declared.error.StoreError.TheVariants as StoreError
 use Rattle.wot_store.specs.Journal.{FailsAt, Replays}
 use Rattle.wot_store.specs.Opening.{FailsBy, LacksBase, ReadsBase, Resumes}

@@ -1,24 +1,28 @@
 use Rattle.std.proofs.Common.{◌≡◌, ◌+◌, ◌<◌, ap, arith, length, sym, subst, ◌∙◌}
 use Rattle.wot_types.specs.State.{State}
-use Rattle.wot_store.specs.Base.{IsBaseOf, image_length}
+use Rattle.wot_types.specs.Compaction.{compacted_store, image_length}
+use Rattle.wot_store.specs.Base.{IsBaseOf}
 use Rattle.wot_site.specs.Seen.{Seen}
 use Rattle.wot_site.specs.Work.{Works}
 use Rattle.wot_site.proofs.Honest.{honest_weaker, honest_with}
 use Rattle.wot_journal.specs.Record.{most}
-use Rattle.wot_pages.specs.Page.{page_place, pages_needed}
+use Rattle.wot_types.specs.PagePlaces.{page_place, pages_needed}
 use Rattle.wot_pages.specs.Pages.{contents_for}
 use Rattle.wot_store.specs.Appending.{Appending, Appends}
 use Rattle.wot_store.specs.Base.{other_side}
-use Rattle.wot_store.specs.Compacting.{compacted_place, compacted_store}
+use Rattle.wot_store.specs.Compacting.{compacted_place}
 use Rattle.wot_store.specs.Shows.{IsStored}
 use Rattle.wot_store.specs.Written.{Spares}
 use Rattle.wot_store.specs.Writing.{Becomes, Writing, base_bytes}
-use Rattle.wot_store.proofs.Compactings.{compact_done, compact_moments, place_next, still_compacting, still_stored}
+use Rattle.wot_store.proofs.Compactings.{compact_done, compact_moments, place_next, still_compacted, still_compacting, still_stored}
 use Rattle.wot_store.proofs.Written.{other_writes, still_spares}
 use Rattle.wot_store.proofs.compacting.compact.Goals as goal
 
 pub returns-then-place-eq18446744073709551615-clause-any_moment : goal.returns-then-place-eq18446744073709551615-clause-any_moment
 returns-then-place-eq18446744073709551615-clause-any_moment g c shown is stored = still_compacting c.args.place shown c.if-place-eq18446744073709551615.true _ stored
+
+pub returns-then-place-eq18446744073709551615-clause-compacted : goal.returns-then-place-eq18446744073709551615-clause-compacted
+returns-then-place-eq18446744073709551615-clause-compacted g c shown is stored = still_compacted c.args.place shown c.if-place-eq18446744073709551615.true c.args.engine.now _ stored
 
 pub returns-in-Err-Memory-clause-any_moment : goal.returns-in-Err-Memory-clause-any_moment
 returns-in-Err-Memory-clause-any_moment g c shown is stored = still_stored c.args.place shown (compacted_store shown) _ stored

@@ -5,7 +5,7 @@ use Rattle.wot_site.specs.Site.{Writes, WritesOrNot, Syncs, Stays}
 use Rattle.wot_site.specs.Work.{Works}
 use Rattle.wot_site.proofs.Honest.{Then, honest_after, honest_with, honest_with_then, honest_joined}
 use Rattle.wot_journal.specs.Commit.{IsEnd}
-use Rattle.wot_pages.specs.Page.{page_place, pages_needed}
+use Rattle.wot_types.specs.PagePlaces.{page_place, pages_needed}
 use Rattle.wot_pages.specs.Writing.{FillsPages, WritesPages}
 use Rattle.wot_store.specs.Base.{header_tail}
 use Rattle.wot_store.specs.Writing.{Becomes, Filling, with_base}
