@@ -34,6 +34,8 @@ by_name (Some named.List) words head opens is = cc
 by_name (Some named.Sigs) words head opens is = cc
 by_name (Some named.Export) words head opens is = cc
 by_name (Some named.Why) words head opens is = cc
+by_name (Some named.Check) words head opens is = cc
+by_name (Some named.Compact) words head opens is = cc
 by_name (Some named.Quit) words head opens is = cc
 
 pub block_head : (words : List (List ℕ)) (head : Head) → has_block words ≡ true → command_of words ≡ Ok head → (head ≡ Import) ⊎ (head ≡ Ownertrust)

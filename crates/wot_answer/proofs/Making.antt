@@ -1,8 +1,9 @@
 -- An edit that was made, or refused.
-use Rattle.std.proofs.Common.{◌≡◌, ℕ, ◌+◌, ◌-◌, ◌<◌, ◌≤◌, ◌^◌, arith, length, Bool, true, false, List, if◌then◌else◌, Option, Some, None, refl, sym, ap, ◌∙◌, subst}
-use Rattle.std.specs.Prelude.{nat_lt, option_map}
+use Rattle.std.proofs.Common.{◌≡◌, ℕ, ◌+◌, ◌-◌, ◌<◌, ◌≤◌, ◌^◌, arith, length, Bool, true, false, List, if◌then◌else◌, Option, Some, None, Result, refl, sym, ap, ◌∙◌, subst}
+use Rattle.std.specs.Prelude.{nat_lt, option_map, IfOk}
 use Rattle.std.specs.Option.{option_or}
 use Rattle.std.proofs.lemmas.Bool.Decides.{nat_tests}
+use Rattle.std.proofs.lemmas.Result.{IfOk-weaker}
 use Rattle.wot_types.specs.declared.edit.Edit.{Edit}
 use Rattle.wot_types.specs.declared.limit.Limit.TheVariants.{Record}
 use Rattle.wot_types.specs.declared.refusal.Refusal.{Refusal}
@@ -14,10 +15,11 @@ use Rattle.wot_types.specs.Payload.{IsPayload, payload}
 use Rattle.wot_types.specs.Store.{Store}
 use Rattle.wot_types.specs.Store.Change.{makes}
 use Rattle.wot_types.proofs.Optionals.{both_none, map_none}
-use Rattle.wot_journal.specs.Record.{Framed}
-use Rattle.wot_answer.specs.Answer.{Does, Ends, IsReply}
+use Rattle.wot_journal.specs.Record.{Framed, most}
+use Rattle.wot_answer.specs.Answer.{Does, Ends, IsReply, reply_of}
 use Rattle.wot_answer.specs.declared.answer.Answered.{Answered}
 use Rattle.wot_answer.specs.declared.reply.Effect.TheVariants.{Append}
+use Rattle.wot_answer.proofs.Answering.{if_both}
 
 module _ (text : List ℕ) (s : Store) (edit : Edit) (old : State) (end : ℕ) (same : old ≡ s.state) (at : end ≡ s.end) where
   refusal_here : (why : Option Refusal) → refusal_of old edit ≡ why → edit_outcome text s edit ≡ unless_refused why text s edit
@@ -36,7 +38,7 @@ module _ (text : List ℕ) (s : Store) (edit : Edit) (old : State) (end : ℕ) (
 
   -- it was made
   pub edit_made : (answered : Answered) (built : Framed) → refusal_of old edit ≡ None → is_past end edit ≡ false → built.end ≡ end → IsPayload built.payload edit
-      → answered.engine ≡ state_after old edit → answered.answer.text.items ≡ text → answered.answer.refused ≡ false → answered.answer.effect ≡ Append built → Ends answered s (edit_outcome text s edit)
+      → answered.engine ≡ state_after old edit → reply_of answered.answer.reply answered.engine ≡ text → answered.answer.refused ≡ false → answered.answer.effect ≡ Append built → Ends answered s (edit_outcome text s edit)
   edit_made answered built allowed fits place payload after texts accepted effect =
       subst (Ends answered s) (sym (refusal_here None allowed ∙ room_here false fits)) (record {
         text = sym texts;
@@ -70,3 +72,12 @@ past end bytes edit is far = ap (λ p. nat_lt (2 ^ 32 - 1) (end + length p + 6))
 
 pub fits : (end : ℕ) (bytes : List ℕ) (edit : Edit) → bytes ≡ payload edit → end + length bytes + 6 ≤ 2 ^ 32 - 1 → is_past end edit ≡ false
 fits end bytes edit is near = ap (λ p. nat_lt (2 ^ 32 - 1) (end + length p + 6)) (sym is) ∙ grind (arith, nat_tests)
+
+-- the record that was built, or not, for its payload
+module _ {E : Type 0} (r : Result Framed E) (end : ℕ) (bytes : List ℕ) (edit : Edit) (spelled : IsPayload bytes edit) where
+  pub built_record : IfOk r (λ built. built ≡ record { end = end; payload = bytes }) → IfOk r (λ _. end + length bytes + 6 ≤ most)
+      → IfOk r (λ built. (built.end ≡ end) × IsPayload built.payload edit × (is_past end edit ≡ false))
+  built_record built room =
+      IfOk-weaker r _ _
+      (λ b both. (ap (λ (b : Framed). b.end) both.0, subst (λ (b : Framed). IsPayload b.payload edit) (sym both.0) spelled, fits end bytes edit spelled.is both.1))
+      (if_both _ _ r built room)

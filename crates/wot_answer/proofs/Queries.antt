@@ -1,19 +1,27 @@
 -- What is known of a query that has an answer.
-use Rattle.std.proofs.Common.{◌≡◌, ℕ, zero, suc, ◌-◌, ◌<◌, ◌≤◌, Bool, true, false, List, [], ◌∷◌, length, if◌then◌else◌, Option, Some, None, IsSome, refl, arith}
+use Rattle.std.proofs.Common.{◌≡◌, ℕ, zero, suc, ◌-◌, ◌<◌, ◌≤◌, Bool, true, false, List, [], ◌∷◌, length, if◌then◌else◌, Option, Some, None, IsSome, refl, sym, ap, subst, ◌∙◌, ◌++◌, arith}
 use Rattle.std.specs.Prelude.{nat_lt, slice_get, option_and_then}
 use Rattle.std.specs.FinMap as finmap
 use Rattle.std.specs.Option.{is_some, option_map_or}
 use Rattle.std.proofs.lemmas.Bool.Decides.{nat_tests}
-use Rattle.wot_types.specs.declared.query.Query.TheVariants.{Why}
+use Rattle.wot_types.specs.declared.query.Query.{Query}
+use Rattle.wot_types.specs.declared.query.Query.TheVariants.{List as ListAll, ListOne, Sigs, SigsOne, Export, Why, Check, Compact, Quit}
 use Rattle.wot_types.specs.declared.key.Key.{Key}
+use Rattle.wot_types.specs.declared.refusal.Refusal.{Refusal}
 use Rattle.wot_types.specs.declared.refusal.Refusal.TheVariants.{NoSuchKey, NoSuchUser}
 use Rattle.wot_types.specs.State.{State}
 use Rattle.wot_types.specs.Arrangement.{spot_at}
 use Rattle.wot_types.specs.Fingerprint.{key_id_of}
 use Rattle.wot_types.specs.Keyring.{is_fpr_of}
-use Rattle.wot_types.specs.Outcome.{query_refusal}
+use Rattle.wot_types.specs.Outcome.{answer_to, change_by, ok_line, query_outcome, query_refusal, refuse, store_after, unless_unanswered}
 use Rattle.wot_types.specs.Selection.{spots_from}
+use Rattle.wot_types.specs.Store.{Store}
 use Rattle.wot_table.proofs.Placement.{length_spots}
+use Rattle.wot_answer.specs.Answer.{Does, Ends, IsReply, effect_by, reply_of}
+use Rattle.wot_answer.specs.declared.answer.Answered.{Answered}
+use Rattle.wot_answer.specs.declared.reply.Answer.{Answer}
+use Rattle.wot_answer.specs.declared.reply.Effect.{Effect}
+use Rattle.wot_answer.specs.declared.reply.Reply.{Reply}
 
 got : {X : Type 0} (xs : List X) (i : ℕ) → i < length xs → is_some (slice_get xs i) ≡ true
 got [] i h = absurd (omega arith)
@@ -37,3 +45,43 @@ place_there (Some key) fpr place some none = by_tests (is_fpr_of fpr (Some key))
 -- the user ID that is asked for is there
 pub asked_there : (s : State) (fpr : List ℕ) (place : ℕ) → 1 ≤ place → query_refusal s (Why fpr place) ≡ None → IsSome (spot_at s.keys (key_id_of fpr) (place - 1))
 asked_there s fpr place some none = place_there (finmap.get s.keys (key_id_of fpr)) fpr place some none
+
+-- what a query does to the store: the state stays
+pub query_does : (query : Query) (s : Store) → Does (effect_by query) s (store_after (change_by query) s)
+query_does Compact s = refl
+query_does ListAll s = refl
+query_does (ListOne fpr) s = refl
+query_does Sigs s = refl
+query_does (SigsOne fpr) s = refl
+query_does Export s = refl
+query_does (Why fpr place) s = refl
+query_does Check s = refl
+query_does Quit s = refl
+
+query_keeps : (query : Query) (s : Store) → (store_after (change_by query) s).state ≡ s.state
+query_keeps Compact s = refl
+query_keeps ListAll s = refl
+query_keeps (ListOne fpr) s = refl
+query_keeps Sigs s = refl
+query_keeps (SigsOne fpr) s = refl
+query_keeps Export s = refl
+query_keeps (Why fpr place) s = refl
+query_keeps Check s = refl
+query_keeps Quit s = refl
+
+-- a query that is refused, and one that is answered with a reply of its own
+module _ (answered : Answered) (s : Store) (query : Query) (old : State) (same : old ≡ s.state) where
+  outcome_by : (why : Option Refusal) → query_refusal old query ≡ why → query_outcome s query ≡ unless_unanswered why (answer_to s.state query) (change_by query)
+  outcome_by why is = ap (λ why. unless_unanswered why (answer_to s.state query) (change_by query)) (ap (λ (state : State). query_refusal state query) (sym same) ∙ is)
+
+  pub query_refused : (why : Refusal) → query_refusal old query ≡ Some why → IsReply answered old (refuse why) → Ends answered s (query_outcome s query)
+  query_refused why is reply = subst (Ends answered s) (sym (outcome_by (Some why) is)) (reply s same)
+
+  pub query_answered : (reply : Reply) (effect : Effect) → query_refusal old query ≡ None → reply_of reply old ≡ answer_to old query ++ ok_line → effect ≡ effect_by query
+      → answered.engine ≡ old → answered.answer ≡ record { reply = reply; refused = false; effect = effect } → Ends answered s (query_outcome s query)
+  query_answered reply effect none text does engine is = subst (Ends answered s) (sym (outcome_by None none)) (record {
+    text = ap (λ (state : State). answer_to state query ++ ok_line) (sym same) ∙ sym text ∙ ap (reply_of reply) (sym engine) ∙ ap (λ (a : Answer). reply_of a.reply answered.engine) (sym is);
+    refused = ap (λ (a : Answer). a.refused) (sym is);
+    state = query_keeps query s ∙ sym same ∙ sym engine;
+    does = subst (λ effect. Does effect s (store_after (change_by query) s)) (sym (ap (λ (a : Answer). a.effect) is ∙ does)) (query_does query s);
+  })

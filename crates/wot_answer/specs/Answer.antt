@@ -1,21 +1,28 @@
 -- What a line of a session is answered with.
-use Rattle.std.specs.Prelude.{◌≡◌, Bool, false, not, ◌&&◌, ◌||◌}
+use Rattle.std.specs.Prelude.{◌≡◌, ℕ, List, ◌++◌, Bool, false, not, ◌&&◌, ◌||◌}
 use Rattle.wot_types.specs.declared.edit.Edit.{Edit}
+use Rattle.wot_types.specs.declared.query.Query.{Query}
+use Rattle.wot_types.specs.declared.query.Query.TheVariants as query
 use Rattle.wot_types.specs.State.{State}
 use Rattle.wot_types.specs.Commands as lines
 use Rattle.wot_types.specs.Commands.{Command, ReadLine, ends_block}
 use Rattle.wot_types.specs.Commands.Cut.{between, within, over}
+use Rattle.wot_types.specs.Compaction.{compacted_store}
+use Rattle.wot_types.specs.Levels.{rows_of}
 use Rattle.wot_types.specs.LineByLine.{Position, after_line, reply_to_line}
-use Rattle.wot_types.specs.Outcome.{Accepts, Outcome, store_after, edited_store}
+use Rattle.wot_types.specs.Outcome.{Accepts, Outcome, store_after, edited_store, ok_line}
 use Rattle.wot_types.specs.Payload.{IsPayload}
 use Rattle.wot_types.specs.Store.{Store}
+use Rattle.wot_types.specs.Tally.{tally_line}
 use Rattle.wot_journal.specs.Record.{Framed}
 use Rattle.wot_answer.specs.Block.{IsBlockOf}
 use Rattle.wot_answer.specs.declared.answer.Answered.{Answered}
 use Rattle.wot_answer.specs.declared.cut.Cut.{Cut}
 use Rattle.wot_answer.specs.declared.cut.Cut.TheVariants.{Between, Within, Over}
 use Rattle.wot_answer.specs.declared.reply.Effect.{Effect}
-use Rattle.wot_answer.specs.declared.reply.Effect.TheVariants.{Nothing, Append}
+use Rattle.wot_answer.specs.declared.reply.Effect.TheVariants.{Nothing, Append, Compact}
+use Rattle.wot_answer.specs.declared.reply.Reply.{Reply}
+use Rattle.wot_answer.specs.declared.reply.Reply.TheVariants.{Text, Recount}
 
 -- the lines so far leave the cut here
 abbrev pub IsCut : Cut → lines.Cut → Type 0
@@ -41,10 +48,21 @@ pub record Leads (built : Framed) (s t : Store) : Type 0 where
 abbrev pub Does : Effect → Store → Store → Type 0
 Does Nothing s t = t ≡ s
 Does (Append built) s t = Leads built s t
+Does Compact s t = t ≡ compacted_store s
+
+-- what a query does to the store
+abbrev pub effect_by : Query → Effect
+effect_by query.Compact = Compact
+effect_by _ = Nothing
+
+-- what is told in a state: a text, or the tally with all rows counted anew
+abbrev pub reply_of : Reply → State → List ℕ
+reply_of (Text text) s = text.items
+reply_of Recount s = tally_line s (rows_of s) ++ ok_line
 
 -- the answer to a command with this outcome in this store: its reply, and the state after it; the store's change is due
 pub record Ends (answered : Answered) (s : Store) (o : Outcome) : Type 0 where
-  pub text : o.text ≡ answered.answer.text.items
+  pub text : o.text ≡ reply_of answered.answer.reply answered.engine
   pub refused : o.refused ≡ answered.answer.refused
   pub state : (store_after o.change s).state ≡ answered.engine
   pub does : Does answered.answer.effect s (store_after o.change s)
@@ -55,7 +73,7 @@ IsReply answered old o = (s : Store) → old ≡ s.state → Ends answered s o
 
 -- the answer to a line where a session has come so far
 pub record Answers (answered : Answered) (p : Position) (line : ReadLine) : Type 0 where
-  pub text : reply_to_line p line ≡ answered.answer.text.items
+  pub text : reply_to_line p line ≡ reply_of answered.answer.reply answered.engine
   pub refused : (after_line p line).progress.refused ≡ (p.progress.refused || answered.answer.refused)
   pub state : (after_line p line).progress.store.state ≡ answered.engine
   pub cut : IsCut answered.cut (after_line p line).cut

@@ -1,8 +1,9 @@
 //! An edit: it is refused, or its record is built and it is made.
 
-ghost use Rattle.std.specs.Prelude.{◌≡◌, None, IfOk};
-ghost use Rattle.wot_types.specs.Outcome.{edit_outcome, state_after, refusal_of};
-ghost use Rattle.wot_types.specs.Payload.{IsProper};
+ghost use Rattle.std.specs.Prelude.{◌≡◌, ◌≤◌, length, true, false, None, IfOk, IsErrOf};
+ghost use Rattle.wot_types.specs.Limits.{most_record};
+ghost use Rattle.wot_types.specs.Outcome.{edit_outcome, is_past, state_after, refusal_of};
+ghost use Rattle.wot_types.specs.Payload.{IsPayload, IsProper, payload};
 ghost use Rattle.wot_types.specs.Store.{Store};
 ghost use Rattle.wot_answer.specs.Answer.{Ends};
 ghost use Rattle.wot_answer.specs.EditReply.{reply_text};
@@ -11,10 +12,10 @@ ghost use Rattle.wot_answer.specs.declared.cut.Cut.TheVariants.{Between};
 use crate::answer::Answered;
 use crate::cut::Cut;
 use crate::edit_reply::EditReply;
-use crate::reply::{Answer, Effect, refuse};
+use crate::reply::{Answer, Effect, Reply, refuse};
 use std::alloc::Global;
 use wot_commands::{change, refusal};
-use wot_journal::{BuildError, build};
+use wot_journal::{BuildError, Built, build};
 use wot_live::Engine;
 use wot_spelling::encode;
 use wot_types::{Edit, Mem, Refusal};
@@ -51,15 +52,14 @@ fn make_allowed(
     ensures ends { IfOk result (λ answered. (s : Store) → engine ≡ s.state → end ≡ s.end → Ends answered s (edit_outcome (reply_text reply (state_after s.state edit)) s edit)) }
     ensures cut { IfOk result (λ answered. answered.cut ≡ Between) }
 {
-    let payload = encode(alloc, &edit)?;
-    match build(alloc, &payload, end) {
+    match build_record(alloc, &edit, end) {
         Ok(built) => {
             let engine = change(engine, edit)?;
             let text = reply.into_text(alloc, &engine)?;
             Ok(Answered {
                 engine,
                 answer: Answer {
-                    text,
+                    reply: Reply::Text(text),
                     refused: false,
                     effect: Effect::Append(built),
                 },
@@ -68,5 +68,18 @@ fn make_allowed(
         }
         Err(BuildError::JournalFull) => refuse(alloc, engine, Refusal::JournalFull),
         Err(BuildError::Memory) => Err(Mem::Memory),
+    }
+}
+
+/// The record of an edit, for the journal's end. The payload is let go here: it doesn't stand in memory beside its record any longer.
+fn build_record(alloc: Global, edit: &Edit, end: u64) -> Result<Built, BuildError>
+    requires proper { IsProper edit.now }
+    requires room { length (payload edit.now) ≤ most_record }
+    ensures built { IfOk result (λ built. (built.end ≡ end) × IsPayload built.payload edit.now × (is_past end edit.now ≡ false)) }
+    ensures full { IsErrOf result BuildError.JournalFull → is_past end edit.now ≡ true }
+{
+    match encode(alloc, edit) {
+        Ok(payload) => build(alloc, &payload, end),
+        Err(Mem::Memory) => Err(BuildError::Memory),
     }
 }

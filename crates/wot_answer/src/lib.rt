@@ -14,5 +14,5 @@ mod words; // the words of a line
 pub use answer::{Answered, answer_end, answer_line, answer_words, begin_block};
 pub use block::Block;
 pub use cut::Cut;
-pub use reply::{Answer, Effect};
+pub use reply::{Answer, Effect, Reply};
 pub use words::has_block;

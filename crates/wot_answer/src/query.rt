@@ -1,17 +1,17 @@
 //! What a query is answered with.
 
-ghost use Rattle.std.specs.Prelude.{◌≡◌, ◌-◌, ◌<◌, ◌≤◌, None, IsSome, IfOk};
+ghost use Rattle.std.specs.Prelude.{◌≡◌, ◌++◌, ◌-◌, ◌<◌, ◌≤◌, None, IsSome, IfOk};
 ghost use Rattle.wot_types.specs.Arrangement.{spot_at};
 ghost use Rattle.wot_types.specs.Keyring.{has_fpr};
-ghost use Rattle.wot_types.specs.Outcome.{answer_to, query_outcome, query_refusal, user_count};
+ghost use Rattle.wot_types.specs.Outcome.{answer_to, ok_line, query_outcome, query_refusal, user_count};
 ghost use Rattle.wot_types.specs.WhyText.{why_text};
 ghost use Rattle.wot_types.specs.Store.{Store};
 ghost use Rattle.wot_commands.specs.Heads.{IsProperQuery};
-ghost use Rattle.wot_answer.specs.Answer.{Ends};
+ghost use Rattle.wot_answer.specs.Answer.{Ends, effect_by, reply_of};
 ghost use Rattle.wot_answer.specs.declared.cut.Cut.TheVariants.{Between};
 
 use crate::answer::Answered;
-use crate::reply::{refuse, reply};
+use crate::reply::{Effect, Reply, answered, refuse};
 use std::alloc::Global;
 use std::marker::Brand;
 use std::sync::ledger::{Blank, Ledger};
@@ -29,9 +29,8 @@ pub fn answer_query(alloc: Global, engine: Engine, query: &Query) -> Result<Answ
     match query_refusal(&engine, query) {
         Some(refusal) => refuse(alloc, engine, refusal),
         None => {
-            let mut text = query_text(alloc, &engine, query)?;
-            text.extend_from_slice(b"ok\n")?;
-            Ok(reply(engine, text))
+            let reply = query_reply(alloc, &engine, query)?;
+            Ok(answered(engine, reply, effect_of(query)))
         }
     }
 }
@@ -57,7 +56,8 @@ fn query_refusal(engine: &Engine, query: &Query) -> Option<Refusal>
                 None
             }
         }
-        Query::List | Query::Sigs | Query::Export | Query::Quit => None,
+        Query::List | Query::Sigs | Query::Export | Query::Check | Query::Compact | Query::Quit =>
+            None,
     }
 }
 
@@ -81,21 +81,34 @@ fn user_count(engine: &Engine, id: KeyId) -> u32
     }
 }
 
-/// A query's reply before its last line.
-fn query_text(alloc: Global, engine: &Engine, query: &Query) -> Result<Vec<u8>, Mem>
-    requires proper { IsProperQuery query.now }
-    requires answered { query_refusal engine.now query.now ≡ None }
-    ensures { IfOk result (λ text. text.items ≡ answer_to engine.now query.now) }
+/// What a query does to the store.
+fn effect_of(query: &Query) -> Effect
+    ensures { result ≡ effect_by query.now }
 {
     match query {
-        Query::List => list(alloc, engine, None, false),
-        Query::ListOne(fpr) => list(alloc, engine, Some(fpr.key_id()), false),
-        Query::Sigs => list(alloc, engine, None, true),
-        Query::SigsOne(fpr) => list(alloc, engine, Some(fpr.key_id()), true),
-        Query::Export => export(alloc, engine),
-        Query::Why(fpr, place) => explanation_text(alloc, engine, fpr.key_id(), *place),
-        Query::Quit => Ok(Vec::new(alloc)),
+        Query::Compact => Effect::Compact,
+        _ => Effect::Nothing,
     }
+}
+
+/// A query's reply.
+fn query_reply(alloc: Global, engine: &Engine, query: &Query) -> Result<Reply, Mem>
+    requires proper { IsProperQuery query.now }
+    requires answered { query_refusal engine.now query.now ≡ None }
+    ensures { IfOk result (λ reply. reply_of reply engine.now ≡ answer_to engine.now query.now ++ ok_line) }
+{
+    let mut text = match query {
+        Query::Check => return Ok(Reply::Recount),
+        Query::List => list(alloc, engine, None, false)?,
+        Query::ListOne(fpr) => list(alloc, engine, Some(fpr.key_id()), false)?,
+        Query::Sigs => list(alloc, engine, None, true)?,
+        Query::SigsOne(fpr) => list(alloc, engine, Some(fpr.key_id()), true)?,
+        Query::Export => export(alloc, engine)?,
+        Query::Why(fpr, place) => explanation_text(alloc, engine, fpr.key_id(), *place)?,
+        Query::Compact | Query::Quit => Vec::new(alloc),
+    };
+    text.extend_from_slice(b"ok\n")?;
+    Ok(Reply::Text(text))
 }
 
 /// Why the user ID at a place, counted from 1, is as valid as it is.

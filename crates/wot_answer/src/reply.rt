@@ -2,7 +2,6 @@
 
 ghost use Rattle.std.specs.Prelude.{◌≡◌, false, IfOk};
 ghost use Rattle.wot_types.specs.Outcome.{refuse, skip};
-ghost use Rattle.wot_types.specs.Store.Change.{keeps};
 ghost use Rattle.wot_answer.specs.Answer.{IsReply};
 ghost use Rattle.wot_answer.specs.declared.cut.Cut.TheVariants.{Between};
 
@@ -19,13 +18,23 @@ use wot_types::{Mem, Refusal};
 pub enum Effect {
     Nothing,
     Append(Built),
+    /// The store moves to its other side.
+    Compact,
+}
+
+/// What is told.
+#[derive(Debug, Drop)]
+pub enum Reply {
+    /// The whole reply: nothing for a line with no command.
+    Text(Vec<u8>),
+    /// The tally of the letters by rows that are counted anew, and the last line of a reply.
+    Recount,
 }
 
 /// What a command is answered with.
 #[derive(Debug, Drop)]
 pub struct Answer {
-    /// The whole reply: nothing for a line with no command.
-    pub text: Vec<u8>,
+    pub reply: Reply,
     /// Whether it is an `err` line.
     pub refused: bool,
     pub effect: Effect,
@@ -39,7 +48,7 @@ pub fn refuse(alloc: Global, engine: Engine, refusal: Refusal) -> Result<Answere
     Ok(Answered {
         engine,
         answer: Answer {
-            text: refused(alloc, &refusal)?,
+            reply: Reply::Text(refused(alloc, &refusal)?),
             refused: true,
             effect: Effect::Nothing,
         },
@@ -48,16 +57,17 @@ pub fn refuse(alloc: Global, engine: Engine, refusal: Refusal) -> Result<Answere
 }
 
 /// A query's reply; the engine stays.
-pub fn reply(engine: Engine, text: Vec<u8>) -> Answered
-    ensures reply { IsReply result engine (record { text = text.items; refused = false; change = keeps }) }
+pub fn answered(engine: Engine, reply: Reply, effect: Effect) -> Answered
+    ensures engine { result.engine ≡ engine }
+    ensures answer { result.answer ≡ record { reply = reply; refused = false; effect = effect } }
     ensures cut { result.cut ≡ Between }
 {
     Answered {
         engine,
         answer: Answer {
-            text,
+            reply,
             refused: false,
-            effect: Effect::Nothing,
+            effect,
         },
         cut: Cut::Between,
     }
@@ -71,7 +81,7 @@ pub fn say_nothing(alloc: Global, engine: Engine, cut: Cut) -> Answered
     Answered {
         engine,
         answer: Answer {
-            text: Vec::new(alloc),
+            reply: Reply::Text(Vec::new(alloc)),
             refused: false,
             effect: Effect::Nothing,
         },

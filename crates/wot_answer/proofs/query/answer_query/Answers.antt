@@ -1,22 +1,15 @@
-use Rattle.std.proofs.Common.{◌≡◌, ◌++◌, false, sym, ap, subst, ◌∙◌}
+use Rattle.std.proofs.Common.{sym, ◌∙◌}
 use Rattle.std.proofs.lemmas.Result.{IfOk-weaker}
-use Rattle.wot_types.specs.State.{State}
-use Rattle.wot_types.specs.Outcome.{answer_to, ok_line, query_refusal, unless_unanswered}
-use Rattle.wot_types.specs.Store.Change.{keeps}
-use Rattle.wot_answer.specs.Answer.{Ends}
+use Rattle.wot_answer.proofs.Queries.{query_answered, query_refused}
 use Rattle.wot_answer.proofs.query.answer_query.Goals as goal
 
 pub returns-in-Some-clause-ends : goal.returns-in-Some-clause-ends
 returns-in-Some-clause-ends c =
     IfOk-weaker c.refuse.result _ _
-    (λ answered reply s same.
-    subst (Ends answered s) (sym (ap (λ why. unless_unanswered why (answer_to s.state c.args.query.now)) (ap (λ (state : State). query_refusal state c.args.query.now) (sym same) ∙ sym c.query_refusal.ensures ∙ c.in-Some.is))) (reply s same))
+    (λ answered reply s same. query_refused answered s c.args.query.now c.args.engine same c.in-Some.refusal (sym c.query_refusal.ensures ∙ c.in-Some.is) reply)
     c.refuse.ensures.reply
 
-pub returns-in_ok-extend_from_slice-in-None-clause-ends : goal.returns-in_ok-extend_from_slice-in-None-clause-ends
-returns-in_ok-extend_from_slice-in-None-clause-ends c s same =
-    let none = ap (λ (state : State). query_refusal state c.args.query.now) (sym same) ∙ sym c.query_refusal.ensures ∙ c.in-None.is in
-    let text : c.extend_from_slice.new.self.items ≡ answer_to s.state c.args.query.now ++ ok_line =
-    c.in_ok-extend_from_slice-in-None.ensures.items ∙ ap (λ t. t ++ ok_line) (c.in_ok-text-in-None.ensures ∙ ap (λ (state : State). answer_to state c.args.query.now) same) in
-    subst (Ends c.reply.result s) (sym (ap (λ why. unless_unanswered why (answer_to s.state c.args.query.now)) none))
-    (subst (λ t. Ends c.reply.result s (record { text = t; refused = false; change = keeps })) text (c.reply.ensures.reply s same))
+pub returns-in_ok-reply-in-None-clause-ends : goal.returns-in_ok-reply-in-None-clause-ends
+returns-in_ok-reply-in-None-clause-ends c s same =
+    query_answered c.answered.result s c.args.query.now c.args.engine same c.in_ok-reply-in-None.reply c.effect_of.result
+    (sym c.query_refusal.ensures ∙ c.in-None.is) c.in_ok-reply-in-None.ensures c.effect_of.ensures c.answered.ensures.engine c.answered.ensures.answer

@@ -3,7 +3,7 @@ use Rattle.wot_types.specs.Arrangement.{spot_at}
 use Rattle.wot_types.specs.Outcome.{query_refusal}
 use Rattle.wot_commands.specs.Heads.{IsProperQuery}
 use Rattle.wot_answer.proofs.Queries.{asked_there}
-use Rattle.wot_answer.proofs.query.query_text.Goals as goal
+use Rattle.wot_answer.proofs.query.query_reply.Goals as goal
 
 pub explanation_text-requires : goal.explanation_text-requires
 explanation_text-requires c =
