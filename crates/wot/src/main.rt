@@ -13,7 +13,9 @@ use std::alloc::{AllocError, Global};
 use std::env::Env;
 use std::io::{ErrorKind, writer};
 use std::process::ExitCode;
+use std::thread::Threads;
 use std::{env, io};
+use wot_check::NoGate;
 use wot_file::FileSite;
 use wot_session::{Status, run};
 use wot_site::Site;
@@ -57,7 +59,12 @@ fn words(rt: &(impl Env + AllocGlobal)) -> io::Result<Vec<String>> {
 }
 
 /// All that the program does once it has its words and its outside; it answers the exit code.
-fn session<S: Site>(rt: &impl Eprint, alloc: Global, words: &[String], site: &mut S) -> ExitCode
+fn session<R: Eprint + Threads + Sync, S: Site>(
+    rt: &R,
+    alloc: Global,
+    words: &[String],
+    site: &mut S,
+) -> ExitCode
     // There is a status with this code, and the run is one that ends with it.
     ensures run { (s : status.Status) × (exit_status result ≡ code_of s)
         × HasCauses (S.faults site.old) (S.faults site.new) s
@@ -67,7 +74,7 @@ fn session<S: Site>(rt: &impl Eprint, alloc: Global, words: &[String], site: &mu
         → Honestly (S.seen site.old) (S.seen site.new) (Ran command longest_input s)) }
     ensures untouched { command_words (map string_bytes words.now) ≡ None → site.new ≡ site.old }
 {
-    leave(rt, end_with(run(alloc, words, site)))
+    leave(rt, end_with(run(rt, alloc, words, site, &NoGate)))
 }
 
 /// The end of a run with this status.

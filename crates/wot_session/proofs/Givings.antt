@@ -1,38 +1,60 @@
 -- What an answer does to the store, and then its reply.
-use Rattle.std.proofs.Common.{◌≡◌, inl, inr, ℕ, List, [], ◌++◌, Option, Some, None, refl, sym, ap, ◌∙◌, subst, append_assoc, arith}
+use Rattle.std.proofs.Common.{◌≡◌, inl, inr, ℕ, Bool, true, false, List, [], ◌++◌, length, Option, Some, None, refl, sym, ap, ◌∙◌, subst, append_assoc, arith}
+use Rattle.std.specs.Prelude.{nat_eq}
 use Rattle.std.proofs.lemmas.List.{append-nil}
+use Rattle.std.proofs.lemmas.Option.{same_Some}
+use Rattle.wot_types.specs.LineByLine.{Position}
 use Rattle.wot_types.specs.Store.{Store}
+use Rattle.wot_types.specs.State.{State}
 use Rattle.wot_types.specs.declared.edit.Edit.{Edit}
+use Rattle.wot_types.specs.Compaction.{compacted_store, last_epoch}
 use Rattle.wot_types.specs.Outcome.{edited_store}
+use Rattle.wot_types.specs.WellFormedState.{IsWellFormedState}
+use Rattle.wot_types.proofs.WellFormedStates.{makes_sound}
 use Rattle.wot_journal.specs.Record.{Framed}
-use Rattle.wot_answer.specs.Answer.{Does, Leads}
+use Rattle.wot_answer.specs.Answer.{Does, Leads, reply_of}
+use Rattle.wot_answer.specs.declared.reply.Answer.{Answer}
 use Rattle.wot_answer.specs.declared.reply.Effect.{Effect}
-use Rattle.wot_answer.specs.declared.reply.Effect.TheVariants.{Nothing, Append}
+use Rattle.wot_answer.specs.declared.reply.Effect.TheVariants.{Nothing, Append, Compact}
 use Rattle.wot_site.specs.Seen.{Honestly, IfHonest, Moment, Seen}
 use Rattle.wot_site.specs.Disk.{Disks}
 use Rattle.wot_site.specs.Work.{Quiet, Since, Works, moment_of}
-use Rattle.wot_site.proofs.Honest.{And, honest_after, honest_then, honest_with}
+use Rattle.wot_site.proofs.Honest.{And, honest_after, honest_then, honest_weaker, honest_with}
 use Rattle.wot_site.proofs.Works.{since_then, since_weaker, works_start, works_weaker}
-use Rattle.wot_store.specs.Appending.{Appending, Appends, IsNext, IsRecordOf}
+use Rattle.wot_site.specs.Site.{Stays}
+use Rattle.wot_store.specs.Appending.{Appending, Appends, IsNext, IsRecordOf, place_after}
+use Rattle.wot_store.specs.Compacting.{IsCompactable, compacted_place}
 use Rattle.wot_store.specs.Shows.{IsStored}
-use Rattle.wot_store.specs.Written.{WritesBehind}
+use Rattle.wot_store.specs.Written.{Spares, WritesBehind}
 use Rattle.wot_store.proofs.Written.{stored_side}
 use Rattle.wot_store.specs.declared.place.Place.{Place}
-use Rattle.wot_session.specs.Here.{Holds}
+use Rattle.wot_session.specs.Here.{Holds, IsDue, IsHere, IsPlace, Performs}
+use Rattle.wot_session.specs.declared.session.Session.{Session}
 use Rattle.wot_session.specs.Kept.{AllShow, AllShowEither, IsAround}
 use Rattle.wot_session.specs.Written.{IsAnswered, WritesTo}
 use Rattle.wot_session.specs.Told.{Given, GivenPrefix, IsTelling, Telling, TellingPrefix}
 use Rattle.wot_session.proofs.Keeping.{stored_shows}
+use Rattle.wot_session.proofs.Compactings.{epoch_moves, place_moves, same_true}
 use Rattle.wot_session.proofs.Trails.{writes_still}
 
 -- nothing is done to the store
-still : (place : Place) (s : Store) (seen : Option Seen) → Holds place seen s → Honestly seen seen (Appending s s)
-still place s None holds = tt
-still place s (Some x) holds = works_start (AllShowEither s s) x (λ image is. inl (stored_shows s x.disks holds image is))
+pub undone : (place : Place) (s t : Store) (seen : Option Seen) → Holds place seen s → Honestly seen seen (Appending s t)
+undone place s t None holds = tt
+undone place s t (Some x) holds = works_start (AllShowEither s t) x (λ image is. inl (stored_shows s x.disks holds image is))
 
-pub nothing_done : (place : Place) (effect : Effect) (s t : Store) (seen : Option Seen) → effect ≡ Nothing → Does effect s t → Holds place seen s → Honestly seen seen (Appending s t)
-nothing_done place Nothing s t seen is same holds = subst (λ t. Honestly seen seen (Appending s t)) (sym same) (still place s seen holds)
-nothing_done place (Append built) s t seen is leads holds = cc
+-- what an effect that is known leads to
+pub performs_as : (place : Place) (engine : State) (effect known : Effect) (s t : Store) → effect ≡ known → Performs place engine effect s t → Performs place engine known s t
+performs_as place engine effect known s t is performs = subst (λ effect. Performs place engine effect s t) is performs
+
+pub done_by : (place : Place) (engine : State) (effect known : Effect) (s t : Store) → effect ≡ known → Performs place engine effect s t → Does known s t
+done_by place engine effect known s t is performs = subst (λ effect. Does effect s t) is performs.does
+
+-- the state after it is sound
+pub does_sound : (effect : Effect) (s t : Store) → IsWellFormedState s.state → Does effect s t → IsWellFormedState t.state
+does_sound Nothing s t sound same = subst (λ (store : Store). IsWellFormedState store.state) (sym same) sound
+does_sound (Append built) s t sound leads =
+    subst (λ (store : Store). IsWellFormedState store.state) (sym leads.after) (makes_sound s.state leads.edit sound leads.accepts.allowed leads.payload.proper)
+does_sound Compact s t sound same = subst (λ (store : Store). IsWellFormedState store.state) (sym same) sound
 
 -- the record may be appended
 record_of : (built : Framed) (s t : Store) (leads : Leads built s t) → IsRecordOf built s leads.edit
@@ -58,7 +80,14 @@ nothing_written s t (Some x) = works_start (WritesTo s t x.disks) x (writes_stil
 writes_behind : (place : Place) (built : Framed) (s t : Store) (d e : Disks) → Leads built s t → IsStored place s d → WritesBehind place.side place.end d e → WritesTo s t d e
 writes_behind place built s t d e leads stored behind = record {
   still = λ same. absurd (leads_on built s t leads same);
-  behind = inr (record { side = place.side; shown = stored_side place s d stored; behind = subst (λ n. WritesBehind place.side n d e) stored.end behind });
+  some = inr (inl (
+    ap (λ (store : Store). store.epoch) leads.after,
+    record {
+      side = place.side;
+      shown = stored_side place s d stored;
+      behind = subst (λ n. WritesBehind place.side n d e) stored.end behind;
+    },
+  ));
 }
 
 pub record_written : (place : Place) (built : Framed) (s t : Store) (a b : Option Seen) → Leads built s t → Holds place a s
@@ -72,6 +101,11 @@ pub appending_is : (built : Framed) (s t : Store) (a b : Option Seen) → Leads 
     → ((edit : Edit) → IsRecordOf built s edit → Honestly a b (Appending s (edited_store s edit))) → Honestly a b (Appending s t)
 appending_is built s t a b leads all = subst (λ t. Honestly a b (Appending s t)) (sym leads.after) (all leads.edit (record_of built s t leads))
 
+-- and the place
+pub appended_place : (place : Place) (built : Framed) (s t : Store) → IsPlace place s → Leads built s t → IsPlace (place_after place built) t
+appended_place place built s t at leads =
+    subst (IsPlace (place_after place built)) (sym leads.after) (record { epoch = at.epoch; end = omega (arith, leads.place, ap length leads.payload.is) })
+
 held : (place : Place) (store : Store) (a b : Option Seen) → Honestly a b (Appends place store) → Holds place b store
 held place store None None appends = tt
 held place store None (Some y) appends = absurd appends
@@ -81,6 +115,54 @@ held place store (Some x) (Some y) appends = appends
 pub appended_is : (place : Place) (built : Framed) (s t : Store) (a b : Option Seen) → Leads built s t
     → ((edit : Edit) → IsRecordOf built s edit → Honestly a b (Appends place (edited_store s edit))) → Holds place b t
 appended_is place built s t a b leads all = subst (Holds place b) (sym leads.after) (held place _ a b (all leads.edit (record_of built s t leads)))
+
+-- the store may be compacted
+compact_state : (place : Place) (engine : State) (s t : Store) → Performs place engine Compact s t → engine ≡ s.state
+compact_state place engine s t performs = performs.state ∙ ap (λ (store : Store). store.state) performs.does
+
+pub compact_sound : (place : Place) (engine : State) (s t : Store) → Performs place engine Compact s t → IsWellFormedState engine
+compact_sound place engine s t performs = subst IsWellFormedState (sym (compact_state place engine s t performs)) performs.sound
+
+pub compactable : (place : Place) (engine : State) (s t : Store) (seen : Option Seen) → Performs place engine Compact s t → Holds place seen s
+    → IfHonest seen (λ x. IsCompactable place engine x.disks)
+compactable place engine s t None performs holds = tt
+compactable place engine s t (Some x) performs holds = record { shown = s; state = sym (compact_state place engine s t performs); stored = holds }
+
+pub compacted_at : (place : Place) (engine : State) (s t : Store) → Performs place engine Compact s t → IsPlace (compacted_place place engine) t
+compacted_at place engine s t performs =
+    subst (IsPlace (compacted_place place engine)) (sym performs.does) (place_moves place engine s performs.at (compact_state place engine s t performs))
+
+pub compacted_is : (place : Place) (engine : State) (s t : Store) (a b : Option Seen) → Performs place engine Compact s t → Holds place a s
+    → ((shown : Store) → shown.state ≡ engine → Holds place a shown → Honestly a b (Appends (compacted_place place engine) (compacted_store shown)))
+    → Holds (compacted_place place engine) b t
+compacted_is place engine s t a b performs holds all =
+    subst (Holds (compacted_place place engine) b) (sym performs.does)
+    (held (compacted_place place engine) (compacted_store s) a b (all s (sym (compact_state place engine s t performs)) holds))
+
+pub compacting_is : (place : Place) (engine : State) (s t : Store) (a b : Option Seen) → Performs place engine Compact s t → Holds place a s
+    → ((shown : Store) → shown.state ≡ engine → Holds place a shown → Honestly a b (Appending shown (compacted_store shown))) → Honestly a b (Appending s t)
+compacting_is place engine s t a b performs holds all =
+    subst (λ t. Honestly a b (Appending s t)) (sym performs.does) (all s (sym (compact_state place engine s t performs)) holds)
+
+-- before the last epoch the other side is written, and in it nothing is
+writes_other : (place : Place) (s t : Store) (d e : Disks) → (t.epoch ≡ s.epoch → ⊥) → IsStored place s d → Spares place.side d e → WritesTo s t d e
+writes_other place s t d e moves stored spared = record {
+  still = λ same. absurd (moves (ap (λ (store : Store). store.epoch) same));
+  some = inr (inr (moves, record { side = place.side; shown = stored_side place s d stored; spared = spared }));
+}
+
+pub side_written : (place : Place) (engine : State) (s t : Store) (a b : Option Seen) → Performs place engine Compact s t → Holds place a s
+    → Honestly a b (λ x y. Works (Spares place.side x.disks) x y) → (place.epoch ≡ last_epoch → Honestly a b Stays) → Honestly a b (Leading s t)
+side_written place engine s t a b performs holds written unwritten = by_epoch (nat_eq s.epoch last_epoch) refl
+  where
+    by_epoch : (last : Bool) → nat_eq s.epoch last_epoch ≡ last → Honestly a b (Leading s t)
+    by_epoch true is =
+        honest_weaker Stays (Leading s t) a b (unwritten (performs.at.epoch ∙ same_true s.epoch last_epoch is))
+        (λ x y same. subst (λ y. Leading s t x y) (sym same) (works_start (WritesTo s t x.disks) x (writes_still s t x.disks)))
+    by_epoch false is =
+        let moves : t.epoch ≡ s.epoch → ⊥ = λ same. epoch_moves s is (ap (λ (store : Store). store.epoch) (sym performs.does) ∙ same) in
+        honest_with (λ x. IsStored place s x.disks) (λ x y. Works (Spares place.side x.disks) x y) (Leading s t) a b holds written
+        (λ x y stored works. works_weaker (Spares place.side x.disks) (WritesTo s t x.disks) x y (λ e. writes_other place s t x.disks e moves stored) works)
 
 -- a moment before the reply
 working_around : (s t : Store) (reply told : List ℕ) (m : Moment) → m.told ≡ told → AllShowEither s t m.disks → IsAround s t reply told m
@@ -205,3 +287,27 @@ module _ (place : Place) (s t : Store) (a b c : Option Seen) (holds : Holds plac
       honest_then _ _ _ a b c does
       (honest_with (λ y. IsStored place t y.disks) (TellingPrefix text) (λ y z. IsStored place t y.disks × TellingPrefix text y z) b c holds tells (λ y z stored tells. (stored, tells)))
       (λ x y z does told. subst (λ reply. GivenPrefix s t reply x z) same (given_prefix s t text x y does.0 does.1 z told.0 told.1))
+
+-- an answer that is due, by the engine that the session has
+module _ (session : Session) (engine : State) (answer : Answer) (s : Store) (after : Position) (reply : List ℕ) (is : session.engine ≡ Some engine) (due : IsDue session answer s after reply) where
+  engine_is : engine ≡ after.progress.store.state
+  engine_is = same_Some engine after.progress.store.state (sym is ∙ due.engine)
+
+  pub due_performs : Performs session.place engine answer.effect s after.progress.store
+  due_performs = record { at = due.place; sound = due.sound; does = due.does; state = engine_is }
+
+  pub due_text : reply_of answer.reply engine ≡ reply
+  due_text = ap (reply_of answer.reply) engine_is ∙ due.text
+
+  -- it was given
+  pub given_here : (place : Place) (seen : Option Seen) → IsPlace place after.progress.store → Holds place seen after.progress.store → IsHere (record session { place = place }) seen after
+  given_here place seen at holds = record {
+    at = record {
+      engine = due.engine;
+      sound = does_sound answer.effect s after.progress.store due.sound due.does;
+      place = at;
+      refused = due.refused;
+      cut = due.cut;
+    };
+    holds = holds;
+  }

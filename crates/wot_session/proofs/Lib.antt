@@ -1,3 +1,4 @@
+mod Compactings
 mod Feeds
 mod Givings
 mod Inputs

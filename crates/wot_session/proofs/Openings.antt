@@ -29,11 +29,11 @@ use Rattle.wot_session.specs.Input as input
 use Rattle.wot_session.specs.Input.{HasQuit, IsOnTime, IsPunctual, IsRead, commands_at}
 use Rattle.wot_session.specs.Kept.{IsPrefixOf, IsSafe, IsWhole, Kept}
 use Rattle.wot_session.specs.Open.{IsOpen}
-use Rattle.wot_session.specs.Run.{Ended, IsCrashSafe, IsUntouched, IsWritten, Ran, Stopped, Unopened, WritesForEdits}
+use Rattle.wot_session.specs.Run.{Ended, IsCrashSafe, IsUntouched, IsWritten, Ran, Stopped, Unopened, WritesForChanges}
 use Rattle.wot_session.specs.Stop.{status_of}
 use Rattle.wot_session.specs.Told.{IsAnswering, Said, SaidPrefix}
 use Rattle.wot_session.specs.Words.{IsUnread, Read, WordsEnded, WordsStopped}
-use Rattle.wot_session.specs.Written.{Trail, Written, edit_count}
+use Rattle.wot_session.specs.Written.{Trail, Written, change_count}
 use Rattle.wot_session.specs.declared.stop.Stop.{Stop}
 use Rattle.wot_session.specs.declared.stop.Stop.TheVariants.{DiskFault, Memory, ReadFault, TellFault, TooLong}
 use Rattle.wot_session.proofs.Keeping.{kept_here, stored_shows, whole_here}
@@ -95,7 +95,7 @@ untouched_opening x y there works = record {
 }
 
 -- and nothing was written after it
-untouched_then : (p : Progress) (commands : List Command) (x y z : Seen) → edit_count p commands ≡ 0 → IsUntouched x y → Written p commands y z → IsUntouched x z
+untouched_then : (p : Progress) (commands : List Command) (x y z : Seen) → change_count p commands ≡ 0 → IsUntouched x y → Written p commands y z → IsUntouched x z
 untouched_then p commands x y z none before written =
     let still = trail_still p commands y.told y.disks written.moments z.disks none written.trail in
     let unwritten : (d : Disks) → d ≡ y.disks → AreUnwritten x.disks d = λ d same. subst (AreUnwritten x.disks) (sym same) before.last in
@@ -152,7 +152,7 @@ module _ {place : Place} (store : Store) (words : List (List ℕ)) (x y : Seen) 
     trail = subst (λ text. Trail (at_start store) (commands_of words x.left) text y.disks written.moments z.disks) opening.told written.trail;
   }
 
-  untouched_later : (z : Seen) → Written (at_start store) (commands_of words x.left) y z → WritesForEdits store (commands_of words x.left) x z
+  untouched_later : (z : Seen) → Written (at_start store) (commands_of words x.left) y z → WritesForChanges store (commands_of words x.left) x z
   untouched_later z written there none = untouched_then (at_start store) (commands_of words x.left) x y z none (untouched_opening x y there wrote) written
 
   -- the run came to its end

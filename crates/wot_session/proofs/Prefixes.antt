@@ -7,16 +7,17 @@ use Rattle.wot_site.specs.Disk.{Image, Leaves}
 use Rattle.wot_site.specs.Seen.{Moment, Seen}
 use Rattle.wot_store.specs.Shows.{Shows}
 use Rattle.wot_types.specs.Commands.{Command}
+use Rattle.wot_types.specs.Store.{Store}
 use Rattle.wot_types.specs.Session.{Progress, acknowledged_count, after_command, after_all, is_edit, replies, reply_to, states}
 use Rattle.wot_types.proofs.Counting.{first_state, kept, none_acknowledged, replied}
 use Rattle.wot_session.proofs.Keeping.{stored_shows}
 use Rattle.wot_session.specs.Kept.{IsAround, IsSafe, IsWhole, Kept, ShowsPrefix, ShowsState}
 
--- a command without a reply leaves the store
-silent : (p : Progress) (command : Command) → length (reply_to p command) ≡ 0 → (after_command p command).store ≡ p.store
+-- a command without a reply leaves the state
+silent : (p : Progress) (command : Command) → length (reply_to p command) ≡ 0 → (after_command p command).store.state ≡ p.store.state
 silent p command none = cases (is_edit p command) refl
   where
-    cases : (edit : Bool) → is_edit p command ≡ edit → (after_command p command).store ≡ p.store
+    cases : (edit : Bool) → is_edit p command ≡ edit → (after_command p command).store.state ≡ p.store.state
     cases true is = absurd (omega (arith, replied p command is, none))
     cases false is = kept p command is
 
@@ -81,9 +82,13 @@ module _ (p : Progress) (command : Command) (commands : List Command) where
     shows = record { store = (after_command p command).store; shows = shows; is = after_state };
   }
 
+  -- a store with the state after the first command is shown
+  abbrev ShowsAfter : Image → Type 0
+  ShowsAfter image = (t : Store) × Shows image t × (t.state ≡ (after_command p command).store.state)
+
   -- after it
-  late : (image : Image) → Shows image (after_command p command).store → ShowsPrefix p (command ∷ commands) (length (reply_to p command)) image
-  late image shows =
+  late : (image : Image) → ShowsAfter image → ShowsPrefix p (command ∷ commands) (length (reply_to p command)) image
+  late image (t, shows, same) =
       let size : length (reply_to p command) + 0 ≡ length (reply_to p command) = omega arith in
       let count = sym (ap (acknowledged_count p (command ∷ commands)) size) ∙ count_later p command commands 0 in
       let none = none_acknowledged (after_command p command) commands in
@@ -91,12 +96,12 @@ module _ (p : Progress) (command : Command) (commands : List Command) where
         j = one_if (is_edit p command);
         least = omega (arith, count, none);
         most = omega (arith, count, none);
-        shows = record { store = (after_command p command).store; shows = shows; is = after_state };
+        shows = record { store = t; shows = shows; is = after_state ∙ ap Some (sym same) };
       }
 
-  whole_reply : (image : Image) → length (reply_to p command) ≡ 0 → Shows image p.store ⊎ Shows image (after_command p command).store → Shows image (after_command p command).store
-  whole_reply image none (inl shows) = subst (Shows image) (sym (silent p command none)) shows
-  whole_reply image none (inr shows) = shows
+  whole_reply : (image : Image) → length (reply_to p command) ≡ 0 → Shows image p.store ⊎ Shows image (after_command p command).store → ShowsAfter image
+  whole_reply image none (inl shows) = (p.store, shows, sym (silent p command none))
+  whole_reply image none (inr shows) = ((after_command p command).store, shows, refl)
 
   around_prefix : (before : List ℕ) (m : Moment) (around : IsAround p.store (after_command p command).store (reply_to p command) before m)
       → Leaves (ShowsPrefix p (command ∷ commands) (length around.prefix)) m.disks
@@ -108,8 +113,8 @@ module _ (p : Progress) (command : Command) (commands : List Command) where
       full : nat_lt (length around.prefix) (length (reply_to p command)) ≡ false → length around.prefix ≡ length (reply_to p command)
       full past = let less : length (reply_to p command) ≤ length around.prefix = grind (arith, nat_tests) in omega (arith, less, size)
 
-      shown : length around.prefix ≡ length (reply_to p command) → Leaves (λ image. Shows image (after_command p command).store) m.disks ⊎ (around.prefix ≡ []) → Shows image (after_command p command).store
-      shown all (inl shows) = shows image is_image
+      shown : length around.prefix ≡ length (reply_to p command) → Leaves (λ image. Shows image (after_command p command).store) m.disks ⊎ (around.prefix ≡ []) → ShowsAfter image
+      shown all (inl shows) = ((after_command p command).store, shows image is_image, refl)
       shown all (inr none) = whole_reply image (sym all ∙ ap length none) (around.either image is_image)
 
       less : nat_lt (length around.prefix) (length (reply_to p command)) ≡ true → length around.prefix < length (reply_to p command)

@@ -3,6 +3,7 @@ use Rattle.std.proofs.Common.{◌≡◌, ◌⊎◌, ◌==◌, length, arith, inl
 use Rattle.std.proofs.lemmas.Bool.Decides.{nat_tests}
 use Rattle.std.proofs.lemmas.List.{append-nil}
 use Rattle.wot_site.specs.Seen.{Honestly, Moment, Seen}
+use Rattle.wot_site.specs.Site.{Stays}
 use Rattle.wot_site.specs.Work.{Since, moment_of}
 use Rattle.wot_site.proofs.Works.{since_start, since_then, since_weaker}
 use Rattle.wot_store.specs.Shows.{IsStored}
@@ -15,7 +16,7 @@ use Rattle.wot_types.proofs.Cuts.{after_one, commands_append, one_line}
 use Rattle.wot_session.specs.Fed.{last_lines}
 use Rattle.wot_session.specs.Here.{Holds}
 use Rattle.wot_session.specs.Kept.{IsAround, IsWhole, Kept}
-use Rattle.wot_session.specs.Told.{Given, GivenPrefix, IsGiving, Said, SaidPrefix}
+use Rattle.wot_session.specs.Told.{Given, GivenPrefix, Said, SaidPrefix}
 use Rattle.wot_session.specs.declared.stop.Stop.{Stop}
 use Rattle.wot_session.specs.declared.stop.Stop.TheVariants.{Memory}
 use Rattle.wot_session.proofs.Keeping.{kept_here, kept_more, kept_then, stored_shows, whole_here, whole_more, whole_then}
@@ -92,19 +93,27 @@ given_said p commands x y one given = record {
   written = around_written p commands x y one given.writes given.last;
 }
 
-pub given_said_prefix : (p : Progress) (commands : List Command) (stop : Stop) (x y : Seen) → AtMostOne commands → IsGiving stop
+pub given_said_prefix : (p : Progress) (commands : List Command) (stop : Stop) (x y : Seen) → AtMostOne commands → (stop ≡ Memory → IsWhole p commands x.told y)
     → GivenPrefix p.store (after_all p commands).store (replies p commands) x y → SaidPrefix p commands stop x y
-given_said_prefix p commands stop x y one kind given = record {
+given_said_prefix p commands stop x y one whole given = record {
   told = given.told;
   since = since_weaker _ _ x y (λ m. around_kept p commands x.told m one) given.since;
   here = around_kept p commands x.told (moment_of y) one given.here;
-  whole = λ is. absurd (other kind is);
+  whole = whole;
   written = around_written p commands x y one given.writes given.last;
 }
-  where
-    other : IsGiving stop → stop ≡ Memory → ⊥
-    other (inl tell) is = cc
-    other (inr disk) is = cc
+
+-- where memory was wanted, nothing was done
+whole_still : {place : Place} (p : Progress) (commands : List Command) (x y : Seen) → IsStored place p.store x.disks → y ≡ x → IsWhole p commands x.told y
+whole_still p commands x y stored same = subst (IsWhole p commands x.told) (sym same) (whole_here p commands x.told x refl stored)
+
+pub giving_said : (place : Place) (p : Progress) (commands : List Command) (stop : Stop) (a b : Option Seen) → AtMostOne commands → Holds place a p.store
+    → (stop ≡ Memory → Honestly a b Stays) → Honestly a b (GivenPrefix p.store (after_all p commands).store (replies p commands)) → Honestly a b (SaidPrefix p commands stop)
+giving_said place p commands stop None None one holds memory given = tt
+giving_said place p commands stop None (Some y) one holds memory given = absurd given
+giving_said place p commands stop (Some x) None one holds memory given = absurd given
+giving_said place p commands stop (Some x) (Some y) one holds memory given =
+    given_said_prefix p commands stop x y one (λ is. whole_still p commands x y holds (memory is)) given
 
 -- no memory for an answer
 pub said_nothing : {place : Place} (p : Progress) (commands : List Command) (x : Seen) → IsStored place p.store x.disks → SaidPrefix p commands Memory x x
@@ -181,7 +190,8 @@ pub given_one : (p : Progress) (command : Command) (x y : Seen) → Given p.stor
 given_one p command x y given =
     given_said p (command ∷ []) x y (one_only command) (subst (λ reply. Given p.store (after_command p command).store reply x y) (sym (append-nil (reply_to p command))) given)
 
-pub given_one_prefix : (p : Progress) (command : Command) (stop : Stop) (x y : Seen) → IsGiving stop
-    → GivenPrefix p.store (after_command p command).store (reply_to p command) x y → SaidPrefix p (command ∷ []) stop x y
-given_one_prefix p command stop x y kind given =
-    given_said_prefix p (command ∷ []) stop x y (one_only command) kind (subst (λ reply. GivenPrefix p.store (after_command p command).store reply x y) (sym (append-nil (reply_to p command))) given)
+pub giving_one : (place : Place) (p : Progress) (command : Command) (stop : Stop) (a b : Option Seen) → Holds place a p.store
+    → (stop ≡ Memory → Honestly a b Stays) → Honestly a b (GivenPrefix p.store (after_command p command).store (reply_to p command)) → Honestly a b (SaidPrefix p (command ∷ []) stop)
+giving_one place p command stop a b holds memory given =
+    giving_said place p (command ∷ []) stop a b (one_only command) holds memory
+    (subst (λ reply. Honestly a b (GivenPrefix p.store (after_command p command).store reply)) (sym (append-nil (reply_to p command))) given)

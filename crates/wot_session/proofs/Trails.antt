@@ -1,35 +1,62 @@
--- How what commands write composes, and that those that are no edits write nothing.
-use Rattle.std.proofs.Common.{◌≡◌, ◌⊎◌, inl, inr, ℕ, ◌+◌, Bool, true, false, List, [], ◌∷◌, ◌++◌, if◌then◌else◌, refl, sym, ap, ◌∙◌, subst, append_assoc, arith}
+-- How what commands write composes, and that those that change nothing write nothing.
+use Rattle.std.proofs.Common.{◌≡◌, ◌≢◌, ◌⊎◌, inl, inr, ℕ, ◌+◌, Bool, true, false, List, [], ◌∷◌, ◌++◌, if◌then◌else◌, refl, sym, ap, ◌∙◌, subst, append_assoc, arith}
 use Rattle.std.specs.List.{All}
+use Rattle.std.specs.Prelude.{nat_eq}
 use Rattle.std.proofs.lemmas.List.{append-nil}
 use Rattle.std.proofs.lemmas.List.Elements.{All-append, All-nil, All-weaker}
 use Rattle.wot_types.specs.Commands.{Command}
-use Rattle.wot_types.specs.Outcome.{outcome, store_after}
-use Rattle.wot_types.specs.Session.{Progress, after_command, after_all, is_edit, is_makes, replies, reply_to}
+use Rattle.wot_types.specs.Compaction.{compacted_store, last_epoch}
+use Rattle.wot_types.specs.Outcome.{edited_store, outcome, store_after}
+use Rattle.wot_types.specs.Session.{Progress, after_command, after_all, replies, reply_to}
 use Rattle.wot_types.specs.Store.{Change, Store}
-use Rattle.wot_types.specs.Store.Change.{keeps, makes}
+use Rattle.wot_types.specs.Store.Change.{keeps, makes, compacts}
 use Rattle.wot_site.specs.Disk.{Disks}
 use Rattle.wot_site.specs.Seen.{Moment, Seen}
 use Rattle.wot_site.specs.Work.{Quiet, Since}
-use Rattle.wot_session.specs.Written.{IsAnswered, Trail, WritesFor, WritesTo, Written, edit_count}
+use Rattle.wot_session.specs.Written.{IsAnswered, Trail, WritesFor, WritesOther, WritesRecord, WritesTo, Written, change_count, is_change}
+use Rattle.wot_session.proofs.Compactings.{epoch_moves, store_stays}
 
 -- nothing was written
 writes_none : (s : Store) (change : Change) (d e : Disks) → e ≡ d → WritesFor s change d e
 writes_none s keeps d e same = same
 writes_none s (makes edit) d e same = inl same
+writes_none s compacts d e same = inl same
 
 pub writes_still : (s t : Store) (d : Disks) → WritesTo s t d d
-writes_still s t d = record { still = λ _. refl; behind = inl refl }
+writes_still s t d = record { still = λ _. refl; some = inl refl }
+
+-- what may have been written where the epoch is the same, and where it is another
+abbrev WritesByEpoch : Store → Store → Disks → Disks → Type 0
+WritesByEpoch s t d e = (e ≡ d) ⊎ (((t.epoch ≡ s.epoch) × WritesRecord s d e) ⊎ ((t.epoch ≢ s.epoch) × WritesOther d e))
+
+same_epoch : (s t : Store) (d e : Disks) → t.epoch ≡ s.epoch → WritesByEpoch s t d e → (e ≡ d) ⊎ WritesRecord s d e
+same_epoch s t d e same (inl still) = inl still
+same_epoch s t d e same (inr (inl (is, writes))) = inr writes
+same_epoch s t d e same (inr (inr (other, writes))) = absurd (other same)
+
+other_epoch : (s t : Store) (d e : Disks) → (t.epoch ≡ s.epoch → ⊥) → WritesByEpoch s t d e → (e ≡ d) ⊎ WritesOther d e
+other_epoch s t d e other (inl still) = inl still
+other_epoch s t d e other (inr (inl (same, writes))) = absurd (other same)
+other_epoch s t d e other (inr (inr (is, writes))) = inr writes
+
+writes_compacts : (s : Store) (d e : Disks) → WritesTo s (compacted_store s) d e → (e ≡ d) ⊎ WritesOther d e
+writes_compacts s d e writes = by_epoch (nat_eq s.epoch last_epoch) refl
+  where
+    by_epoch : (last : Bool) → nat_eq s.epoch last_epoch ≡ last → (e ≡ d) ⊎ WritesOther d e
+    by_epoch true is = inl (writes.still (store_stays s is))
+    by_epoch false is = other_epoch s (compacted_store s) d e (epoch_moves s is) writes.some
 
 -- what leads to the store after a change is what that change may write
 writes_change : (s : Store) (change : Change) (d e : Disks) → WritesTo s (store_after change s) d e → WritesFor s change d e
 writes_change s keeps d e writes = writes.still refl
-writes_change s (makes edit) d e writes = writes.behind
+writes_change s (makes edit) d e writes = same_epoch s (edited_store s edit) d e refl writes.some
+writes_change s compacts d e writes = writes_compacts s d e writes
 
--- without an accepted edit nothing is written
-still_change : (s : Store) (change : Change) (d e : Disks) → is_makes change ≡ false → WritesFor s change d e → e ≡ d
+-- without a change nothing is written
+still_change : (s : Store) (change : Change) (d e : Disks) → is_change change ≡ false → WritesFor s change d e → e ≡ d
 still_change s keeps d e none writes = writes
 still_change s (makes edit) d e none writes = cc
+still_change s compacts d e none writes = cc
 
 answered_weaker : (P Q : Disks → Type 0) (reply before : List ℕ) (left : Disks) (m : Moment) → ((e : Disks) → P e → Q e) → IsAnswered P reply before left m
     → IsAnswered Q reply before left m
@@ -99,18 +126,18 @@ trail_then p (command ∷ xs) ys told d mid e first later (here, more, left, is,
       (sym (append_assoc told (reply_to p command) (replies (after_command p command) xs))) after),
 )
 
--- without an accepted edit nothing is written
-pub trail_still : (p : Progress) (commands : List Command) (told : List ℕ) (d : Disks) (moments : List Moment) (e : Disks) → edit_count p commands ≡ 0
+-- without a change nothing is written
+pub trail_still : (p : Progress) (commands : List Command) (told : List ℕ) (d : Disks) (moments : List Moment) (e : Disks) → change_count p commands ≡ 0
     → Trail p commands told d moments e → (e ≡ d) × All (λ m. m.disks ≡ d) moments
 trail_still p [] told d moments e none (same, each) = (same, All-weaker (Quiet (λ disks. disks ≡ d) told) (λ m. m.disks ≡ d) (λ m quiet. quiet.disks) moments each)
 trail_still p (command ∷ commands) told d moments e none (here, later, left, is, each, writes, rest) =
-    cases (λ none. trail_still (after_command p command) commands (told ++ reply_to p command) left later e none rest) (is_edit p command) refl
+    cases (λ none. trail_still (after_command p command) commands (told ++ reply_to p command) left later e none rest) (is_change (outcome p.store command).change) refl
   where
-    counted : (edit : Bool) → is_edit p command ≡ edit → (if edit then 1 else 0) + edit_count (after_command p command) commands ≡ 0
-    counted edit same = subst (λ edit. (if edit then 1 else 0) + edit_count (after_command p command) commands ≡ 0) same none
+    counted : (some : Bool) → is_change (outcome p.store command).change ≡ some → (if some then 1 else 0) + change_count (after_command p command) commands ≡ 0
+    counted some same = subst (λ some. (if some then 1 else 0) + change_count (after_command p command) commands ≡ 0) same none
 
-    cases : (edit_count (after_command p command) commands ≡ 0 → (e ≡ left) × All (λ m. m.disks ≡ left) later)
-        → (edit : Bool) → is_edit p command ≡ edit → (e ≡ d) × All (λ m. m.disks ≡ d) moments
+    cases : (change_count (after_command p command) commands ≡ 0 → (e ≡ left) × All (λ m. m.disks ≡ left) later)
+        → (some : Bool) → is_change (outcome p.store command).change ≡ some → (e ≡ d) × All (λ m. m.disks ≡ d) moments
     cases others true same = absurd (omega (arith, counted true same))
     cases others false same =
         let change = (outcome p.store command).change in

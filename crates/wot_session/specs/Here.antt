@@ -2,7 +2,9 @@
 use Rattle.std.specs.Prelude.{◌≡◌, ℕ, List, Option, Some}
 use Rattle.wot_types.specs.Store.{Store}
 use Rattle.wot_types.specs.LineByLine.{Position}
-use Rattle.wot_answer.specs.Answer.{Does, IsCut}
+use Rattle.wot_types.specs.State.{State}
+use Rattle.wot_types.specs.WellFormedState.{IsWellFormedState}
+use Rattle.wot_answer.specs.Answer.{Does, IsCut, reply_of}
 use Rattle.wot_answer.specs.declared.reply.Answer.{Answer}
 use Rattle.wot_answer.specs.declared.cut.Cut.TheVariants.{Over}
 use Rattle.wot_answer.specs.declared.reply.Effect.{Effect}
@@ -20,6 +22,7 @@ pub record IsPlace (place : Place) (store : Store) : Type 0 where
 -- the session has come so far
 pub record IsAt (session : Session) (p : Position) : Type 0 where
   pub engine : session.engine ≡ Some p.progress.store.state
+  pub sound : IsWellFormedState p.progress.store.state
   pub place : IsPlace session.place p.progress.store
   pub refused : session.refused ≡ p.progress.refused
   pub cut : IsCut session.cut p.cut
@@ -43,16 +46,24 @@ IsOver session = session.cut ≡ Over
 
 -- a command was answered with this reply: all but the store has come so far, and the answer leads the store there
 pub record IsDue (session : Session) (answer : Answer) (s : Store) (after : Position) (reply : List ℕ) : Type 0 where
-  pub text : answer.text.items ≡ reply
+  pub text : reply_of answer.reply after.progress.store.state ≡ reply
   pub engine : session.engine ≡ Some after.progress.store.state
+  pub sound : IsWellFormedState s.state
   pub place : IsPlace session.place s
   pub refused : session.refused ≡ after.progress.refused
   pub cut : IsCut session.cut after.cut
   pub does : Does answer.effect s after.progress.store
 
+-- to perform the effect leads the store at this place from the one to the other, whose state the engine has
+pub record Performs (place : Place) (engine : State) (effect : Effect) (s t : Store) : Type 0 where
+  pub at : IsPlace place s
+  pub sound : IsWellFormedState s.state
+  pub does : Does effect s t
+  pub state : engine ≡ t.state
+
 -- the effect may be performed here
-abbrev pub IsReadyFor : Place → Effect → Option Seen → Type 0
-IsReadyFor place effect seen = (s t : Store) × IsPlace place s × Does effect s t × Holds place seen s
+abbrev pub IsReadyFor : Place → State → Effect → Option Seen → Type 0
+IsReadyFor place engine effect seen = (s t : Store) × Performs place engine effect s t × Holds place seen s
 
 -- the answer may be given here
 abbrev pub CanGive : Session → Answer → Option Seen → Type 0
@@ -61,4 +72,5 @@ CanGive session answer seen = (s : Store) × (after : Position) × (reply : List
 -- this store was opened
 pub record IsOpened (opened : Opened) (store : Store) : Type 0 where
   pub engine : opened.engine ≡ store.state
+  pub sound : IsWellFormedState store.state
   pub place : IsPlace opened.place store

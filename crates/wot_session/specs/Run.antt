@@ -17,7 +17,7 @@ use Rattle.wot_session.specs.Open.{IsOpen}
 use Rattle.wot_session.specs.Stop.{Causes}
 use Rattle.wot_session.specs.Turn.{IsBetween}
 use Rattle.wot_session.specs.Words.{IsUnread, Read}
-use Rattle.wot_session.specs.Written.{Trail, edit_count}
+use Rattle.wot_session.specs.Written.{Trail, change_count}
 use Rattle.wot_session.specs.declared.stop.Stop.{Stop}
 use Rattle.wot_session.specs.declared.stop.Stop.TheVariants.{DiskFault, ReadFault, TellFault, Memory, TooLong}
 use Rattle.wot_session.specs.declared.status.Status.{Status}
@@ -60,9 +60,10 @@ pub record IsWritten (store : Store) (commands : List Command) (old new : Seen) 
   pub is_open : IsOpen store opened
   pub trail : Trail (at_start store) commands old.told opened later new.disks
 
--- a first side is written where both sides are blank, and a record for each accepted edit; without either nothing is
-abbrev pub WritesForEdits : Store → List Command → Seen → Seen → Type 0
-WritesForEdits store commands old new = (AreBlank old.disks → ⊥) → edit_count (at_start store) commands ≡ 0 → IsUntouched old new
+-- a first side is written where both sides are blank, a record for each accepted edit, and the other side for `compact`; without any of them
+-- nothing is
+abbrev pub WritesForChanges : Store → List Command → Seen → Seen → Type 0
+WritesForChanges store commands old new = (AreBlank old.disks → ⊥) → change_count (at_start store) commands ≡ 0 → IsUntouched old new
 
 -- the run came to its end: the whole output was told, and every image shows the last store, with its journal's end and epoch
 pub record Ended (words : List (List ℕ)) (most : ℕ) (refused : Bool) (old new : Seen) : Type 0 where
@@ -75,7 +76,7 @@ pub record Ended (words : List (List ℕ)) (most : ℕ) (refused : Bool) (old ne
   pub punctual : IsPunctual (at_first store words) old new
   pub safe : IsCrashSafe store (commands_of words old.left) old new
   pub written : IsWritten store (commands_of words old.left) old new
-  pub untouched : WritesForEdits store (commands_of words old.left) old new
+  pub untouched : WritesForChanges store (commands_of words old.left) old new
 
 -- the run stopped: a prefix of the output was told, and every image shows a state of the crash clause. Where reading failed,
 -- the input is too long or memory was wanted, it is the state after exactly the edits acknowledged. An input is too long only
@@ -94,7 +95,7 @@ pub record Stopped (words : List (List ℕ)) (most : ℕ) (stop : Stop) (old new
   pub punctual : IsPunctual (at_first store words) old new
   pub safe : IsCrashSafe store (commands_of words old.left) old new
   pub written : IsWritten store (commands_of words old.left) old new
-  pub untouched : WritesForEdits store (commands_of words old.left) old new
+  pub untouched : WritesForChanges store (commands_of words old.left) old new
   pub here : IsSafe (at_start store) (commands_of words old.left) old.told (moment_of new)
   pub exact : IsBetween stop → Leaves (ShowsState (at_start store) (commands_of words old.left) (acknowledged_count (at_start store) (commands_of words old.left) (length text))) new.disks
 

@@ -80,10 +80,6 @@ pub record HasStopCause {T : Type 0} (old new : Faults) (result : Result T Stop)
   pub quiet : OnOk result (new ≡ old)
   pub cause : IfErr result (λ stop. StopCauses stop old new)
 
--- giving an answer takes no memory
-abbrev pub IsGiving : Stop → Type 0
-IsGiving stop = (stop ≡ TellFault) ⊎ (stop ≡ DiskFault)
-
 -- why answering stops
 abbrev pub IsAnswering : Stop → Type 0
 IsAnswering stop = (stop ≡ TellFault) ⊎ (stop ≡ DiskFault) ⊎ (stop ≡ Memory)
@@ -91,7 +87,3 @@ IsAnswering stop = (stop ≡ TellFault) ⊎ (stop ≡ DiskFault) ⊎ (stop ≡ M
 pub record StopsTelling {T : Type 0} (old new : Faults) (result : Result T Stop) : Type 0 where
   pub why : HasStopCause old new result
   pub kinds : IfErr result IsAnswering
-
-pub record StopsGiving {T : Type 0} (old new : Faults) (result : Result T Stop) : Type 0 where
-  pub why : HasStopCause old new result
-  pub kinds : IfErr result IsGiving

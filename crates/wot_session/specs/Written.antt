@@ -1,15 +1,15 @@
 -- What the commands of a run write to the sides.
-use Rattle.std.specs.Prelude.{ℕ, ◌≡◌, ◌⊎◌, ◌+◌, List, [], ◌∷◌, ◌++◌, All, if◌then◌else◌}
+use Rattle.std.specs.Prelude.{ℕ, ◌≡◌, ◌≢◌, ◌⊎◌, ◌+◌, Bool, true, false, List, [], ◌∷◌, ◌++◌, All, if◌then◌else◌}
 use Rattle.wot_types.specs.Commands.{Command}
 use Rattle.wot_types.specs.Outcome.{outcome}
-use Rattle.wot_types.specs.Session.{Progress, after_command, is_edit, reply_to}
+use Rattle.wot_types.specs.Session.{Progress, after_command, reply_to}
 use Rattle.wot_types.specs.Store.{Change, Store}
-use Rattle.wot_types.specs.Store.Change.{keeps, makes}
+use Rattle.wot_types.specs.Store.Change.{keeps, makes, compacts}
 use Rattle.wot_site.specs.Disk.{Disks}
 use Rattle.wot_site.specs.Seen.{Moment, Seen}
 use Rattle.wot_site.specs.Work.{Quiet}
 use Rattle.wot_site.specs.declared.side.Side.{Side}
-use Rattle.wot_store.specs.Written.{IsShownSide, WritesBehind}
+use Rattle.wot_store.specs.Written.{IsShownSide, Spares, WritesBehind}
 use Rattle.wot_session.specs.Kept.{IsPrefixOf}
 
 -- of these sides the shown one alone was written, and behind the end of this store's journal alone
@@ -18,15 +18,23 @@ pub record WritesRecord (s : Store) (d e : Disks) : Type 0 where
   pub shown : IsShownSide side d
   pub behind : WritesBehind side s.end d e
 
--- what a command with this change may have written by some moment: only an accepted edit writes
+-- of these sides the one that isn't shown was written, and the shown one was not
+pub record WritesOther (d e : Disks) : Type 0 where
+  pub side : Side
+  pub shown : IsShownSide side d
+  pub spared : Spares side d e
+
+-- what a command with this change may have written by some moment: an accepted edit its record, and `compact` the other side
 abbrev pub WritesFor : Store → Change → Disks → Disks → Type 0
 WritesFor s keeps d e = e ≡ d
 WritesFor s (makes edit) d e = (e ≡ d) ⊎ WritesRecord s d e
+WritesFor s compacts d e = (e ≡ d) ⊎ WritesOther d e
 
--- what may have been written on the way from the one store to the other: nothing where they are the same
+-- what may have been written on the way from the one store to the other: nothing where they are the same, the other side where the epoch
+-- is another, and else a record
 pub record WritesTo (s t : Store) (d e : Disks) : Type 0 where
   pub still : t ≡ s → e ≡ d
-  pub behind : (e ≡ d) ⊎ WritesRecord s d e
+  pub some : (e ≡ d) ⊎ (((t.epoch ≡ s.epoch) × WritesRecord s d e) ⊎ ((t.epoch ≢ s.epoch) × WritesOther d e))
 
 -- a moment of a command's answer, where this text was told before it: up to the first byte of its reply the sides are such,
 -- and from that byte on they are the ones that it leaves
@@ -52,7 +60,13 @@ pub record Written (p : Progress) (commands : List Command) (old new : Seen) : T
   pub is : new.moments ≡ old.moments ++ moments
   pub trail : Trail p commands old.told old.disks moments new.disks
 
--- how many of these commands are accepted edits
-abbrev pub edit_count : Progress → List Command → ℕ
-edit_count p [] = 0
-edit_count p (command ∷ commands) = (if is_edit p command then 1 else 0) + edit_count (after_command p command) commands
+-- a command changes the store: it is an accepted edit or `compact`
+abbrev pub is_change : Change → Bool
+is_change keeps = false
+is_change (makes edit) = true
+is_change compacts = true
+
+-- how many of these commands do
+abbrev pub change_count : Progress → List Command → ℕ
+change_count p [] = 0
+change_count p (command ∷ commands) = (if is_change (outcome p.store command).change then 1 else 0) + change_count (after_command p command) commands

@@ -1,6 +1,6 @@
 //! A run over its opened store: a session over the input, or one command.
 
-ghost use Rattle.std.specs.Prelude.{◌≡◌, IfOk, IfErr};
+ghost use Rattle.std.specs.Prelude.{◌≡◌, ◌≤◌, IfOk, IfErr};
 ghost use Rattle.wot_types.specs.Store.{Store};
 ghost use Rattle.wot_site.specs.Seen.{Honestly};
 ghost use Rattle.wot_session.specs.Here.{Holds, IsOpened};
@@ -12,21 +12,27 @@ use crate::session::Session;
 use crate::stop::Stop;
 use std::alloc::Global;
 use std::mem;
+use std::thread::Threads;
 use wot_answer::{Cut, begin_block, has_block};
+use wot_check::Gate;
 use wot_site::Site;
 use wot_store::Opened;
 use wot_types::{Mem, Words};
 
 /// Runs a session where there are no words, and else the one command that they are. It answers whether some command
 /// was refused.
-pub fn run_opened<S: Site>(
+pub fn run_opened<R: Threads + Sync, S: Site, G: Gate + Sync>(
+    rt: &R,
     alloc: Global,
     words: &Words,
     opened: Opened,
     site: &mut S,
+    workers: u32,
+    gate: &G,
     most: u64,
 ) -> Result<bool, Stop>
-    requires { (store : Store) × IsOpened opened store × Holds opened.place (S.seen site.old) store }
+    requires workers { (1 ≤ workers) × (workers ≤ 64) }
+    requires opened { (store : Store) × IsOpened opened store × Holds opened.place (S.seen site.old) store }
     ensures ended { IfOk result (λ refused. (store : Store) → IsOpened opened store → Holds opened.place (S.seen site.old) store
         → Honestly (S.seen site.old) (S.seen site.new) (WordsEnded store words.now most refused)) }
     ensures stopped { IfErr result (λ stop. (store : Store) → IsOpened opened store → Holds opened.place (S.seen site.old) store
@@ -34,14 +40,14 @@ pub fn run_opened<S: Site>(
     ensures cause { HasStopCause (S.faults site.old) (S.faults site.new) result }
 {
     if words.as_slice().is_empty() {
-        let mut session = Session::new(alloc, opened, Cut::Between);
-        let ended = run_session(&mut session, site, most);
+        let mut session = Session::new(alloc, opened, Cut::Between, workers);
+        let ended = run_session(rt, &mut session, site, gate, most);
         leave(session);
         return ended;
     }
     if !has_block(words) {
-        let mut session = Session::new(alloc, opened, Cut::Between);
-        match session.answer_command(site, words) {
+        let mut session = Session::new(alloc, opened, Cut::Between, workers);
+        match session.answer_command(rt, site, gate, words) {
             Ok(()) => {
                 let refused = session.is_refused();
                 leave(session);
@@ -54,8 +60,8 @@ pub fn run_opened<S: Site>(
         Ok(block) => block,
         Err(Mem::Memory) => return Err(Stop::Memory),
     };
-    let mut session = Session::new(alloc, opened, Cut::Within(block));
-    let ended = run_session(&mut session, site, most);
+    let mut session = Session::new(alloc, opened, Cut::Within(block), workers);
+    let ended = run_session(rt, &mut session, site, gate, most);
     leave(session);
     ended
 }

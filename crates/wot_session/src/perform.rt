@@ -1,31 +1,51 @@
 //! What an answer does to the store, before it is told.
 
-ghost use Rattle.std.specs.Prelude.{◌≡◌, IfOk};
+ghost use Rattle.std.specs.Prelude.{◌≡◌, IfOk, IsErrOf};
 ghost use Rattle.wot_types.specs.Store.{Store};
-ghost use Rattle.wot_answer.specs.Answer.{Does};
 ghost use Rattle.wot_site.specs.Seen.{Honestly};
-ghost use Rattle.wot_site.specs.Site.{HasCause, disk_faults};
-ghost use Rattle.wot_store.specs.Appending.{Appending};
-ghost use Rattle.wot_session.specs.Here.{Holds, IsPlace, IsReadyFor};
+ghost use Rattle.wot_site.specs.Site.{Stays};
 ghost use Rattle.wot_site.specs.Work.{Works};
+ghost use Rattle.wot_store.specs.Appending.{Appending};
+ghost use Rattle.wot_session.specs.Here.{Holds, IsPlace, IsReadyFor, Performs};
+ghost use Rattle.wot_session.specs.Told.{StopsTelling};
 ghost use Rattle.wot_session.specs.Written.{WritesTo};
 
+use crate::stop::Stop;
+use std::alloc::Global;
 use wot_answer::Effect;
+use wot_live::Engine;
 use wot_site::{DiskFault, Site};
-use wot_store::{Place, append};
+use wot_store::{CompactError, Place, append, compact};
 
-/// Does to the store what a command asks for, and has it on the disk before it answers; it takes no memory.
-pub fn do_effect<S: Site>(site: &mut S, place: Place, effect: &Effect) -> Result<Place, DiskFault>
-    requires { IsReadyFor place effect.now (S.seen site.old) }
-    ensures place { IfOk result (λ after. (s t : Store) → IsPlace place s → Does effect.now s t → IsPlace after t) }
-    ensures holds { IfOk result (λ after. (s t : Store) → Does effect.now s t → Holds place (S.seen site.old) s → Holds after (S.seen site.new) t) }
-    ensures any_moment { (s t : Store) → Does effect.now s t → Holds place (S.seen site.old) s → Honestly (S.seen site.old) (S.seen site.new) (Appending s t) }
-    ensures written { (s t : Store) → Does effect.now s t → Holds place (S.seen site.old) s
+/// Does to the store what a command asks for, and has it on the disk before it answers. For an edit it takes no memory, and to compact the
+/// store it takes all of it first.
+pub fn do_effect<S: Site>(
+    alloc: Global,
+    site: &mut S,
+    engine: &Engine,
+    place: Place,
+    effect: &Effect,
+) -> Result<Place, Stop>
+    requires { IsReadyFor place engine.now effect.now (S.seen site.old) }
+    ensures place { IfOk result (λ after. (s t : Store) → Performs place engine.now effect.now s t → IsPlace after t) }
+    ensures holds { IfOk result (λ after. (s t : Store) → Performs place engine.now effect.now s t → Holds place (S.seen site.old) s → Holds after (S.seen site.new) t) }
+    ensures any_moment { (s t : Store) → Performs place engine.now effect.now s t → Holds place (S.seen site.old) s
+        → Honestly (S.seen site.old) (S.seen site.new) (Appending s t) }
+    ensures written { (s t : Store) → Performs place engine.now effect.now s t → Holds place (S.seen site.old) s
         → Honestly (S.seen site.old) (S.seen site.new) (λ old new. Works (WritesTo s t old.disks) old new) }
-    ensures cause { HasCause disk_faults (S.faults site.old) (S.faults site.new) result }
+    ensures memory { IsErrOf result Stop.Memory → Honestly (S.seen site.old) (S.seen site.new) Stays }
+    ensures cause { StopsTelling (S.faults site.old) (S.faults site.new) result }
 {
     match effect {
         Effect::Nothing => Ok(place),
-        Effect::Append(built) => append(place, site, built),
+        Effect::Append(built) => match append(place, site, built) {
+            Ok(after) => Ok(after),
+            Err(DiskFault) => Err(Stop::DiskFault),
+        },
+        Effect::Compact => match compact(alloc, engine, place, site) {
+            Ok(after) => Ok(after),
+            Err(CompactError::DiskFault) => Err(Stop::DiskFault),
+            Err(CompactError::Memory) => Err(Stop::Memory),
+        },
     }
 }

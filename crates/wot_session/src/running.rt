@@ -9,6 +9,8 @@ ghost use Rattle.wot_session.specs.Told.{HasStopCause};
 
 use crate::session::Session;
 use crate::stop::Stop;
+use std::thread::Threads;
+use wot_check::Gate;
 use wot_site::Site;
 
 // How many bytes are taken at most in one call.
@@ -16,7 +18,13 @@ const PIECE: usize = 4096;
 
 /// Reads the input, of at most that many bytes, to its end or to `quit`, and tells the reply to each command before
 /// more is read. It answers whether some command was refused.
-pub fn run_session<S: Site>(session: &mut Session, site: &mut S, most: u64) -> Result<bool, Stop>
+pub fn run_session<R: Threads + Sync, S: Site, G: Gate + Sync>(
+    rt: &R,
+    session: &mut Session,
+    site: &mut S,
+    gate: &G,
+    most: u64,
+) -> Result<bool, Stop>
     requires somewhere { IsSomewhere session.old (S.seen site.old) }
     requires line { session.old.line ≡ Some [] }
     requires going { IsOver session.old → ⊥ }
@@ -27,7 +35,7 @@ pub fn run_session<S: Site>(session: &mut Session, site: &mut S, most: u64) -> R
     let mut buf = [0u8; PIECE];
     let mut room = most;
     loop {
-        let n = match session.turn(site, &mut buf, room) {
+        let n = match session.turn(rt, site, gate, &mut buf, room) {
             Ok(n) => n,
             Err(stop) => return Err(stop),
         };
@@ -39,7 +47,7 @@ pub fn run_session<S: Site>(session: &mut Session, site: &mut S, most: u64) -> R
         }
         room -= n as u64;
     }
-    match session.answer_rest(site) {
+    match session.answer_rest(rt, site, gate) {
         Ok(()) => Ok(session.is_refused()),
         Err(stop) => Err(stop),
     }

@@ -1,28 +1,37 @@
 //! A session: what was read and not answered yet, and what the answered lines led to.
 
-ghost use Rattle.std.specs.Prelude.{◌≡◌, ◌⊎◌, ◌↔◌, ◌<◌, ◌≤◌, ◌||◌, ℕ, true, false, List, [], ◌∷◌, length, take, min, Some, None, Ok, OnOk, OnErr, IfOk, IfErr, IsTrue};
+ghost use Rattle.std.specs.Prelude.{◌≡◌, ◌⊎◌, ◌↔◌, ◌<◌, ◌≤◌, ◌||◌, ℕ, true, false, List, [], ◌∷◌, length, take, min, Some, None, Ok, OnOk, OnErr, IfOk, IfErr, IsErrOf, IsTrue};
 ghost use Rattle.wot_types.specs.Store.{Store};
+ghost use Rattle.wot_types.specs.WellFormedState.{IsWellFormedState};
 ghost use Rattle.wot_types.specs.Commands.{begun_command, made_by, unfinished_commands};
 ghost use Rattle.wot_types.specs.LineByLine.{Position, after_line, after_lines, closing_reply, commands_in, reply_to_line};
 ghost use Rattle.wot_types.specs.Session.{after_command, at_start, reply_to};
-ghost use Rattle.wot_answer.specs.Answer.{IsCut, reads_on};
+ghost use Rattle.wot_types.specs.State.{State};
+ghost use Rattle.wot_answer.specs.Answer.{IsCut, reads_on, reply_of};
+ghost use Rattle.wot_site.specs.Site.{Stays};
 ghost use Rattle.wot_site.specs.Seen.{Honestly, IfHonest};
 ghost use Rattle.wot_session.specs.AtEnd.{at_end, closed_at, last_commands};
 ghost use Rattle.wot_session.specs.Fed.{more, whole_from, open_from, last_lines};
 ghost use Rattle.wot_session.specs.Here.{CanGive, Holds, IsAt, IsDue, IsHere, IsOver, IsPlace, IsSomewhere};
-ghost use Rattle.wot_session.specs.Told.{Given, GivenPrefix, HasStopCause, Said, SaidPrefix, StopsGiving, StopsTelling};
+ghost use Rattle.wot_session.specs.Told.{Given, GivenPrefix, HasStopCause, Said, SaidPrefix, StopsTelling};
 ghost use Rattle.wot_session.specs.Turn.{Turned, StoppedTurn};
 
+use crate::counting::reply_text;
 use crate::lines::split_line;
 use crate::open_line::OpenLine;
 use crate::perform::do_effect;
 use crate::stop::Stop;
 use crate::tell::tell_all;
+use crate::workers::Workers;
 use std::alloc::Global;
 use std::mem;
-use wot_answer::{Answer, Answered, Block, Cut, Effect, answer_end, answer_line, answer_words};
+use std::thread::Threads;
+use wot_answer::{
+    Answer, Answered, Block, Cut, Effect, Reply, answer_end, answer_line, answer_words,
+};
+use wot_check::Gate;
 use wot_live::Engine;
-use wot_site::{DiskFault, Failed, Site};
+use wot_site::{Failed, Site};
 use wot_store::{Opened, Place};
 use wot_types::{Mem, Words};
 
@@ -30,6 +39,7 @@ use wot_types::{Mem, Words};
 #[derive(Drop)]
 pub struct Session {
     alloc: Global,
+    workers: Workers,
     // What the accepted edits led to. It is gone once an answer found no memory, which ends the session.
     engine: Option<Engine>,
     // Where the journal ends.
@@ -41,8 +51,9 @@ pub struct Session {
 
 impl Session {
     /// The session at its start, over the store that was opened; a run of one command begins within it.
-    pub fn new(alloc: Global, opened: Opened, cut: Cut) -> Session
-        ensures at { (p : Position) → opened.engine ≡ p.progress.store.state → IsPlace opened.place p.progress.store
+    pub fn new(alloc: Global, opened: Opened, cut: Cut, workers: u32) -> Session
+        requires workers { (1 ≤ workers) × (workers ≤ 64) }
+        ensures at { (p : Position) → opened.engine ≡ p.progress.store.state → IsWellFormedState p.progress.store.state → IsPlace opened.place p.progress.store
             → p.progress.refused ≡ false → IsCut cut p.cut → IsAt result p }
         ensures line { result.line ≡ Some [] }
         ensures place { result.place ≡ opened.place }
@@ -50,6 +61,7 @@ impl Session {
     {
         Session {
             alloc,
+            workers: Workers { count: workers },
             engine: Some(opened.engine),
             place: opened.place,
             refused: false,
@@ -118,30 +130,50 @@ impl Session {
         Ok(answered.answer)
     }
 
-    // Does to the store what the answer asks for, and only then tells the reply.
-    fn give<S: Site>(&mut self, site: &mut S, answer: &Answer) -> Result<(), Stop>
-        requires { CanGive self.old answer.now (S.seen site.old) }
-        ensures here { OnOk result ((s : Store) (after : Position) (reply : List ℕ) → IsDue self.old answer.now s after reply
+    // Does to the store what the answer asks for, and only then tells the reply. Memory is taken before either.
+    fn give<R: Threads + Sync, S: Site, G: Gate + Sync>(
+        &mut self,
+        rt: &R,
+        site: &mut S,
+        gate: &G,
+        answer: Answer,
+    ) -> Result<(), Stop>
+        requires { CanGive self.old answer (S.seen site.old) }
+        ensures here { OnOk result ((s : Store) (after : Position) (reply : List ℕ) → IsDue self.old answer s after reply
             → Holds self.old.place (S.seen site.old) s → IsHere self.new (S.seen site.new) after) }
         ensures line { self.new.line ≡ self.old.line }
-        ensures given { OnOk result ((s : Store) (after : Position) (reply : List ℕ) → IsDue self.old answer.now s after reply
+        ensures given { OnOk result ((s : Store) (after : Position) (reply : List ℕ) → IsDue self.old answer s after reply
             → Holds self.old.place (S.seen site.old) s → Honestly (S.seen site.old) (S.seen site.new) (Given s after.progress.store reply)) }
-        ensures prefix { OnErr result ((s : Store) (after : Position) (reply : List ℕ) → IsDue self.old answer.now s after reply
+        ensures prefix { OnErr result ((s : Store) (after : Position) (reply : List ℕ) → IsDue self.old answer s after reply
             → Holds self.old.place (S.seen site.old) s → Honestly (S.seen site.old) (S.seen site.new) (GivenPrefix s after.progress.store reply)) }
-        ensures cause { StopsGiving (S.faults site.old) (S.faults site.new) result }
+        ensures memory { IsErrOf result Stop.Memory → Honestly (S.seen site.old) (S.seen site.new) Stays }
+        ensures cause { StopsTelling (S.faults site.old) (S.faults site.new) result }
     {
-        match do_effect(site, self.place, &answer.effect) {
+        let Some(engine) = &self.engine else {
+            return Err(Stop::Memory);
+        };
+        let Answer { reply, effect, .. } = answer;
+        let text = match reply_text(rt, self.alloc, engine, reply, self.workers, gate) {
+            Ok(text) => text,
+            Err(Mem::Memory) => return Err(Stop::Memory),
+        };
+        match do_effect(self.alloc, site, engine, self.place, &effect) {
             Ok(place) => self.place = place,
-            Err(DiskFault) => return Err(Stop::DiskFault),
+            Err(stop) => return Err(stop),
         }
-        match tell_all(site, &answer.text) {
+        match tell_all(site, &text) {
             Ok(()) => Ok(()),
             Err(Failed) => Err(Stop::TellFault),
         }
     }
 
     // Reads the open line into a block, or answers it and gives the answer; then begins the next line.
-    fn answer<S: Site>(&mut self, site: &mut S) -> Result<(), Stop>
+    fn answer<R: Threads + Sync, S: Site, G: Gate + Sync>(
+        &mut self,
+        rt: &R,
+        site: &mut S,
+        gate: &G,
+    ) -> Result<(), Stop>
         requires { IsSomewhere self.old (S.seen site.old) }
         ensures at { OnOk result ((p : Position) → IsHere self.old (S.seen site.old) p
             → IsHere self.new (S.seen site.new) (after_line p self.old.line)) }
@@ -161,11 +193,17 @@ impl Session {
             Ok(answer) => answer,
             Err(Mem::Memory) => return Err(Stop::Memory),
         };
-        self.give(site, &answer)
+        self.give(rt, site, gate, answer)
     }
 
     /// Answers each line that these bytes end, one after the other, up to `quit`; what they leave open is kept.
-    pub fn answer_bytes<S: Site>(&mut self, site: &mut S, bytes: &[u8]) -> Result<(), Stop>
+    pub fn answer_bytes<R: Threads + Sync, S: Site, G: Gate + Sync>(
+        &mut self,
+        rt: &R,
+        site: &mut S,
+        gate: &G,
+        bytes: &[u8],
+    ) -> Result<(), Stop>
         requires { IsSomewhere self.old (S.seen site.old) }
         ensures at { OnOk result ((p : Position) → IsHere self.old (S.seen site.old) p
             → IsHere self.new (S.seen site.new) (after_lines p (whole_from self.old.line bytes.now))) }
@@ -181,7 +219,7 @@ impl Session {
             if let Err(Mem::Memory) = self.hold(line) {
                 return Err(Stop::Memory);
             }
-            if let Err(stop) = self.answer(site) {
+            if let Err(stop) = self.answer(rt, site, gate) {
                 return Err(stop);
             }
             if self.is_over() {
@@ -196,7 +234,12 @@ impl Session {
     }
 
     // Answers the last line at the end of the input; an empty rest is no line.
-    fn answer_last<S: Site>(&mut self, site: &mut S) -> Result<(), Stop>
+    fn answer_last<R: Threads + Sync, S: Site, G: Gate + Sync>(
+        &mut self,
+        rt: &R,
+        site: &mut S,
+        gate: &G,
+    ) -> Result<(), Stop>
         requires { IsSomewhere self.old (S.seen site.old) }
         ensures at { OnOk result ((p : Position) → IsHere self.old (S.seen site.old) p
             → IsHere self.new (S.seen site.new) (after_lines p (last_lines self.old.line))) }
@@ -209,7 +252,7 @@ impl Session {
         if self.line.is_empty() {
             return Ok(());
         }
-        self.answer(site)
+        self.answer(rt, site, gate)
     }
 
     // Answers the command whose block is unfinished, if there is one; the answer is to be given.
@@ -245,18 +288,23 @@ impl Session {
 
     // No reply.
     fn nothing(&self) -> Answer
-        ensures text { result.text.items ≡ [] }
+        ensures text { (s : State) → reply_of result.reply s ≡ [] }
         ensures effect { result.effect ≡ Effect.Nothing }
     {
         Answer {
-            text: Vec::new(self.alloc),
+            reply: Reply::Text(Vec::new(self.alloc)),
             refused: false,
             effect: Effect::Nothing,
         }
     }
 
     // The same, and gives it.
-    fn answer_unfinished<S: Site>(&mut self, site: &mut S) -> Result<(), Stop>
+    fn answer_unfinished<R: Threads + Sync, S: Site, G: Gate + Sync>(
+        &mut self,
+        rt: &R,
+        site: &mut S,
+        gate: &G,
+    ) -> Result<(), Stop>
         requires { IsSomewhere self.old (S.seen site.old) }
         ensures at { OnOk result ((p : Position) → IsHere self.old (S.seen site.old) p → IsHere self.new (S.seen site.new) (closed_at p)) }
         ensures told { OnOk result ((p : Position) → IsHere self.old (S.seen site.old) p
@@ -269,11 +317,16 @@ impl Session {
             Ok(answer) => answer,
             Err(Mem::Memory) => return Err(Stop::Memory),
         };
-        self.give(site, &answer)
+        self.give(rt, site, gate, answer)
     }
 
     /// Answers what is left at the end of the input: the last line, and a command whose block is unfinished.
-    pub fn answer_rest<S: Site>(&mut self, site: &mut S) -> Result<(), Stop>
+    pub fn answer_rest<R: Threads + Sync, S: Site, G: Gate + Sync>(
+        &mut self,
+        rt: &R,
+        site: &mut S,
+        gate: &G,
+    ) -> Result<(), Stop>
         requires { IsSomewhere self.old (S.seen site.old) }
         ensures at { OnOk result ((p : Position) → IsHere self.old (S.seen site.old) p → IsHere self.new (S.seen site.new) (at_end p self.old.line)) }
         ensures told { OnOk result ((p : Position) → IsHere self.old (S.seen site.old) p
@@ -282,10 +335,10 @@ impl Session {
             → Honestly (S.seen site.old) (S.seen site.new) (SaidPrefix p.progress (last_commands p self.old.line) stop)) }
         ensures cause { StopsTelling (S.faults site.old) (S.faults site.new) result }
     {
-        if let Err(stop) = self.answer_last(site) {
+        if let Err(stop) = self.answer_last(rt, site, gate) {
             return Err(stop);
         }
-        self.answer_unfinished(site)
+        self.answer_unfinished(rt, site, gate)
     }
 
     // Answers a run of one command that takes no block; the answer is to be given.
@@ -305,7 +358,13 @@ impl Session {
     }
 
     /// The same, and gives it.
-    pub fn answer_command<S: Site>(&mut self, site: &mut S, words: &Words) -> Result<(), Stop>
+    pub fn answer_command<R: Threads + Sync, S: Site, G: Gate + Sync>(
+        &mut self,
+        rt: &R,
+        site: &mut S,
+        gate: &G,
+        words: &Words,
+    ) -> Result<(), Stop>
         requires some { 0 < length words.now }
         requires somewhere { IsSomewhere self.old (S.seen site.old) }
         ensures at { OnOk result ((p : Position) → IsHere self.old (S.seen site.old) p
@@ -320,12 +379,19 @@ impl Session {
             Ok(answer) => answer,
             Err(Mem::Memory) => return Err(Stop::Memory),
         };
-        self.give(site, &answer)
+        self.give(rt, site, gate, answer)
     }
 
     /// Takes once and answers the lines that the bytes end, of which only so many as there is room for are read.
     /// It answers how many were read: 0 at the end of the input.
-    pub fn turn<S: Site>(&mut self, site: &mut S, buf: &mut [u8], room: u64) -> Result<usize, Stop>
+    pub fn turn<R: Threads + Sync, S: Site, G: Gate + Sync>(
+        &mut self,
+        rt: &R,
+        site: &mut S,
+        gate: &G,
+        buf: &mut [u8],
+        room: u64,
+    ) -> Result<usize, Stop>
         requires somewhere { IsSomewhere self.old (S.seen site.old) }
         requires some { 0 < length buf.old }
         ensures fits { IfOk result (λ n. n ≤ length buf.new) }
@@ -344,7 +410,7 @@ impl Session {
             Err(Failed) => return Err(Stop::ReadFault),
         };
         let read = first_of(taken, room);
-        match self.answer_bytes(site, &buf[..read]) {
+        match self.answer_bytes(rt, site, gate, &buf[..read]) {
             Ok(()) => {}
             Err(stop) => return Err(stop),
         }

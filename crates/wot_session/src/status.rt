@@ -6,7 +6,7 @@ ghost use Rattle.wot_session.specs.Status.{bad_store_line, code_of, line_of};
 use wot_store::BadStore;
 
 /// How a session ended, with the exit status and the line on standard error of each.
-#[derive(Clone, Copy, Debug, PartialEq, Eq)]
+#[derive(Debug, PartialEq, Eq, Drop)]
 pub enum Status {
     /// Every command was answered, and none was refused.
     Done,
@@ -73,6 +73,7 @@ fn bad_store_line(fault: &BadStore) -> &'static str
         BadStore::Short(_, _) => "wot: bad store: Short",
         BadStore::Seal(_) => "wot: bad store: Seal",
         BadStore::Spelling => "wot: bad store: Spelling",
+        BadStore::Row(_) => "wot: bad store: Row",
         BadStore::BadPayload(_) => "wot: bad store: BadPayload",
         BadStore::BadEdit(_) => "wot: bad store: BadEdit",
     }

@@ -1,31 +1,42 @@
 use Rattle.std.proofs.Common.{subst, sym}
-use Rattle.wot_answer.specs.Answer.{Does}
-use Rattle.wot_session.specs.Here.{Holds}
-use Rattle.wot_session.proofs.Givings.{appended_is, appending_is, leads_next, nothing_done, nothing_written, record_written}
-use Rattle.wot_session.proofs.Outcomes.{if_ok_from}
+use Rattle.wot_session.specs.Here.{Holds, IsPlace}
+use Rattle.wot_session.proofs.Givings.{compactable, compacted_at, compacted_is, done_by, leads_next, performs_as, record_written, side_written, undone}
 use Rattle.wot_session.proofs.perform.do_effect.Goals as goal
 
 pub append-requires : goal.append-requires
 append-requires g c = record {
-  next = leads_next _ _ c.requires.0 c.requires.1 _ (subst (λ effect. Does effect c.requires.0 c.requires.1) c.in-Append.is c.requires.3) c.requires.4;
+  next = leads_next _ _ c.requires.0 c.requires.1 _ (done_by _ _ _ _ _ _ c.in-Append.is c.requires.2) c.requires.3;
 }
 
 pub returns-in-Nothing-clause-any_moment : goal.returns-in-Nothing-clause-any_moment
-returns-in-Nothing-clause-any_moment g c s t does holds = nothing_done _ _ s t _ c.in-Nothing.is does holds
+returns-in-Nothing-clause-any_moment g c s t performs holds = undone _ s t _ holds
 
-pub returns-in-Nothing-clause-written : goal.returns-in-Nothing-clause-written
-returns-in-Nothing-clause-written g c s t does holds = nothing_written s t (g.S.Site.seen c.args.site.now)
+pub returns-in-Ok-clause-written : goal.returns-in-Ok-clause-written
+returns-in-Ok-clause-written g c s t performs holds = record_written _ _ s t _ _ (done_by _ _ _ _ _ _ c.in-Append.is performs) holds c.append.ensures.written
 
-pub returns-in-Append-clause-holds : goal.returns-in-Append-clause-holds
-returns-in-Append-clause-holds g c =
-    if_ok_from _ _ c.append.result c.append.ensures.place c.append.ensures.appended
-    (λ after is all s t does holds. subst (λ place. Holds place (g.S.Site.seen c.append.new.site) t) (sym is)
-    (appended_is _ _ s t _ _ (subst (λ effect. Does effect s t) c.in-Append.is does) (λ edit record_of. all s edit record_of holds)))
+pub returns-in-Err-clause-written : goal.returns-in-Err-clause-written
+returns-in-Err-clause-written g c s t performs holds = record_written _ _ s t _ _ (done_by _ _ _ _ _ _ c.in-Append.is performs) holds c.append.ensures.written
 
-pub returns-in-Append-clause-any_moment : goal.returns-in-Append-clause-any_moment
-returns-in-Append-clause-any_moment g c s t does holds =
-    appending_is _ s t _ _ (subst (λ effect. Does effect s t) c.in-Append.is does) (λ edit record_of. c.append.ensures.any_moment s edit record_of holds)
+pub compact-requires-clause-stored : goal.compact-requires-clause-stored
+compact-requires-clause-stored g c = compactable _ _ c.requires.0 c.requires.1 _ (performs_as _ _ _ _ _ _ c.in-Compact.is c.requires.2) c.requires.3
 
-pub returns-in-Append-clause-written : goal.returns-in-Append-clause-written
-returns-in-Append-clause-written g c s t does holds =
-    record_written _ _ s t _ _ (subst (λ effect. Does effect s t) c.in-Append.is does) holds c.append.ensures.written
+pub returns-in-Ok-compact-clause-place : goal.returns-in-Ok-compact-clause-place
+returns-in-Ok-compact-clause-place g c s t performs =
+    subst (λ place. IsPlace place t) (sym c.in-Ok-compact.ensures.place) (compacted_at _ _ s t (performs_as _ _ _ _ _ _ c.in-Compact.is performs))
+
+pub returns-in-Ok-compact-clause-holds : goal.returns-in-Ok-compact-clause-holds
+returns-in-Ok-compact-clause-holds g c s t performs holds =
+    subst (λ place. Holds place (g.S.Site.seen c.compact.new.site) t) (sym c.in-Ok-compact.ensures.place)
+    (compacted_is _ _ s t _ _ (performs_as _ _ _ _ _ _ c.in-Compact.is performs) holds c.in-Ok-compact.ensures.compacted)
+
+pub returns-in-Ok-compact-clause-written : goal.returns-in-Ok-compact-clause-written
+returns-in-Ok-compact-clause-written g c s t performs holds =
+    side_written _ _ s t _ _ (performs_as _ _ _ _ _ _ c.in-Compact.is performs) holds c.compact.ensures.written c.compact.ensures.unwritten
+
+pub returns-in-Err-DiskFault-clause-written : goal.returns-in-Err-DiskFault-clause-written
+returns-in-Err-DiskFault-clause-written g c s t performs holds =
+    side_written _ _ s t _ _ (performs_as _ _ _ _ _ _ c.in-Compact.is performs) holds c.compact.ensures.written c.compact.ensures.unwritten
+
+pub returns-in-Err-Memory-clause-written : goal.returns-in-Err-Memory-clause-written
+returns-in-Err-Memory-clause-written g c s t performs holds =
+    side_written _ _ s t _ _ (performs_as _ _ _ _ _ _ c.in-Compact.is performs) holds c.compact.ensures.written c.compact.ensures.unwritten

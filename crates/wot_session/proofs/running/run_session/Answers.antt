@@ -8,10 +8,7 @@ pub loop-n-init : goal.loop-n-init
 loop-n-init g c = record { running = λ s here. running_start s _ _ _ here c.requires.line c.requires.going; quiet = refl }
 
 pub turn-requires : goal.turn-requires
-turn-requires g c = record {
-  somewhere = (_, (c.loop-n.invariant.running c.requires.somewhere.0 c.requires.somewhere.1).at);
-  some = search rules;
-}
+turn-requires g c = (search rules, (search rules, ((_, (c.loop-n.invariant.running c.requires.somewhere.0 c.requires.somewhere.1).at), search rules)))
 
 pub returns-in-Err-clause-stopped : goal.returns-in-Err-clause-stopped
 returns-in-Err-clause-stopped g c s here = running_stop (c.loop-n.invariant.running s here) _ c.in-Err.stop c.in-Err.ensures.stopped
@@ -32,7 +29,7 @@ loop-n-preserved g c = record {
 }
 
 pub answer_rest-requires : goal.answer_rest-requires
-answer_rest-requires g c = (_, c.in-Ok.ensures.at _ (c.loop-n.invariant.running c.requires.somewhere.0 c.requires.somewhere.1).at)
+answer_rest-requires g c = (search rules, (search rules, (_, c.in-Ok.ensures.at _ (c.loop-n.invariant.running c.requires.somewhere.0 c.requires.somewhere.1).at)))
 
 pub returns-in-Ok-answer_rest-clause-ended : goal.returns-in-Ok-answer_rest-clause-ended
 returns-in-Ok-answer_rest-clause-ended g c s here =

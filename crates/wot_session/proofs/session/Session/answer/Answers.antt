@@ -1,14 +1,14 @@
-use Rattle.std.proofs.Common.{◌≡◌, Ok, sym, ap, ◌∙◌, subst}
+use Rattle.std.proofs.Common.{◌≡◌, Ok, rules, sym, ap, ◌∙◌, subst}
 use Rattle.std.proofs.lemmas.Result.{on_ok_weaker}
 use Rattle.wot_site.proofs.Honest.{honest_weaker}
 use Rattle.wot_types.specs.LineByLine.{Position, after_line, reply_to_line}
 use Rattle.wot_answer.specs.declared.reply.Answer.{Answer}
 use Rattle.wot_session.specs.declared.session.Session.{Session}
 use Rattle.wot_session.specs.Here.{IsAt, IsDue}
-use Rattle.wot_session.specs.Told.{IsGiving, Said}
+use Rattle.wot_session.specs.Told.{Said}
 use Rattle.wot_session.proofs.Feeds.{holds_at, start_said}
-use Rattle.wot_session.proofs.Outcomes.{if_err_from}
-use Rattle.wot_session.proofs.Sayings.{one_made, given_said, given_said_prefix, no_memory}
+use Rattle.wot_session.proofs.Outcomes.{if_err_memory}
+use Rattle.wot_session.proofs.Sayings.{one_made, given_said, giving_said, no_memory}
 use Rattle.wot_session.proofs.session.Session.answer.Goals as goal
 
 abbrev Due : Session → Session → Answer → Type 0
@@ -37,7 +37,7 @@ returns-in-Err-Memory-reply-clause-prefix g c p here = no_memory _ p.progress _ 
 pub give-requires : goal.give-requires
 give-requires g c =
     let left = c.read_on.ensures.left (c.in-Ok-false.is ∙ ap Ok c.in-Ok-false.field-0-test) in
-    (_, _, _, due_left _ _ _ _ left c.in-Ok.ensures.due c.requires.0 c.requires.1.at, holds_at _ _ (c.reply.ensures.place ∙ c.read_on.ensures.place) c.requires.1.holds)
+    (search rules, (search rules, (_, _, _, due_left _ _ _ _ left c.in-Ok.ensures.due c.requires.0 c.requires.1.at, holds_at _ _ (c.reply.ensures.place ∙ c.read_on.ensures.place) c.requires.1.holds)))
 
 pub returns-clause-at : goal.returns-clause-at
 returns-clause-at g c =
@@ -55,6 +55,6 @@ returns-clause-told g c =
 pub returns-clause-prefix : goal.returns-clause-prefix
 returns-clause-prefix g c =
     let left = c.read_on.ensures.left (c.in-Ok-false.is ∙ ap Ok c.in-Ok-false.field-0-test) in
-    if_err_from IsGiving _ c.give.result c.give.ensures.prefix c.give.ensures.cause.kinds
-    (λ stop kind all p here. honest_weaker _ _ _ _ (all _ _ _ (due_left _ _ _ _ left c.in-Ok.ensures.due p here.at) (holds_at _ _ (c.reply.ensures.place ∙ c.read_on.ensures.place) here.holds))
-    (λ x y. given_said_prefix p.progress _ stop x y (one_made p.cut c.args.self.now.line) kind))
+    if_err_memory _ c.give.result c.give.ensures.prefix c.give.ensures.memory
+    (λ stop all memory p here. giving_said _ p.progress _ stop _ _ (one_made p.cut c.args.self.now.line) here.holds memory
+    (all _ _ _ (due_left _ _ _ _ left c.in-Ok.ensures.due p here.at) (holds_at _ _ (c.reply.ensures.place ∙ c.read_on.ensures.place) here.holds)))

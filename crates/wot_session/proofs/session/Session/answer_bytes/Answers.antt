@@ -12,7 +12,7 @@ returns-in-Err-Memory-clause-prefix g c = feeding_stop c.loop-line.invariant.fee
 pub answer-requires : goal.answer-requires
 answer-requires g c =
     let here = c.loop-line.invariant.feeding.at c.requires.0 c.requires.1 in
-    (_, here_at c.hold.new.self _ _ c.hold.ensures.place (c.hold.ensures.at _ here.at) here.holds)
+    (search rules, (search rules, (_, here_at c.hold.new.self _ _ c.hold.ensures.place (c.hold.ensures.at _ here.at) here.holds)))
 
 pub returns-in-Err-clause-prefix : goal.returns-in-Err-clause-prefix
 returns-in-Err-clause-prefix g c =

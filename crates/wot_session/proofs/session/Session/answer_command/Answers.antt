@@ -1,16 +1,17 @@
+use Rattle.std.proofs.Common.{rules}
 use Rattle.std.proofs.lemmas.Result.{on_ok_weaker}
 use Rattle.wot_site.proofs.Honest.{honest_weaker}
-use Rattle.wot_session.specs.Told.{IsGiving}
 use Rattle.wot_session.proofs.Feeds.{holds_at}
-use Rattle.wot_session.proofs.Outcomes.{if_err_from}
-use Rattle.wot_session.proofs.Sayings.{given_one, given_one_prefix, no_memory}
+use Rattle.wot_session.proofs.Outcomes.{if_err_memory}
+use Rattle.wot_session.proofs.Sayings.{given_one, giving_one, no_memory}
 use Rattle.wot_session.proofs.session.Session.answer_command.Goals as goal
 
 pub returns-in-Err-Memory-clause-prefix : goal.returns-in-Err-Memory-clause-prefix
 returns-in-Err-Memory-clause-prefix g c p here = no_memory _ p.progress _ _ here.holds
 
 pub give-requires : goal.give-requires
-give-requires g c = (_, _, _, c.in-Ok.ensures.due c.requires.somewhere.0 c.requires.somewhere.1.at, holds_at _ _ c.reply_to_words.ensures.place c.requires.somewhere.1.holds)
+give-requires g c =
+    (search rules, (search rules, (_, _, _, c.in-Ok.ensures.due c.requires.somewhere.0 c.requires.somewhere.1.at, holds_at _ _ c.reply_to_words.ensures.place c.requires.somewhere.1.holds)))
 
 pub returns-clause-at : goal.returns-clause-at
 returns-clause-at g c = on_ok_weaker c.give.result (λ all p here. all _ _ _ (c.in-Ok.ensures.due p here.at) (holds_at _ _ c.reply_to_words.ensures.place here.holds)) c.give.ensures.here
@@ -23,5 +24,6 @@ returns-clause-told g c =
 
 pub returns-clause-prefix : goal.returns-clause-prefix
 returns-clause-prefix g c =
-    if_err_from IsGiving _ c.give.result c.give.ensures.prefix c.give.ensures.cause.kinds
-    (λ stop kind all p here. honest_weaker _ _ _ _ (all _ _ _ (c.in-Ok.ensures.due p here.at) (holds_at _ _ c.reply_to_words.ensures.place here.holds)) (λ x y. given_one_prefix p.progress _ stop x y kind))
+    if_err_memory _ c.give.result c.give.ensures.prefix c.give.ensures.memory
+    (λ stop all memory p here. giving_one _ p.progress _ stop _ _ here.holds memory
+    (all _ _ _ (c.in-Ok.ensures.due p here.at) (holds_at _ _ c.reply_to_words.ensures.place here.holds)))

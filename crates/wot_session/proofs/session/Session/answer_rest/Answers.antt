@@ -1,3 +1,4 @@
+use Rattle.std.proofs.Common.{rules}
 use Rattle.std.proofs.lemmas.Result.{on_ok_weaker}
 use Rattle.wot_types.specs.Commands.{unfinished_commands}
 use Rattle.wot_types.specs.LineByLine.{after_lines, commands_in}
@@ -14,7 +15,7 @@ returns-in-Err-clause-prefix g c p here =
     (λ x y. said_prefix_more p.progress (commands_in p (last_lines line)) (unfinished_commands (after_lines p (last_lines line)).cut) x y c.in-Err.stop)
 
 pub answer_unfinished-requires : goal.answer_unfinished-requires
-answer_unfinished-requires g c = (_, c.in_default.ensures.at c.requires.0 c.requires.1)
+answer_unfinished-requires g c = (search rules, (search rules, (_, c.in_default.ensures.at c.requires.0 c.requires.1)))
 
 pub returns-clause-at : goal.returns-clause-at
 returns-clause-at g c = on_ok_weaker c.answer_unfinished.result (λ at p here. at _ (c.in_default.ensures.at p here)) c.answer_unfinished.ensures.at

@@ -1,16 +1,16 @@
+use Rattle.std.proofs.Common.{rules}
 use Rattle.std.proofs.lemmas.Result.{on_ok_weaker}
 use Rattle.wot_site.proofs.Honest.{honest_weaker}
-use Rattle.wot_session.specs.Told.{IsGiving}
 use Rattle.wot_session.proofs.Feeds.{holds_at}
-use Rattle.wot_session.proofs.Outcomes.{if_err_from}
-use Rattle.wot_session.proofs.Sayings.{one_unfinished, given_said, given_said_prefix, no_memory}
+use Rattle.wot_session.proofs.Outcomes.{if_err_memory}
+use Rattle.wot_session.proofs.Sayings.{one_unfinished, given_said, giving_said, no_memory}
 use Rattle.wot_session.proofs.session.Session.answer_unfinished.Goals as goal
 
 pub returns-in-Err-Memory-clause-prefix : goal.returns-in-Err-Memory-clause-prefix
 returns-in-Err-Memory-clause-prefix g c p here = no_memory _ p.progress _ _ here.holds
 
 pub give-requires : goal.give-requires
-give-requires g c = (_, _, _, c.in-Ok.ensures.due c.requires.0 c.requires.1.at, holds_at _ _ c.close.ensures.place c.requires.1.holds)
+give-requires g c = (search rules, (search rules, (_, _, _, c.in-Ok.ensures.due c.requires.0 c.requires.1.at, holds_at _ _ c.close.ensures.place c.requires.1.holds)))
 
 pub returns-clause-at : goal.returns-clause-at
 returns-clause-at g c = on_ok_weaker c.give.result (λ all p here. all _ _ _ (c.in-Ok.ensures.due p here.at) (holds_at _ _ c.close.ensures.place here.holds)) c.give.ensures.here
@@ -23,5 +23,6 @@ returns-clause-told g c =
 
 pub returns-clause-prefix : goal.returns-clause-prefix
 returns-clause-prefix g c =
-    if_err_from IsGiving _ c.give.result c.give.ensures.prefix c.give.ensures.cause.kinds
-    (λ stop kind all p here. honest_weaker _ _ _ _ (all _ _ _ (c.in-Ok.ensures.due p here.at) (holds_at _ _ c.close.ensures.place here.holds)) (λ x y. given_said_prefix p.progress _ stop x y (one_unfinished p.cut) kind))
+    if_err_memory _ c.give.result c.give.ensures.prefix c.give.ensures.memory
+    (λ stop all memory p here. giving_said _ p.progress _ stop _ _ (one_unfinished p.cut) here.holds memory
+    (all _ _ _ (c.in-Ok.ensures.due p here.at) (holds_at _ _ c.close.ensures.place here.holds)))

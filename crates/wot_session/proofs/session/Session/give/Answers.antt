@@ -1,18 +1,45 @@
 use Rattle.std.proofs.Common.{◌∙◌}
 use Rattle.wot_site.proofs.Honest.{honest_and, honest_weaker}
-use Rattle.wot_session.proofs.Givings.{given_none, giving_all, giving_prefix}
+use Rattle.wot_session.proofs.Givings.{due_performs, due_text, given_here, given_none, giving_all, giving_prefix, nothing_written, still_holds, undone}
 use Rattle.wot_session.proofs.session.Session.give.Goals as goal
+
+pub returns-in-Err-Memory-clause-prefix : goal.returns-in-Err-Memory-clause-prefix
+returns-in-Err-Memory-clause-prefix g c s after reply due holds =
+    let t = after.progress.store in
+    honest_weaker _ _ _ _ (honest_and _ _ _ _ (undone c.args.self.now.place s t (g.S.Site.seen c.args.site.now) holds) (nothing_written s t (g.S.Site.seen c.args.site.now)))
+    (λ x y both. given_none s t reply x y both.0 both.1)
+
+pub do_effect-requires : goal.do_effect-requires
+do_effect-requires g c =
+    (c.requires.0, c.requires.1.progress.store, due_performs c.args.self.now c.in-Some.engine c.args.answer c.requires.0 c.requires.1 c.requires.2 c.in-Some.is c.requires.3, c.requires.4)
 
 pub returns-in-Err-clause-prefix : goal.returns-in-Err-clause-prefix
 returns-in-Err-clause-prefix g c s after reply due holds =
-    honest_weaker _ _ _ _ (honest_and _ _ _ _ (c.do_effect.ensures.any_moment s after.progress.store due.does holds) (c.do_effect.ensures.written s after.progress.store due.does holds)) (λ x y both. given_none s after.progress.store reply x y both.0 both.1)
+    let t = after.progress.store in
+    let performs = due_performs c.args.self.now c.in-Some.engine c.args.answer s after reply c.in-Some.is due in
+    honest_weaker _ _ _ _ (honest_and _ _ _ _ (c.do_effect.ensures.any_moment s t performs holds) (c.do_effect.ensures.written s t performs holds))
+    (λ x y both. given_none s t reply x y both.0 both.1)
+
+pub returns-in-Ok-tell_all-clause-here : goal.returns-in-Ok-tell_all-clause-here
+returns-in-Ok-tell_all-clause-here g c s after reply due holds =
+    let t = after.progress.store in
+    let performs = due_performs c.args.self.now c.in-Some.engine c.args.answer s after reply c.in-Some.is due in
+    given_here c.args.self.now c.in-Some.engine c.args.answer s after reply c.in-Some.is due c.in-Ok-do_effect.place (g.S.Site.seen c.tell_all.new.site)
+    (c.in-Ok-do_effect.ensures.place s t performs)
+    (still_holds c.in-Ok-do_effect.place t c.deref.result.now _ _ (c.in-Ok-do_effect.ensures.holds s t performs holds) c.in-Ok-tell_all.ensures.told)
 
 pub returns-in-Ok-tell_all-clause-given : goal.returns-in-Ok-tell_all-clause-given
 returns-in-Ok-tell_all-clause-given g c s after reply due holds =
-    giving_all _ s after.progress.store _ _ _ (c.in-Ok.ensures.holds s after.progress.store due.does holds)
-    (honest_and _ _ _ _ (c.do_effect.ensures.any_moment s after.progress.store due.does holds) (c.do_effect.ensures.written s after.progress.store due.does holds)) _ reply (c.deref.ensures.value ∙ due.text) c.in-Ok-tell_all.ensures.told
+    let t = after.progress.store in
+    let performs = due_performs c.args.self.now c.in-Some.engine c.args.answer s after reply c.in-Some.is due in
+    giving_all _ s t _ _ _ (c.in-Ok-do_effect.ensures.holds s t performs holds)
+    (honest_and _ _ _ _ (c.do_effect.ensures.any_moment s t performs holds) (c.do_effect.ensures.written s t performs holds)) c.deref.result.now reply
+    (c.deref.ensures.value ∙ c.in-Ok.ensures ∙ due_text c.args.self.now c.in-Some.engine c.args.answer s after reply c.in-Some.is due) c.in-Ok-tell_all.ensures.told
 
-pub returns-in-Err-tell_all-clause-prefix : goal.returns-in-Err-tell_all-clause-prefix
-returns-in-Err-tell_all-clause-prefix g c s after reply due holds =
-    giving_prefix _ s after.progress.store _ _ _ (c.in-Ok.ensures.holds s after.progress.store due.does holds)
-    (honest_and _ _ _ _ (c.do_effect.ensures.any_moment s after.progress.store due.does holds) (c.do_effect.ensures.written s after.progress.store due.does holds)) _ reply (c.deref.ensures.value ∙ due.text) c.in-Err-tell_all.ensures.prefix
+pub returns-clause-prefix : goal.returns-clause-prefix
+returns-clause-prefix g c s after reply due holds =
+    let t = after.progress.store in
+    let performs = due_performs c.args.self.now c.in-Some.engine c.args.answer s after reply c.in-Some.is due in
+    giving_prefix _ s t _ _ _ (c.in-Ok-do_effect.ensures.holds s t performs holds)
+    (honest_and _ _ _ _ (c.do_effect.ensures.any_moment s t performs holds) (c.do_effect.ensures.written s t performs holds)) c.deref.result.now reply
+    (c.deref.ensures.value ∙ c.in-Ok.ensures ∙ due_text c.args.self.now c.in-Some.engine c.args.answer s after reply c.in-Some.is due) c.in-Err-tell_all.ensures.prefix

@@ -12,7 +12,7 @@ returns-in-Err-clause-stopped g c p here =
     honest_with _ _ _ _ _ here.holds c.in-Err.ensures.err (λ x y stored nothing. turn_failed p c.args.self.now.line c.args.room x y stored nothing)
 
 pub answer_bytes-requires : goal.answer_bytes-requires
-answer_bytes-requires g c = (c.requires.somewhere.0, taken_here _ _ c.in-Ok.n c.take.new.buf _ _ c.requires.somewhere.1 c.in-Ok.ensures.ok)
+answer_bytes-requires g c = (search rules, (search rules, (c.requires.somewhere.0, taken_here _ _ c.in-Ok.n c.take.new.buf _ _ c.requires.somewhere.1 c.in-Ok.ensures.ok)))
 
 pub returns-in-Err-answer_bytes-clause-stopped : goal.returns-in-Err-answer_bytes-clause-stopped
 returns-in-Err-answer_bytes-clause-stopped g c p here =
