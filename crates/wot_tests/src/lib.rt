@@ -2,4 +2,14 @@
 #![tactic(auto)]
 
 #[cfg(test)]
-mod runs; // whole runs over a site in memory
+mod compactions; // a sample that is compacted, stopped at each call of the disk
+#[cfg(test)]
+mod files; // runs over real files
+#[cfg(test)]
+mod gates; // runs over two workers
+#[cfg(test)]
+mod memory; // runs that may be short of memory
+#[cfg(test)]
+mod runs; // runs over a site in memory, and what a crash leaves of it
+#[cfg(test)]
+mod trusts; // two edits and a compaction, where a call fails

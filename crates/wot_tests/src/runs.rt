@@ -1,85 +1,128 @@
+//! Runs over a site in memory, and what a crash leaves of it.
+
 use std::alloc::Global;
 use std::test::Fail;
+use std::thread::Threads;
+use wot_check::NoGate;
 use wot_session::{Status, run, run_within};
-use wot_site::{CallKind, MemorySite, Pick};
+use wot_site::{MemorySite, Pick};
 
-const TWO_EDITS: &[u8] =
-    b"trust 00000000000000000000000000000000000000AA u\ntrust 00000000000000000000000000000000000000BB f\n";
+/// The images that are looked at: no pending write was made, or all, or each range holds the byte of an open gate.
+pub const PICKS: [Pick; 3] = [Pick::Nothing, Pick::All, Pick::Fill(0xa5)];
 
-const NONE: &[u8] = b"ok\n";
+/// What a store is asked: by the words of a run, or by its input.
+#[derive(Clone, Copy)]
+pub enum Question {
+    Word(&'static str),
+    Input(&'static [u8]),
+}
 
-const FIRST: &[u8] = b"00000000000000000000000000000000000000AA:6:\nok\n";
+impl Question {
+    fn input(self) -> &'static [u8] {
+        match self {
+            Question::Word(_) => b"",
+            Question::Input(input) => input,
+        }
+    }
 
-const BOTH: &[u8] =
-    b"00000000000000000000000000000000000000AA:6:\n00000000000000000000000000000000000000BB:5:\nok\n";
+    fn words(self, alloc: Global) -> Result<Vec<String>, Fail> {
+        let mut words = Vec::new(alloc);
+        if let Question::Word(word) = self {
+            words.push(String::from_str(alloc, word)?)?;
+        }
+        Ok(words)
+    }
+}
 
-fn over(alloc: Global, input: &[u8]) -> Result<MemorySite, Fail> {
+/// A site over this input and blank sides.
+pub fn over(alloc: Global, input: &[u8]) -> Result<MemorySite, Fail> {
     let input = Vec::from_slice(alloc, input)?;
     Ok(MemorySite::new(alloc, input, Vec::new(alloc), Vec::new(alloc))?)
 }
 
-// How a session over the site ends.
-fn session(alloc: Global, site: &mut MemorySite) -> Status {
+/// How a session over the site ends.
+pub fn session<R: Threads + Sync>(rt: &R, alloc: Global, site: &mut MemorySite) -> Status {
     let words: Vec<String> = Vec::new(alloc);
-    run(alloc, &words, site)
+    run(rt, alloc, &words, site, &NoGate)
 }
 
-// What `export` tells on the image that a crash leaves.
-fn exported_text(alloc: Global, site: &MemorySite, pick: Pick) -> Result<Vec<u8>, Fail> {
-    let (zero, one) = site.crash(pick)?;
-    let input = Vec::from_slice(alloc, b"export\n")?;
-    let mut again = MemorySite::new(alloc, input, zero, one)?;
-    let _ = session(alloc, &mut again);
-    Ok(Vec::from_slice(alloc, again.told())?)
-}
-
-// What is exported after a stop at the n-th call of the disk: opening makes the first 12, the edits 13 to 16 and 17 to 20.
-fn shown(n: u32, pick: Pick) -> &'static [u8] {
-    let may_be_written = matches!(pick, Pick::All | Pick::Fill(0xa5));
-    match n {
-        0..=14 => NONE,
-        15 | 16 => { if may_be_written { FIRST } else { NONE } }
-        17 | 18 => FIRST,
-        19 | 20 => { if may_be_written { BOTH } else { FIRST } }
-        _ => BOTH,
+/// The site after one more run, in which nothing is planned to fail.
+pub fn asked_again<R: Threads + Sync>(
+    rt: &R,
+    alloc: Global,
+    site: MemorySite,
+    question: Question,
+) -> Result<MemorySite, Fail> {
+    let input = Vec::from_slice(alloc, question.input())?;
+    let words = question.words(alloc)?;
+    let mut site = site.again(input);
+    match run(rt, alloc, &words, &mut site, &NoGate) {
+        Status::Done => Ok(site),
+        status => Err(Fail::new(format_args!("a second run ended with {status:?}"))),
     }
 }
 
-#[test]
-fn a_stop_at_any_call_leaves_a_prefix_of_the_edits(rt: HostRuntime) -> Result<(), Fail> {
-    let alloc = rt.alloc();
-    for pick in [Pick::Nothing, Pick::All, Pick::Fill(0), Pick::Fill(0xa5)] {
-        for n in 1u32..22 {
-            let mut site = over(alloc, TWO_EDITS)?.with_stop(n);
-            let wanted = if n < 21 {
-                Status::DiskFault
-            } else {
-                Status::Done
-            };
-            assert_eq!(rt; session(alloc, &mut site), wanted, "stopped at call {n}");
-            let told = exported_text(alloc, &site, pick)?;
-            assert_eq!(rt; told.as_slice(), shown(n, pick), "stopped at call {n}");
+/// The site after a session that is to end well, and one more run.
+pub fn asked_after_session<R: Threads + Sync>(
+    rt: &R,
+    alloc: Global,
+    mut site: MemorySite,
+    question: Question,
+) -> Result<MemorySite, Fail> {
+    match session(rt, alloc, &mut site) {
+        Status::Done => asked_again(rt, alloc, site, question),
+        status => Err(Fail::new(format_args!("the session ended with {status:?}"))),
+    }
+}
+
+/// What the image that a crash leaves tells.
+pub fn told_after_crash<R: Threads + Sync>(
+    rt: &R,
+    alloc: Global,
+    site: &MemorySite,
+    pick: Pick,
+    question: Question,
+) -> Result<Vec<u8>, Fail> {
+    let (zero, one) = site.crash(pick)?;
+    let site = MemorySite::new(alloc, Vec::new(alloc), zero, one)?;
+    let site = asked_again(rt, alloc, site, question)?;
+    Ok(Vec::from_slice(alloc, site.told())?)
+}
+
+/// How many lines were told.
+pub fn lines(site: &MemorySite) -> usize {
+    site.told().iter().filter(|byte| **byte == b'\n').count()
+}
+
+// Whether a text shows so many edits or more, where these are told after none of them, after the first, and so on.
+fn shows_edits(text: &[u8], shown: &[&[u8]], acknowledged: usize) -> bool {
+    shown.iter().skip(acknowledged).any(|after| *after == text)
+}
+
+/// Whether each image that a crash may leave shows so many edits or more, a second run on the same site too, and then each image
+/// just what that run shows.
+pub fn keeps_edits<R: Threads + Sync>(
+    rt: &R,
+    alloc: Global,
+    site: MemorySite,
+    question: Question,
+    shown: &[&[u8]],
+    acknowledged: usize,
+) -> Result<bool, Fail> {
+    for pick in PICKS {
+        let text = told_after_crash(rt, alloc, &site, pick, question)?;
+        if !shows_edits(&text, shown, acknowledged) {
+            return Ok(false);
         }
     }
-    Ok(())
-}
-
-#[test]
-fn a_call_that_fails_ends_the_run(rt: HostRuntime) -> Result<(), Fail> {
-    let alloc = rt.alloc();
-    let failures = [
-        (CallKind::Sync, Status::DiskFault),
-        (CallKind::Take, Status::ReadFault),
-        (CallKind::Tell, Status::TellFault),
-    ];
-    for (kind, status) in failures {
-        let mut fails = Vec::new(alloc);
-        fails.push((kind, 1u32))?;
-        let mut site = over(alloc, TWO_EDITS)?.with_failures(fails);
-        assert_eq!(rt; session(alloc, &mut site), status);
-        assert_eq!(rt; site.told().len(), 0);
+    let site = asked_again(rt, alloc, site, question)?;
+    for pick in PICKS {
+        let text = told_after_crash(rt, alloc, &site, pick, question)?;
+        if text.as_slice() != site.told() {
+            return Ok(false);
+        }
     }
-    Ok(())
+    Ok(shows_edits(site.told(), shown, acknowledged))
 }
 
 #[test]
@@ -95,7 +138,10 @@ fn the_bound_counts_the_bytes_up_to_quit(rt: HostRuntime) -> Result<(), Fail> {
     ];
     for (input, most, status) in bounds {
         let mut site = over(alloc, input)?;
-        assert_eq!(rt; run_within(alloc, &words, &mut site, most), status);
+        assert_eq!(rt;
+            run_within(&rt, alloc, &words, &mut site, &NoGate, most),
+            status
+        );
     }
     Ok(())
 }
