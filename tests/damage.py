@@ -1,10 +1,16 @@
 #!/usr/bin/env python3
 """Feeds damaged listings and damaged stores to the built program, and compares what it does with a second reading of the formats.
 
-A listing is cut at every byte, alone and with the session that it stands in. A store whose two sides are written has bits turned, is cut,
-exchanged, replaced by older copies and by bytes of any kind: each run ends with the fault that a second reader finds first, or with the state
-that it finds, and an edit then goes to the place that it finds. Of what there are many a sample is tried, and all with --all.
+damage.py PROGRAM [--sample NUMBER | --all] [--seed NUMBER] [KIND]...: a listing is cut at every byte, alone and with the session that it stands in.
+A store that was moved to its other side twice, with edits before, between and after, has each bit of both files turned, is cut at each length,
+exchanged, and has one file replaced by an older copy of itself, by zeros and by bytes of any kind; images, rows, payloads and records are changed
+under seals and lengths that are right. Each run ends with the fault that a second reader finds first, and leaves both files as they were, or with
+the state that it finds, and an edit then goes to the place that it finds. Each fault of a store is made on purpose too. Of a kind of which there
+is more a sample is tried, and all with --all.
 """
+import argparse
+import collections
+import itertools
 import os
 import random
 import re
@@ -13,16 +19,14 @@ import sys
 import tempfile
 from concurrent.futures import ThreadPoolExecutor
 
+import histories
 import keyring
 import listing
 import store
-from keyring import Options
-from program import REAL, by, fingerprint, folder, key, run
+from histories import COMPACT
+from keyring import Options, Row
+from program import REAL, by, fingerprint, folder, key, run, short
 
-SAMPLE = 1500
-chance = random.Random(3)
-# no store here has to outlive a stop of the machine
-tempfile.tempdir = "/dev/shm" if os.path.isdir("/dev/shm") else None
 BLOCK = (
     REAL
     + key("E", "B", by("A", made="19991231T235959", trusts="1 60", scope="<[^>]+[@.]example\\x5c.org>$", kind="13l"), by("C", kind="30x", record="rev"))
@@ -54,64 +58,59 @@ EDIT = bytes.fromhex(fingerprint("FF"))
 ASKED = f"sigs\nexport\ntrust {EDIT.hex()} n\n"
 
 
-def answer(state):
-    return keyring.sigs(state) + b"ok\n" + keyring.export(state) + b"ok\nok\n"
-
-
-def opened(sides):
+def opened(sides, words=()):
     """What differs in a run over these sides: the same fault and nothing written, or the same state, and an edit at its end."""
     found = store.shown(*sides)
     with folder() as where:
         store.write_sides(where, sides)
         try:
-            done = run(ASKED, where=where, timeout=60)
+            done = run(ASKED, words, where, timeout=60)
         except subprocess.TimeoutExpired:
             return "no end"
         left = store.read_sides(where)
     if isinstance(found, store.Bad):
         wanted = (6, b"", b"wot: bad store: %s\n" % found.name.encode())
         return None if (done.returncode, done.stdout, done.stderr) == wanted and left == sides else (found, done, left == sides)
-    if (done.returncode, done.stdout, done.stderr) != (0, answer(found.state), b""):
+    if (done.returncode, done.stdout, done.stderr) != (0, histories.shows(found.state) + b"ok\n", b""):
         return found, done
     wanted = found._replace(state=store.set_entry(found.state, EDIT, keyring.NEVER, False), end=found.end + 28)
     before = left[found.side][:found.end] == sides[found.side][:found.end]
-    kept = left[1 - found.side] == sides[1 - found.side] and (is_new(sides) or before)
+    kept = left[1 - found.side] == sides[1 - found.side] and (all(map(store.is_blank, sides)) or before)
     return None if store.shown(*left) == wanted and kept else (found, "is not where it should be", left)
 
 
-def is_new(sides):
-    return all(map(store.is_blank, sides))
+def fault(given):
+    """What differs where a fault is made on purpose: it is told by its name, over any number of workers."""
+    name, sides = given
+    found = store.shown(*sides)
+    differs = [opened(sides, words) for words in ((), ("--workers", "4"), ("--workers=64",))]
+    return None if found == store.Bad(name) and not any(differs) else (name, found, differs)
 
 
-def sound_store():
-    """The sides of a store that was written anew once, with edits before and after that; and older copies of each side."""
-    keys, _, _ = listing.read((key("A") + key("B", by("A", trusts="1 60", scope="<[^>]+[@.]b>$")) + key("C", "A", expires=9000)).encode().split(b"\n"))
-    before = [payload_of_trust("A", 6), payload_of_import(keys), payload_of_trust("B", 5), b"\6" + store.number(4000, 4)]
-    gone = keyring.key_id(bytes.fromhex(fingerprint("C")))
-    after = [payload_of_trust("C", 4), b"\7" + store.options_bytes(Options(True, 2, 3, 5, 1)), b"\5" + store.number(gone, 8)]
-    zero = [store.side_for(1, keyring.opening(), before[:count]) for count in range(len(before) + 1)]
-    state = store.shown(zero[-1], b"").state
-    return zero, [store.side_for(2, state, after[:count]) for count in range(len(after) + 1)], state
+STEPS = [
+    histories.trust("A", "u"),
+    histories.keys(key("A"), key("B", by("A", trusts="1 60", scope="<[^>]+[@.]b>$")), key("C", "A", by("B", kind="30x", record="rev"), expires=9000)),
+    histories.trust("B", "f"), histories.date(4000),
+    COMPACT,
+    histories.trust("C", "m"), histories.options(Options(True, 2, 3, 5, 1)), histories.keys(key("D", by("C", trusts="2 120"), by("A", kind="11l"))),
+    COMPACT,
+    histories.delete("C"), histories.trust("D", "n"), histories.flag("B", True),
+]
 
 
-def payload_of_trust(name, number):
-    return b"\3" + store.fingerprint_bytes(bytes.fromhex(fingerprint(name))) + bytes([number])
-
-
-def payload_of_import(keys):
-    return b"\1" + store.some([keys[k] for k in sorted(keys)], store.key_bytes)
-
-
-ZEROS, ONES, STATE = sound_store()
-ZERO, ONE = SOUND = ZEROS[-1], ONES[-1]
+STAGES = histories.files((b"", b""), STEPS)
+ZERO, ONE = STAGES[-1]
+STATE = store.shown(ZERO, ONE).state
 IMAGE = store.image_bytes(STATE, keyring.rows_of(STATE))
-ALL = "--all" in sys.argv
+MADE = store.sampled(7, 60)(keyring.opening())
 
 
-def some(things):
-    """All of them, or a sample."""
-    things = list(things)
-    return things if ALL or len(things) <= SAMPLE else chance.sample(things, SAMPLE)
+def written(stage):
+    """What differs in the files that the program writes by the first steps."""
+    with folder() as where:
+        done = run("".join(step.given for step in STEPS[:stage]), where=where)
+        left = store.read_sides(where)
+    return None if done.returncode == 0 and left == STAGES[stage] else (done, left)
 
 
 def with_bit(data, bit):
@@ -121,6 +120,15 @@ def with_bit(data, bit):
 
 def with_byte(data, place, byte):
     return data[:place] + bytes([byte]) + data[place + 1:]
+
+
+def with_number(data, place, value):
+    return data[:place] + store.number(value, 8) + data[place + 8:]
+
+
+def with_rows(state, rows, payloads=()):
+    """A side with a base of this state and these rows."""
+    return store.side_of(1, store.image_bytes(state, rows), payloads)
 
 
 def turned():
@@ -137,45 +145,72 @@ def turned_where_it_counts():
         yield from ((bytes(50), with_bit(data, bit)) for bit in bits)
 
 
+def replaced():
+    """A byte of a side is 00, a5 or any, and a side is zeros, gates or any bytes of its length."""
+    for data, pair in ((ZERO, lambda other: (other, ONE)), (ONE, lambda other: (ZERO, other))):
+        yield from (pair(with_byte(data, place, byte)) for place in range(len(data)) for byte in (0, store.GATE, chance.randrange(256)))
+        wholes = [bytes(len(data)), b"\xa5" * len(data), data[:24] + chance.randbytes(len(data) - 24), *(chance.randbytes(len(data)) for _ in range(8))]
+        yield from map(pair, wholes)
+
+
 def cut():
     """A side ends early."""
     yield from ((ZERO[:size], ONE) for size in range(len(ZERO)))
     yield from ((ZERO, ONE[:size]) for size in range(len(ONE)))
-    yield from ((side[:size], b"") for side in SOUND for size in range(len(side)))
+    yield from ((side[:size], b"") for side in (ZERO, ONE) for size in range(len(side)))
 
 
 def exchanged():
     """Whole sides in another place, older copies, and copies of the same side."""
-    sides = [b"", bytes(24), *ZEROS, *ONES]
+    sides = sorted({b"", bytes(24), *(side for stage in STAGES for side in stage)})
     yield from ((zero, one) for zero in sides for one in sides)
 
 
 def images():
     """A base with one bit of its image turned, or a byte of it replaced, under seals that are right."""
     yield from ((store.side_of(1, with_bit(IMAGE, bit)), b"") for bit in range(8 * len(IMAGE)))
-    yield from ((ZERO, store.side_of(2, with_byte(IMAGE, place, byte))) for place in range(len(IMAGE)) for byte in (0, 1, 20, 32, 255))
+    yield from ((ZERO, store.side_of(4, with_byte(IMAGE, place, byte))) for place in range(len(IMAGE)) for byte in (0, 1, 20, 32, 255))
     yield from ((store.side_of(1, IMAGE[:size]), b"") for size in range(len(IMAGE)))
+
+
+def rows():
+    """A base with one row less, one more, or another one, under seals that are right."""
+    for state in (STATE, MADE):
+        own = keyring.rows_of(state)
+        yield from ((with_rows(state, {k: row for k, row in own.items() if k != gone}), b"") for gone in own)
+        for k, row in own.items():
+            others = [row._replace(level=level) for level in (0, 1, row.level + 1, state.options.depth, 255)]
+            others += [row._replace(trust=trust) for trust in keyring.TRUST_NUMBERS] + [row._replace(left=left) for left in (0, row.left + 1, 255)]
+            others += [row._replace(scope=scope) for scope in (None, b"x", b"<[^>]+[@.]b>$", b"y" * 255)]
+            yield from ((with_rows(state, own | {k: other}), b"") for other in others if other != row)
+        absent = [0, 2**40, 2**64 - 1, *(k for k in state.keys if k not in own)]
+        yield from ((with_rows(state, own | {k: Row(level, 5, 0, None)}), b"") for k in absent for level in (0, 1, 4, 5, 255))
 
 
 def payloads():
     """A record with one bit of its payload turned, in its right frame."""
-    edits = [payload_of_trust("A", 6), payload_of_import(STATE.keys), b"\2" + store.some(sorted(STATE.trusts.items()), store.entry_bytes)]
-    edits += [b"\4" + payload_of_trust("A", 1)[1:], b"\5" + store.number(0xBB, 8), b"\7" + store.options_bytes(Options())]
+    edits = [histories.trust("A", "u").payload, payload_of_import(STATE.keys), b"\2" + store.some(sorted(STATE.trusts.items()), store.entry_bytes)]
+    edits += [histories.flag("A", True).payload, histories.delete("B").payload, histories.options(Options()).payload]
     # a sample with a bit turned would be one of very many keys
     yield from ((store.side_for(1, STATE, [with_bit(edit, bit)]), b"") for edit in edits for bit in range(8 * len(edit)))
-    edits.append(b"\x08" + store.number(7, 8) + store.number(3, 4))
+    edits.append(histories.sample(7, 3).payload)
     yield from ((store.side_for(1, STATE, [edit[:size]]), b"") for edit in edits for size in range(len(edit) + 1))
     yield from ((store.side_for(1, STATE, [edit + b"\0"]), b"") for edit in edits)
     yield from ((store.side_for(1, STATE, [one, other]), b"") for one in edits for other in edits)
+
+
+def payload_of_import(keys):
+    return b"\1" + store.some([keys[k] for k in sorted(keys)], store.key_bytes)
 
 
 def numbers():
     """Numbers at their ends, in headers and in records."""
     for value in (0, 1, 2, 2**20, 2**32 - 1, 2**52, 2**63, 2**64 - 1):
         for place in (8, 16):
-            yield ZERO[:place] + store.number(value, 8) + ZERO[place + 8:], ONE
-            yield ZERO, ONE[:place] + store.number(value, 8) + ONE[place + 8:]
-    yield from ((ZERO[:-1] + b"\xa5" + store.number(size, 4) + b"\0" * 20, b"") for size in (0, 1, 14, 15, 16, 2**31, 2**32 - 2, 2**32 - 1))
+            yield with_number(ZERO, place, value), ONE
+            yield ZERO, with_number(ONE, place, value)
+    fresh = store.side_for(1, STATE)[:-1]
+    yield from ((fresh + b"\xa5" + store.number(size, 4) + b"\0" * 20, b"") for size in (0, 1, 14, 15, 16, 2**31, 2**32 - 2, 2**32 - 1))
     yield from ((store.side_of(1, store.number(size, 8) + IMAGE[8:]), b"") for size in (0, 1, len(IMAGE) - 9, len(IMAGE) - 7, 2**63, 2**64 - 8, 2**64 - 1))
 
 
@@ -186,21 +221,97 @@ def bytes_of_any_kind():
             yield from ((data, ONE), (ZERO, data), (data, b""), (data, data))
 
 
-KINDS = (turned, turned_where_it_counts, cut, exchanged, images, payloads, numbers, bytes_of_any_kind)
+def purposes():
+    """Each fault of a store, made on purpose, also where later ones stand too."""
+    own = keyring.rows_of(STATE)
+    fewer = {k: own[k] for k in sorted(own)[1:]}
+    new, gone, nothing = store.side_for(1, STATE)[:-1], b"\5" + bytes(8), b"\6\0\0\0"
+    taken = payload_of_import({0xAA: STATE.keys[0xAA]._replace(fpr=b"\x11" * 12 + bytes(7) + b"\xaa")})
+    yield from (("Magic", sides) for sides in ((with_byte(ZERO, 1, 0x58), ONE), (ZERO, with_byte(ONE, 7, 0)), (ZERO, with_byte(ZERO, 3, 0)), (b"", with_byte(ONE, 2, 1))))
+    yield from (("SameEpoch", sides) for sides in ((ZERO, ZERO), (ONE, ONE), (with_bit(ZERO, 8 * 100), ZERO), (ZERO, with_number(ONE, 8, 3))))
+    yield from (("Short", (side, b"")) for side in (ZERO[:4000], ZERO[:4120], ZERO[:24], with_number(ZERO, 16, 0)[:24], with_number(ZERO, 16, 2), new + b"\xa5", new + b"\xa5\xff\xff\xff\xff\0", new + store.record(gone)))
+    yield from (("Seal", sides) for sides in ((with_bit(ZERO, 8 * 100), ONE), (with_bit(ZERO, 8 * 4119), ONE), (with_number(ZERO, 8, 5), ONE), (with_bit(store.side_for(4, MADE), 8 * 8000), ONE)))
+    spelled = [with_byte(IMAGE, 8, 0xFF), IMAGE + b"\1", IMAGE + bytes(store.CONTENT), with_byte(IMAGE, 13, 2)]
+    spelled += [store.number(len(IMAGE) - 8 - less, 8) + IMAGE[8:len(IMAGE) - less] for less in (1, 4, 20)]
+    yield from (("Spelling", (store.side_of(4, image, [nothing]), ONE)) for image in spelled)
+    yield "Spelling", (with_number(ZERO, 16, 0), ONE)
+    yield from (("Row", (with_rows(STATE, fewer, records), b"")) for records in ((), [gone], [nothing], [histories.trust("A", "u").payload]))
+    yield "Row", (b"", with_rows(STATE, {}))
+    yield "Row", (with_rows(MADE, {k: row._replace(level=row.level + 1) for k, row in keyring.rows_of(MADE).items()}), b"")
+    yield from (("BadPayload", (store.side_for(1, STATE, [histories.date(1).payload, bad, gone]), b"")) for bad in (nothing, b"", b"\xff", b"\0", b"\x09", histories.date(1).payload + b"\0"))
+    yield from (("BadEdit", (store.side_for(1, STATE, [histories.date(1).payload, bad, nothing]), b"")) for bad in (gone, taken, histories.delete("C").payload))
+
+
+FAULTS = ("Magic", "SameEpoch", "Short", "Seal", "Spelling", "Row", "BadPayload", "BadEdit")
+KINDS = (turned, turned_where_it_counts, replaced, cut, exchanged, images, rows, payloads, numbers, bytes_of_any_kind)
+
+
+def tries():
+    """What is tried, kind after kind: its name, how each is looked at, and all that there are."""
+    yield "faults made on purpose", fault, purposes()
+    yield "stages of a store", written, range(len(STAGES))
+    yield "cuts of a listing", cut_listing, range(len(BLOCK) + 1)
+    yield "cuts of a session", cut_session, range(len(SESSION) + 1)
+    for kind in KINDS:
+        yield kind.__name__.replace("_", " "), opened, kind()
+
+
+def some(things, most):
+    """So many of them, each as likely as another, and how many there are."""
+    taken, count = [], 0
+    for count, thing in enumerate(things, 1):
+        if len(taken) < most:
+            taken.append(thing)
+        elif (place := chance.randrange(count)) < most:
+            taken[place] = thing
+    return taken, count
+
+
+def batches(check, things):
+    """What is taken of a kind, in batches, each with how many there are of it."""
+    if not asked.all:
+        yield some(things, asked.sample if check not in (fault, written) else sys.maxsize)
+        return
+    things = iter(things)
+    while batch := list(itertools.islice(things, 1000)):
+        yield batch, len(batch)
+
+
+def outcomes(check, batch):
+    """What the tries of a batch come to, by a second reader."""
+    found = [store.shown(*sides) for sides in batch] if check is opened else [store.Bad(name) for name, _ in batch] if check is fault else []
+    return collections.Counter(one.name if isinstance(one, store.Bad) else "a state" for one in found)
 
 
 def main():
-    tries = [(cut_listing, size) for size in range(len(BLOCK) + 1)] + [(cut_session, size) for size in range(len(SESSION) + 1)]
-    tries += [(opened, sides) for kind in KINDS for sides in some(kind())]
+    found, lines, wrong = collections.Counter(), [], []
     with ThreadPoolExecutor() as pool:
-        results = list(pool.map(lambda one: one[0](one[1]), tries))
-    wrong = [(check.__name__, given, differs) for (check, given), differs in zip(tries, results) if differs is not None]
+        for name, check, things in tries():
+            if asked.kinds and name not in asked.kinds:
+                continue
+            tried, there = 0, 0
+            for batch, count in batches(check, things):
+                wrong += [(name, given, differs) for given, differs in zip(batch, pool.map(check, batch)) if differs is not None]
+                found += outcomes(check, batch)
+                tried, there = tried + len(batch), there + count
+            lines.append(f"{name} {tried}" + (f" of {there}" if tried < there else ""))
     if wrong:
-        sys.exit(f"damage: {len(wrong)} of {len(tries)} differ: {wrong[:3]}")
-    found = [store.shown(*sides) for check, sides in tries if check is opened]
-    names = [one.name if isinstance(one, store.Bad) else "a state" for one in found]
-    print(f"damage: {len(tries)} ok; of the stores " + ", ".join(f"{names.count(name)} {name}" for name in sorted(set(names))))
+        said = "\n".join(f"{name}: of {short(repr(given))}: {short(repr(differs))}" for name, given, differs in wrong[:3])
+        sys.exit(f"damage: seed {asked.seed}: {len(wrong)} differ: {said}")
+    if not asked.kinds and {*found} != {"a state", *FAULTS}:
+        sys.exit(f"damage: not every fault was made: {found}")
+    print(f"damage: seed {asked.seed}: {', '.join(lines)}: ok; of the stores " + ", ".join(f"{found[name]} {name}" for name in sorted(found)))
 
 
 if __name__ == "__main__":
+    parser = argparse.ArgumentParser()
+    parser.add_argument("program")
+    parser.add_argument("kinds", nargs="*")
+    parser.add_argument("--sample", type=int, default=150)
+    parser.add_argument("--all", action="store_true")
+    parser.add_argument("--seed", type=int, default=3)
+    asked = parser.parse_args()
+    chance = random.Random(asked.seed)
+    # no store here has to outlive a stop of the machine
+    tempfile.tempdir = "/dev/shm" if os.path.isdir("/dev/shm") else None
     main()

@@ -1,8 +1,8 @@
 #!/usr/bin/env python3
 """Runs the built program on devices that fail, and looks at the order of its calls.
 
-Standard output on a full device, a folder as standard input, streams that were closed before the run, a store on a full disk, and the
-writes and syncs between two replies.
+Standard output on a full device, a folder as standard input, streams that were closed before the run, and the writes and syncs between two
+replies.
 What the machine has no means for is skipped, and said so.
 """
 import itertools
@@ -30,13 +30,6 @@ def folder_as_input():
         done = subprocess.run([PROGRAM], stdin=here, capture_output=True, cwd=store, timeout=60)
         os.close(here)
     return "ok" if (done.returncode, done.stderr, done.stdout) == (3, b"wot: read fault\n", b"") else f"FAULT: {done}"
-
-
-def folder_as_store():
-    with folder() as store:
-        os.mkdir(os.path.join(store, "wot.0"))
-        done = run("list\n", where=store)
-    return "ok" if (done.returncode, done.stderr, done.stdout) == (5, b"wot: disk fault\n", b"") else f"FAULT: {done}"
 
 
 def usage_makes_nothing():
@@ -102,59 +95,38 @@ def closed_streams():
     return f"FAULT: {wrong}" if wrong else f"ok, {len(sets)} sets of them"
 
 
-def full_disk():
-    """A store on a small disk that runs full: status 5, and nothing acknowledged is lost."""
-    with tempfile.TemporaryDirectory(prefix="wot") as where:
-        if subprocess.run(["mount", "-t", "tmpfs", "-o", "size=64k", "none", where], capture_output=True, check=False).returncode:
-            return "skipped: no small disk can be mounted"
-        try:
-            done = run("".join(trust("%02X" % (n % 256), "qnmfu"[n % 5]) for n in range(5000)), where=where)
-            acknowledged = done.stdout.count(b"ok\n")
-            with folder() as copy:
-                for name in ("wot.0", "wot.1"):
-                    shutil.copy(os.path.join(where, name), copy)
-                shown = run("export\n", where=copy).stdout
-            shows = []
-            for count in (acknowledged, acknowledged + 1):
-                with folder() as other:
-                    shows.append(run("".join(trust("%02X" % (n % 256), "qnmfu"[n % 5]) for n in range(count)) + "export\n", where=other).stdout[3 * count:])
-        finally:
-            subprocess.run(["umount", where], capture_output=True, check=False)
-    if done.returncode == 5 and done.stderr == b"wot: disk fault\n" and shown in shows:
-        return f"ok, after {acknowledged} edits"
-    return f"FAULT: status {done.returncode}, {acknowledged} edits acknowledged"
+CALLS = re.compile(r"(write|pwrite64|writev|ftruncate|fsync|fdatasync)\((\d+)")
 
 
-CALLS = re.compile(r"(write|pwrite64|writev|lseek|fsync|fdatasync)\((\d+)")
+# the writes and syncs of an edit, and those of a compaction of one page, in small letters of the first file and in capitals of the second
+ORDER = {
+    trust("A", "u"): "wswwwswswsws", trust("B", "f"): "wsws", "compact\n": "WSWWWSWS", f"disable {fingerprint('A')}\n": "WSWS", "list\n": "",
+    "compact \n": "wswwwsws", trust("B", "m"): "wsws", " compact\n": "WSWWWSWS",
+}
 
 
 def order_of_calls():
-    """Between two replies stand two writes and two syncs of one file, in turn."""
+    """Between two replies stand the writes and syncs of an edit or of a compaction, in turn."""
     if not shutil.which("strace"):
         return "skipped: no strace"
     with folder() as store, tempfile.NamedTemporaryFile() as log:
-        traced = ["strace", "-f", "-o", log.name, "-e", "trace=write,pwrite64,writev,fsync,fdatasync,openat", PROGRAM]
-        given = trust("A", "u") + trust("B", "f") + f"disable {fingerprint('A')}\n"
-        done = subprocess.run(traced, input=given.encode(), capture_output=True, cwd=store, timeout=120, check=False)
+        traced = ["strace", "-f", "-o", log.name, "-e", "trace=write,pwrite64,writev,ftruncate,fsync,fdatasync,openat", PROGRAM]
+        done = subprocess.run(traced, input="".join(ORDER).encode(), capture_output=True, cwd=store, timeout=120, check=False)
         calls = log.read().decode(errors="replace")
-    if done.returncode or done.stdout != b"ok\n" * 3:
+    if done.returncode:
         return f"skipped: no run under strace: {done.returncode}"
-    opened = re.findall(r'openat\([^"]*"(?:[^"]*/)?wot\.0".*= (\d+)', calls)
-    kinds = []
+    files = {number: name for name, number in re.findall(r'openat\([^"]*"(wot\.[01])".*= (\d+)', calls)}
+    kinds = ""
     for name, number in CALLS.findall(calls):
-        if number in opened:
-            kinds.append("w" if "write" in name else "s")
-        elif number == "1":
-            kinds.append("|")
-    edits = "".join(kinds).split("|")
-    wanted = ["wsws"] * 2
-    if edits[0].endswith("wsws") and edits[1:3] == wanted:
-        return "ok"
-    return f"FAULT: {edits}"
+        kind = "w" if "write" in name else "t" if name == "ftruncate" else "s"
+        kinds += {"wot.0": kind, "wot.1": kind.upper()}.get(files.get(number), "|" if number == "1" else "")
+    # the first two syncs are those of the opening
+    found = kinds.removeprefix("sS").split("|")[:-1]
+    return "ok" if found == list(ORDER.values()) else f"FAULT: {found}"
 
 
 faults = False
-for check in (full_output, folder_as_input, folder_as_store, usage_makes_nothing, closed_streams, full_disk, order_of_calls):
+for check in (full_output, folder_as_input, usage_makes_nothing, closed_streams, order_of_calls):
     said = check()
     faults = faults or said.startswith("FAULT")
     print(f"devices: {check.__name__}: {said}")

@@ -11,7 +11,7 @@ import tempfile
 
 import gnupg
 from gnupg import DAY, START, NoGnuPG, gpg, later, letters, records
-from program import run
+from program import folder, run
 
 ULTIMATE, FULL, NEVER, UNDEFINED = 6, 5, 3, 2
 
@@ -181,6 +181,33 @@ def next_check():
     return [tuple("no" if date == ["0"] else "yes" for date in due)]
 
 
+def ownertrust_field():
+    """A key with a trust signature and without ownertrust: field 9 of its record."""
+    a, b = make(2)
+    trust_sign(a, b, 2, 1)
+    gpg("--import-ownertrust", given=f"{a}:{ULTIMATE}:\n{b}:{UNDEFINED}:\n")
+    gpg("--check-trustdb")
+    listing = printed()
+    told = run("\n".join(["import", *listing.splitlines(), ".", "list", ""])).stdout.decode()
+    fields = [[found[8] for found in records(text) if found[0] == "pub" and found[4] == b[-16:]] for text in (listing, told)]
+    return [(*fields[0], *fields[1])]
+
+
+def deleted_key():
+    """A key that gpg deleted, over a store that was made before: its letter, and its ownertrust."""
+    a, b = make(2)
+    sign(a, b)
+    own(key0=ULTIMATE, key1=FULL)
+    with folder() as store:
+        for _ in range(2):
+            run("\n".join(["ownertrust", *gpg("--export-ownertrust").splitlines(), ".", "import", *printed().splitlines(), ".", ""]), where=store)
+            if b in gnupg.primaries():
+                gpg("--delete-secret-and-public-key", b)
+        listed, exported = (run(f"{command}\n", where=store).stdout.decode() for command in ("list", "export"))
+    there = "Key 1 " in printed(), b in gpg("--export-ownertrust")
+    return [("there" if there[0] else "gone", letter(listed, 1)), ("there" if there[1] else "gone", "f" if f"{b}:{FULL}:" in exported else "gone")]
+
+
 def expiring_certification():
     """A certification at the second of its expiry."""
     a, b = make(2)
@@ -239,6 +266,8 @@ DIFFERENT = {
     scope_beyond_ascii: [("-", "f")],
     key_from_the_future: [("-", "f")],
     next_check: [("no", "yes")],
+    ownertrust_field: [("f", "-")],
+    deleted_key: [("gone", "f"), ("gone", "f")],
     certification_that_cannot_be_revoked: [("f", "f"), ("f", "-")],
 }
 SAME = {

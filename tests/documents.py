@@ -1,5 +1,6 @@
 #!/usr/bin/env python3
-"""Looks at the documents: links lead somewhere, a block of shell that an output follows prints it, and the man page names what the manual does.
+"""Looks at the documents: links lead somewhere, a block of shell that an output follows prints it, the man page names what the manual does,
+the picture of the crates is that of crates.txt, and the definitions that are named stand where it is said.
 
 The man page is also read by mandoc or by man, where there is one.
 """
@@ -80,6 +81,29 @@ def man_page():
     return f"a man page with {len(named)} names", [f"wot.1: no {name.strip()}" for name in named if name not in page]
 
 
+def crates():
+    """The picture of the crates is drawn from crates.txt as it is."""
+    drawn = subprocess.run([sys.executable, TOP / "docs" / "crates.py"], capture_output=True, text=True, timeout=60, check=True).stdout
+    is_same = drawn == (TOP / "docs" / "crates.svg").read_text(encoding="utf-8")
+    return "the picture of the crates", [] if is_same else ["docs/crates.svg: not what docs/crates.py draws of crates.txt"]
+
+
+def definitions():
+    """What the table of questions names stands in the file that it names."""
+    count, wrong = 0, []
+    for cell in re.findall(r"^\| [^|]*\? \| ([^|]*) \|$", (TOP / "docs" / "ARCHITECTURE.md").read_text(encoding="utf-8"), re.M):
+        for part in cell.split(";"):
+            crate = next(iter(re.findall(r" of `(wot_\w+)`", part)), "wot_types")
+            for file in re.findall(r"`(\w+\.antt)`", part):
+                path = TOP / "crates" / crate / "specs" / file
+                text = path.read_text(encoding="utf-8") if path.exists() else ""
+                named = [None, *re.findall(r"`(\w+)`", part.partition(":")[2])]
+                count += len(named)
+                missing = [name for name in named if not (text if name is None else re.search(rf"^(abbrev |unfoldable )?pub (record )?{name} ", text, re.M))]
+                wrong += [f"docs/ARCHITECTURE.md: no {name or 'such file'} in {path.relative_to(TOP)}" for name in missing]
+    return f"{count} definitions", wrong
+
+
 def man_is_read():
     """The man page has no warnings."""
     page = str(TOP / "docs" / "wot.1")
@@ -93,7 +117,7 @@ def man_is_read():
 
 
 if __name__ == "__main__":
-    found = [check() for check in (dead_links, sessions, first_session, man_page, man_is_read)]
+    found = [check() for check in (dead_links, sessions, first_session, crates, definitions, man_page, man_is_read)]
     wrong = [line for _, lines in found for line in lines]
     if wrong:
         sys.exit("\n".join(["documents:", *wrong]))

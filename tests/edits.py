@@ -1,10 +1,13 @@
 #!/usr/bin/env python3
 """Makes edits of all kinds at random in sessions on small keyrings, and recounts each state from nothing.
 
-`edits.py PROGRAM [SECONDS [SEED]]`: after each edit the state, as `sigs` and `export` print it, is given to another process with an empty
-store, and what `list`, `sigs`, `export` and some `why` tell there is compared. A session's store is reopened too. The first difference
-ends the check and leaves the session's commands in a file.
+edits.py PROGRAM [--time SECONDS] [--edits NUMBER] [--seed NUMBER]: sessions are made until the time is over or there were so many edits. After
+each edit, and each `compact` between them, the state, as `sigs` and `export` print it, is given to another process with an empty store, and what
+`list`, `sigs`, `export`, `check` and some `why` tell there is compared. A session's store is reopened too. The first difference ends the check
+and leaves the session's commands in a file.
 """
+import argparse
+import os
 import random
 import sys
 import tempfile
@@ -13,8 +16,9 @@ from concurrent.futures import ThreadPoolExecutor
 
 from program import folder, run
 
-SECONDS = float(sys.argv[2]) if len(sys.argv) > 2 else 10
-SEED = int(sys.argv[3]) if len(sys.argv) > 3 else 1
+# no store here has to outlive a stop of the machine; a session that is left may
+KEPT = tempfile.gettempdir()
+tempfile.tempdir = "/dev/shm" if os.path.isdir("/dev/shm") else None
 NAMES, EDITS = 12, 40
 DATES = (1000, 1002, 1003, 1004, 1005)
 SCOPES = ("", "", "", "<[^>]+[@.]a\\x5c.example>$", "<[^>]+[@.]example>$", "a.example")
@@ -68,6 +72,8 @@ class Edits:
         return "ownertrust\n" + "".join(f"{fingerprint(self.name())}:{self.chance.choice(numbers)}:\n" for _ in range(self.chance.choice((1, 2, 5)))) + ".\n"
 
     def next(self):
+        if self.chance.random() < 0.06:
+            return "compact\n"
         kind = self.chance.random()
         name = self.name()
         fpr = fingerprint(name, self.chance.random() < 0.05)
@@ -91,7 +97,7 @@ class Edits:
         return f"sample {self.chance.choice((7, 8))} {self.chance.randrange(1, 13)}\n"
 
     def questions(self):
-        return "".join(f"why {fingerprint(name)} {self.chance.choice((1, 1, 2))}\n" for name in range(1, NAMES + 1)) + "list\n"
+        return "".join(f"why {fingerprint(name)} {self.chance.choice((1, 1, 2))}\n" for name in range(1, NAMES + 1)) + "check\nlist\n"
 
 
 def replies(told):
@@ -123,7 +129,7 @@ def session(seed, pool):
     with folder() as store:
         told = replies(run("".join(commands), where=store).stdout)
         again = replies(run("sigs\nexport\n" + states[-1][2], where=store).stdout)
-    count = NAMES + 4
+    count = NAMES + 5
     if len(told) != EDITS * count:
         return commands, 0, 0, [("the session", [f"{len(told)} replies\n"], [f"{EDITS * count} replies\n"])]
     groups = [told[i * count : (i + 1) * count] for i in range(EDITS)]
@@ -140,15 +146,30 @@ def first_difference(told, wanted):
     return next((f"told\n{a}recounted\n{b}" for a, b in zip(told, wanted) if a != b), f"{len(told)} replies, and {len(wanted)} recounted")
 
 
-begun, sessions, refusals, explained = time.monotonic(), 0, 0, 0
-with ThreadPoolExecutor(2) as pool:
-    while sessions == 0 or time.monotonic() - begun < SECONDS:
-        seed = SEED * 1_000_000 + sessions
-        commands, refused, reasons, wrong = session(seed, pool)
-        if wrong:
-            with tempfile.NamedTemporaryFile("w", prefix="edits", suffix=".session", delete=False) as kept:
-                kept.write("".join(commands))
-            place, told, wanted = wrong[0]
-            sys.exit(f"edits: session {seed}, {place}: {first_difference(told, wanted)}its commands are in {kept.name}")
-        sessions, refusals, explained = sessions + 1, refusals + refused, explained + reasons
-print(f"edits: {sessions * EDITS} edits at random in {sessions} sessions from seed {SEED}, {refusals} of them refused: each state has the letters that it has when counted from nothing, and {explained} explanations the same introducers and counts")
+def main():
+    parser = argparse.ArgumentParser()
+    parser.add_argument("program")
+    parser.add_argument("--time", type=float, default=8)
+    parser.add_argument("--edits", type=int, default=10**9)
+    parser.add_argument("--seed", type=int, default=1)
+    asked = parser.parse_args()
+    begun, sessions, refusals, explained, compactions = time.monotonic(), 0, 0, 0, 0
+    with ThreadPoolExecutor(2) as pool:
+        while sessions == 0 or (time.monotonic() - begun < asked.time and sessions * EDITS < asked.edits):
+            seed = asked.seed * 1_000_000 + sessions
+            commands, refused, reasons, wrong = session(seed, pool)
+            if wrong:
+                with tempfile.NamedTemporaryFile("w", dir=KEPT, prefix="edits", suffix=".session", delete=False) as kept:
+                    kept.write("".join(commands))
+                place, told, wanted = wrong[0]
+                sys.exit(f"edits: session {seed}, {place}: {first_difference(told, wanted)}its commands are in {kept.name}")
+            sessions, refusals, explained = sessions + 1, refusals + refused, explained + reasons
+            compactions += sum(command.startswith("compact\n") for command in commands)
+    print(
+        f"edits: {sessions * EDITS} edits at random in {sessions} sessions from seed {asked.seed}, {compactions} of them compactions and {refusals} refused: "
+        f"each state has the letters that it has when counted from nothing, and {explained} explanations the same introducers and counts"
+    )
+
+
+if __name__ == "__main__":
+    main()

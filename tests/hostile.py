@@ -1,6 +1,7 @@
 #!/usr/bin/env python3
-"""Changes real listings and ownertrust texts at random, by fields, records, their order, lengths and bytes, and compares what the built
-program answers with a second reading of the formats and the rules.
+"""Changes real listings and ownertrust texts at random, by fields, records, blocks, their order, lengths and bytes, and compares what the built
+program answers with a second reading of the formats and the rules: the reply, then the state as it is printed, tallied, and printed again by a
+run that opens what `compact` left, whose bytes are the ones that the formats give.
 
 hostile.py PROGRAM [--time SECONDS] [--seed NUMBER] [--case NUMBER]: a case hangs on the seed and on its own number alone.
 A run may hold a gigabyte of memory, and has to end within a minute.
@@ -20,8 +21,9 @@ from concurrent.futures import ThreadPoolExecutor
 import keyring
 import listing
 import ownertrust
+import store
 from keyring import OWNER_LETTERS, Options
-from program import REAL, by, fingerprint, key, run, short
+from program import REAL, by, fingerprint, folder, key, run, short
 
 MEMORY = 2**30
 EXAMPLES = pathlib.Path(__file__).resolve().parent.parent / "examples"
@@ -113,6 +115,30 @@ def leave_out(chance, lines, at):
     del lines[at:at + chance.choice([1, 1, 1, 3])]
 
 
+def blocks(lines):
+    """The lines before the first key, and those of each key."""
+    found = [[]]
+    for line in lines:
+        if line.startswith(b"pub:"):
+            found.append([])
+        found[-1].append(line)
+    return found
+
+
+def change_blocks(chance, lines, _):
+    """Puts keys into another order, leaves one out, or takes some of another text."""
+    own, other = blocks(lines), blocks(chance.choice(LISTINGS).split(b"\n"))
+    change = chance.randrange(3)
+    if change == 0:
+        chance.shuffle(own)
+    elif change == 1:
+        del own[chance.randrange(len(own))]
+    else:
+        place = chance.randrange(len(own) + 1)
+        own[place:place + chance.choice([0, 1])] = chance.sample(other, chance.choice([1, 1, len(other)]))
+    lines[:] = [line for block in own for line in block]
+
+
 def make_long(chance, lines, at):
     lines[at] += chance.choice([b":", b"x", b"\\x3a", b"\r"]) * chance.choice([1, 10, 300, listing.LINE - len(lines[at]), listing.LINE - len(lines[at]) + 1])
 
@@ -131,7 +157,7 @@ def change_bytes(chance, lines, at):
 
 CHANGES = [
     *[change_field] * 3, *[change_read_field] * 5, *[change_bytes] * 2,
-    change_number_of_fields, change_kind, change_order, repeat, leave_out, make_long, cut,
+    change_number_of_fields, change_kind, change_order, *[change_blocks] * 3, repeat, leave_out, make_long, cut,
 ]
 
 
@@ -164,19 +190,24 @@ def whole(lines):
 
 
 def difference(seed, number):
-    """What a case answers, and what it should, where they differ; and the name of its reply."""
+    """What a case answers, and what it should, where they differ; and its replies."""
     chance = random.Random(f"{seed} {number}")
     state, commands = settings(chance)
     lines, owners = changed(chance, chance.choice(LISTINGS)), changed(chance, OWNERTRUST)
     first, after = listing.imported(state, lines)
     second, after = ownertrust.imported(after, owners)
     reply = first + second
-    wanted = b"ok\n" * commands.count("\n") + reply + keyring.sigs(after) + b"ok\n" + keyring.export(after) + b"ok\n"
-    given = commands.encode() + b"import\n" + whole(lines) + b".\nownertrust\n" + whole(owners) + b".\nsigs\nexport\n"
-    try:
-        done = run(given, timeout=60)
-    except subprocess.TimeoutExpired:
-        return f"case {number}: no end", reply
+    shows = keyring.sigs(after) + b"ok\n" + keyring.export(after) + b"ok\n"
+    wanted = b"ok\n" * commands.count("\n") + reply + shows + keyring.tally(after) + b"ok\nok\n"
+    given = commands.encode() + b"import\n" + whole(lines) + b".\nownertrust\n" + whole(owners) + b".\nsigs\nexport\ncheck\ncompact\n"
+    with folder() as where:
+        try:
+            done, again = run(given, where=where, timeout=60), run("sigs\nexport\n", where=where, timeout=60)
+        except subprocess.TimeoutExpired:
+            return f"case {number}: no end", reply
+        moved = store.read_sides(where)[1]
+    if (again.returncode, again.stdout, again.stderr) != (0, shows, b"") or moved != store.side_for(2, after):
+        return f"case {number}: moved to the other side it tells {short(again.stdout)} {again.stderr!r}, in place of {short(shows)}, of\n{given!r}", reply
     if (done.returncode, done.stdout, done.stderr) == (int(b"err" in reply), wanted, b""):
         return None, reply
     told, want = next(((a, b) for a, b in itertools.zip_longest(done.stdout.split(b"\n"), wanted.split(b"\n")) if a != b), ("all", "all"))

@@ -216,6 +216,13 @@ def key_letter(state, rows, k):
     return min(found, key="ufmq-".index, default="-")
 
 
+def tally(state):
+    """What `check` and `sample` tell of a state before their last line: how many rows there are, and how many user IDs of each letter."""
+    rows = rows_of(state)
+    letters = [letter(state, rows, k, user) for k, key in state.keys.items() for user in key.users]
+    return b"tally:%d:%s:\n" % (len(rows), b":".join(b"%d" % letters.count(one) for one in "ufmq-re"))
+
+
 def next_check(state):
     """The least expiry behind the date, or 0."""
     things = [thing for key in state.keys.values() for user in key.users for thing in (key, user, *user.certs)]

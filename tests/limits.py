@@ -1,7 +1,7 @@
 #!/usr/bin/env python3
 """Takes the built program to each limit and one past it, in sessions over pipes whose input is made while it is read.
 
-What takes gigabytes is left out, and named, unless it is called with --all; names of checks choose these alone.
+Each keyring is moved to the store's other side then, and opened there by several workers: the tally is the same. What takes gigabytes is left out, and named, unless it is called with --all; names of checks choose these alone.
 """
 import subprocess
 import sys
@@ -29,17 +29,27 @@ class Session:
         for piece in gathered(pieces):
             self.child.stdin.write(piece.encode())
         self.child.stdin.flush()
-        last = (line for line in self.child.stdout if line.startswith((b"ok", b"err")))
-        told = next(last, b"nothing").decode().rstrip("\n")
+        lines = []
+        for line in self.child.stdout:
+            lines.append(line)
+            if line.startswith((b"ok", b"err")):
+                break
+        told = lines[-1].decode().rstrip("\n") if lines else "nothing"
         if told != reply:
             sys.exit(f"limits: {self.name}: told {told!r} in place of {reply!r}")
+        return b"".join(lines)
 
     def end(self):
-        """Closes the session; the most megabytes of memory that it held."""
+        """Moves the store, closes the session, and opens the store again; the most megabytes of memory that the session held."""
+        tally = self.want("ok", ["check\n"])
+        self.want("ok", ["compact\n"])
         with open(f"/proc/{self.child.pid}/status", encoding="ascii") as file:
             peak = next(int(line.split()[1]) // 1024 for line in file if line.startswith("VmHWM"))
         self.child.stdin.close()
         self.child.wait()
+        again = run(words=["--workers", "4", "check"], where=self.store.name)
+        if again.stdout != tally or again.returncode != 0:
+            sys.exit(f"limits: {self.name}: opened again, told {again.stdout!r} {again.stderr!r} in place of {tally!r}")
         self.store.cleanup()
         return peak
 

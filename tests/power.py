@@ -1,10 +1,14 @@
 #!/usr/bin/env python3
 """Lets the power fail at each call that the built program makes on the files of its store.
 
-strace tells the calls of a session. At each moment the files are made as a crash may leave them: what was written since a file's last sync is
-there, or not, or in part, or is any bytes. Each is opened: a second reader and the program find the same state, which has all edits whose `ok`
-was told by then, and at most one more. It skips where there is no strace.
+power.py PROGRAM [--count SESSIONS] [--seed NUMBER] [--most IMAGES]: a session is edits and compactions at random, and begins over files that a
+crash of the session before it may have left. strace tells its calls. After each the files are made as a crash may leave them: with each set of
+the writes since a file's last sync, and, in a sample, with other bytes in place of some, and with a file that ends anywhere behind what is on the
+disk for sure. Each is opened: a second reader and the program find the same, which is the store after all steps whose `ok` was told by then, or
+after one more. It skips where there is no strace.
 """
+import argparse
+import itertools
 import os
 import random
 import re
@@ -12,22 +16,23 @@ import shutil
 import subprocess
 import sys
 import tempfile
+from concurrent.futures import ThreadPoolExecutor
 
-import keyring
+import histories
 import store
-from program import PROGRAM, folder, imported, key, run, trust
+from histories import ASKED, Steps
+from program import PROGRAM, folder, run, short
 
-chance = random.Random(5)
-tempfile.tempdir = "/dev/shm" if os.path.isdir("/dev/shm") else None
-EDITS = [trust("A", "u"), imported(key("A"), key("B", "A")), trust("B", "f"), "compact\n", "date 5000\n", imported(key("C", "B")), "compact\n", trust("C", "m")]
-CALL = re.compile(r'^\d+ +(openat|lseek|write|fsync|fdatasync)\((?:AT_FDCWD|(\d+))(?:, "((?:\\x[0-9a-f]{2})*)")?(.*)\) += (-?\d+)')
+STEPS, SETS = 10, 6
+FILLS = (b"\0", b"\xa5", b"\xff")
+CALL = re.compile(r'^\d+ +(openat|lseek|write|pwrite64|writev|ftruncate|fsync|fdatasync)\((?:AT_FDCWD|(\d+))(?:, "((?:\\x[0-9a-f]{2})*)")?(.*)\) += (-?\d+)')
 
 
 class File:
     """What a file reads, what of it is on the disk for sure, and what was written since."""
 
-    def __init__(self):
-        self.reads, self.synced, self.pending, self.place = b"", b"", [], 0
+    def __init__(self, data):
+        self.reads, self.synced, self.pending, self.place = data, data, [], 0
 
     def write(self, data):
         at = self.place
@@ -38,14 +43,36 @@ class File:
     def sync(self):
         self.synced, self.pending = self.reads, []
 
-    def image(self, keep, fill):
-        """The file with those of the pending writes that are kept, or with other bytes in their place."""
+    def image(self, pieces):
+        """The file with these bytes in place of the pending writes; nothing leaves what stood there."""
         data = self.synced
-        for at, written in self.pending:
-            piece = written if keep() else fill(len(written))
+        for (at, _), piece in zip(self.pending, pieces):
             if piece is not None:
                 data = data.ljust(at, b"\0")[:at] + piece + data[at + len(piece):]
         return data
+
+    def sets(self):
+        """What a crash may leave of the file, where each write since its last sync is there or not."""
+        written = [data for _, data in self.pending]
+        size = len(written)
+        if size <= SETS:
+            kept = itertools.product((False, True), repeat=size)
+        else:
+            fronts = ([n < end for n in range(size)] for end in range(size + 1))
+            kept = itertools.chain(fronts, ([chance.random() < 0.5 for _ in range(size)] for _ in range(2**SETS)))
+        return {self.image([data if keep else None for data, keep in zip(written, keeps)]) for keeps in kept}
+
+    def others(self):
+        """The same with other bytes in place of one write or of some, and ended earlier."""
+        written = [data for _, data in self.pending]
+        for number, data in enumerate(written):
+            cut = [chance.randbytes(chance.randrange(len(data) + 1)), data[:chance.randrange(len(data) + 1)]]
+            for piece in [*(fill * len(data) for fill in FILLS), chance.randbytes(len(data)), *cut]:
+                yield self.image([piece if n == number else None for n in range(len(written))])
+                yield self.image([piece if n == number else other for n, other in enumerate(written)])
+                yield self.image([piece if n == number else chance.choice([None, other, chance.choice(FILLS) * len(other)]) for n, other in enumerate(written)])
+        for image in sorted(self.sets()) if written else ():
+            yield image[:chance.randrange(min(len(self.synced), len(image)), len(image) + 1)]
 
 
 def calls(log):
@@ -65,9 +92,10 @@ def calls(log):
             yield name, store.NAMES.index(names[number]), text[:int(result)] if name == "write" else int(result)
 
 
-def moments(log):
-    """The files after each call on them that is a write or a sync, and before it, with what was told by then."""
-    files, told = (File(), File()), b""
+def moments(log, sides):
+    """The files at first, after each call on them that is a write or a sync, and at last, with what was told by then."""
+    files, told = tuple(map(File, sides)), b""
+    yield files, told
     for name, side, what in calls(log):
         if name == "tell":
             told += what
@@ -76,66 +104,91 @@ def moments(log):
         elif name == "write":
             files[side].write(what)
             yield files, told
-        else:
-            yield files, told
+        elif name in ("fsync", "fdatasync"):
             files[side].sync()
             yield files, told
+        else:
+            sys.exit(f"power: {name} is a call that is not looked at")
+    yield files, told
 
 
 def images(files):
     """What a crash may leave now."""
-    if not any(file.pending for file in files):
-        return {tuple(file.reads for file in files)}
-    ways = [(lambda: False, lambda size: None), (lambda: True, None)]
-    ways += [(lambda: False, lambda size, byte=byte: byte * size) for byte in (b"\0", b"\xa5", b"\xff")]
-    ways += [(lambda: chance.random() < 0.5, lambda size: None), (lambda: chance.random() < 0.3, chance.randbytes)] * 3
-    ways += [(lambda: False, lambda size: chance.randbytes(chance.randrange(size + 1)))] * 3
-    return {tuple(file.image(keep, fill) for file in files) for keep, fill in ways}
+    sets = [file.sets() for file in files]
+    others = [{*found, *file.others()} for found, file in zip(sets, files)]
+    sure = set(itertools.product(*sets))
+    more = sorted(set(itertools.product(*others)) - sure)
+    return sorted(sure) + chance.sample(more, min(asked.most, len(more)))
 
 
-def recorded(given):
-    """The calls of a session."""
+def recorded(given, sides):
+    """A session over these files, its calls, and the files at its end."""
     with folder() as where, tempfile.NamedTemporaryFile() as log:
-        traced = ["strace", "-f", "-xx", "-s", "1000000", "-e", "trace=openat,lseek,write,fsync,fdatasync", "-o", log.name, PROGRAM]
+        store.write_sides(where, sides)
+        traced = ["strace", "-f", "-xx", "-s", "1000000", "-e", "trace=openat,lseek,write,pwrite64,writev,ftruncate,fsync,fdatasync", "-o", log.name, PROGRAM]
         done = subprocess.run(traced, input=given.encode(), capture_output=True, cwd=where, timeout=120, check=False)
-        return done, log.read().decode()
+        return done, log.read().decode(), store.read_sides(where)
 
 
-def shown(sides):
-    """What a second reader finds in these files, and what the program does."""
+def differs(sides, due, texts):
+    """What a second reader finds in these files and what the program does, where it is none of what is due, which the program tells so, or they differ."""
     found = store.shown(*sides)
-    read = found.name if isinstance(found, store.Bad) else keyring.sigs(found.state) + b"ok\n" + keyring.export(found.state) + b"ok\n"
     with folder() as where:
         store.write_sides(where, sides)
-        done = run("sigs\nexport\n", where=where)
-    return read, done.stdout if done.returncode == 0 else done.stderr
+        done = run(ASKED, where=where)
+        left = store.read_sides(where)
+    is_kept = left == sides or (all(map(store.is_blank, sides)) and store.shown(*left) == found)
+    is_told = (done.returncode, done.stderr) == (0, b"") and any((found, done.stdout) == both for both in zip(due, texts))
+    if is_kept and is_told:
+        return None
+    return f"a second reader finds {short(repr(found))}, the program ends with {done.returncode} {done.stderr!r} and tells {short(done.stdout)}, in place of {short(repr(due))}"
+
+
+def session(number, sides):
+    """One session: how many moments and images there were, and files that a crash of it may have left."""
+    steps, reached = Steps(chance).some(store.shown(*sides), STEPS)
+    done, log, left = recorded("".join(step.given for step in steps), sides)
+    if done.returncode or histories.acknowledged(done.stdout) != STEPS:
+        sys.exit(f"power: seed {asked.seed}, session {number}: the run under strace ended with {done.returncode} {done.stderr!r}")
+    if left != histories.files(sides, steps)[-1] or store.shown(*left) != reached[-1]:
+        sys.exit(f"power: seed {asked.seed}, session {number}: the files at its end are not those of {[step.given for step in steps]}")
+    texts = [histories.shows(found.state) for found in reached]
+    tried, moment = {}, 0
+    for moment, (files, told) in enumerate(moments(log, sides), 1):
+        count = histories.acknowledged(told)
+        for image in images(files):
+            tried.setdefault((image, count), moment)
+    if tuple(file.reads for file in files) != left:
+        sys.exit("power: strace does not tell all that was written")
+    with ThreadPoolExecutor(2) as pool:
+        found = pool.map(lambda one: differs(one[0], reached[one[1]:one[1] + 2], texts[one[1]:one[1] + 2]), tried)
+        wrong = [(place, said) for place, said in zip(tried.values(), found) if said]
+    if wrong:
+        sys.exit(f"power: seed {asked.seed}, session {number}: {len(wrong)} of {len(tried)} images, first at moment {wrong[0][0]}: {wrong[0][1]}")
+    return moment, len(tried), chance.choice(list(tried))[0]
 
 
 def main():
     if not shutil.which("strace"):
         print("power: skipped: no strace")
         return
-    has_compact = run("compact\n").stdout == b"ok\n"
-    edits = [edit for edit in EDITS if has_compact or edit != "compact\n"]
-    done, log = recorded("".join(edits))
-    if done.returncode:
-        print(f"power: skipped: no run under strace: {done.returncode}")
+    if recorded("", (b"", b""))[0].returncode:
+        print("power: skipped: no run under strace")
         return
-    wanted = [run("".join(edits[:count]) + "sigs\nexport\n").stdout.split(b"tru:")[-1] for count in range(len(edits) + 1)]
-    wanted = [b"tru:" + text for text in wanted]
-    seen, tried = set(), 0
-    for number, (files, told) in enumerate(moments(log), 1):
-        acknowledged = told.count(b"ok")
-        for sides in images(files):
-            if (sides, acknowledged) in seen:
-                continue
-            seen.add((sides, acknowledged))
-            read, found = shown(sides)
-            tried += 1
-            if read != found or found not in wanted[acknowledged:acknowledged + 2]:
-                sys.exit(f"power: at moment {number}, {acknowledged} edits acknowledged: shown is {found!r}, to a second reader {read!r}")
-    print(f"power: {number} moments, {tried} pairs of files, each with every acknowledged edit" + ("" if has_compact else "; no command compact"))
+    sides, places, tried = (b"", b""), 0, 0
+    for number in range(1, asked.count + 1):
+        more, images_of_it, sides = session(number, sides)
+        places, tried = places + more, tried + images_of_it
+    print(f"power: seed {asked.seed}: {tried} pairs of files at {places} moments of {asked.count} sessions, each with every acknowledged step")
 
 
 if __name__ == "__main__":
+    parser = argparse.ArgumentParser()
+    parser.add_argument("program")
+    parser.add_argument("--count", type=int, default=2)
+    parser.add_argument("--seed", type=int, default=5)
+    parser.add_argument("--most", type=int, default=100)
+    asked = parser.parse_args()
+    chance = random.Random(asked.seed)
+    tempfile.tempdir = "/dev/shm" if os.path.isdir("/dev/shm") else None
     main()

@@ -28,7 +28,8 @@ def run(given=b"", words=(), where=None, timeout=120):
 
 def short(text):
     """A text that may be long, as it is shown."""
-    return repr(text if len(text) < 400 else text[:200] + b".." + text[-200:])
+    dots = b".." if isinstance(text, bytes) else ".."
+    return repr(text if len(text) < 400 else text[:200] + dots + text[-200:])
 
 
 def fingerprint(name):

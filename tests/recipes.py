@@ -1,30 +1,62 @@
 #!/usr/bin/env python3
-"""Runs the blocks of docs/RECIPES.md, and the pipe of README.md, as they stand, from top to bottom, each in a fresh folder with a made gpg keyring.
+"""Runs the blocks of docs/RECIPES.md and docs/SEQUOIA.md, and the first sync of README.md, as they stand, from top to bottom, each in a fresh folder with a made gpg keyring.
 
-It skips where there is no gpg that can make a keyring, and a block that names a file which the machine lacks.
+It skips where there is no gpg that can make a keyring, and a block that names a file, a tool or a command which is not there.
 """
 import os
 import pathlib
 import re
+import shutil
 import subprocess
 import sys
 
-from program import PROGRAM, folder
+from program import PROGRAM, folder, run
 
 TOP = pathlib.Path(__file__).resolve().parent.parent
-DOCUMENTS = [TOP / "README.md", TOP / "docs" / "RECIPES.md"]
+DOCUMENTS = [TOP / "README.md", TOP / "docs" / "RECIPES.md", TOP / "docs" / "SEQUOIA.md"]
 BLOCK = re.compile(r"^## (?P<title>[^\n]*)$|^```sh\n(?P<text>.*?)^```$", re.M | re.S)
+# what sq-wot tells of some names, and in what part
+SEQUOIA = [("alice", 100), ("bob", 100), ("dora", 100), ("mary", 50), ("me", 100), ("mike", 50)]
+
+
+def authenticated(without):
+    parts = {100: "fully authenticated \\(100%\\)", 50: "partially authenticated \\(50%\\)"}
+    return r"\A" + "".join(f"{name} <{name}@example.org>: {parts[part]}\\n" for name, part in SEQUOIA if name not in without) + r"\Z"
+
+
 # what the output of each block under this title must have
 SHOWN = {
-    "From gpg in one pipe": [r"\Aok entries 4\nok\nok keys 4 kept 2 (.*\n)*uid:f:[^\n]*:Bob <bob@example.org>:\n(.*\n)*ok\n\Z"],
-    "A gpg keyring in, ownertrust back": [r"^ok keys 4 kept 2 (.*\n)*uid:f:[^\n]*:Bob <bob@example.org>:$", r"\Aok\n\Z"],
+    "From gpg to a store": [r"^uid:f:[^\n]*:Bob <bob@example.org>:$"],
+    "A store of what gpg says": [r"^uid           \[  full  \] Bob <bob@example.org>$", r"^ok keys 4 kept 2 (.*\n)*uid:f:[^\n]*:Bob <bob@example.org>:$"],
+    "Ownertrust back into gpg": [r"\Aok\n\Z"],
+    "A nightly run": [
+        r"\A(\[  new   \].*\n){4}as of .*\nas of .*; the next check is at .*\n\Z",
+        r"\Atally:\d+:1:2:0:0:1:0:0:\nok\nok\n\Z",
+        r"\Atally:\d+:1:2:0:0:1:0:0:\nok\n\Z",
+    ],
+    "May I install this?": [r"\[  full  \] Alice <alice@example.org>\npackage.tar: a good signature by a signer of alice@example.org whose letter is at least f\n\Z"],
+    "Signed commits and tags": [r"\AG fully Alice <alice@example.org>\n\Z"],
+    "Names and letters in words": [
+        r"\[  full  \] Bob <bob@example.org>\n  certified by Alice <alice@example.org>, fully trusted\n    certified by Me <me@example.org>, ultimately trusted\n"
+        r"\[ unknown\] Carol <carol@example.org>\n  no key certified it, or gpg could check no certification of it\n\Z"
+    ],
+    "A page to show": [r"\A\Z"],
     "One key's letter, for a mail program": [r"\Af\n\Z", r"\A[0-9A-F]{40}\n\Z"],
-    "A keyring file, as Debian ships them": [r"^u Debian Archive Automatic Signing Key \(11/bullseye\)"],
+    "Asked by a program": [r"\Af \['[0-9A-F]{40}'\]\nno-such-key\n\Z"],
+    "A keyring file, as Debian ships them": [r"^uid +\[ultimate\] Debian Archive Automatic Signing Key \(11/bullseye\)"],
     "What changes on a date": [r"^> e [0-9A-F]{40} Bob <bob@example.org>$", r"\A[1-9][0-9]*\n\Z"],
-    "A nightly check": [r"\A(\d.*\n|> .*\n)*> f [0-9A-F]{40} Alice <alice@example.org>\n(> .*\n)*\Z"],
     "Two keyrings compared": [r"^< f [0-9A-F]{40} Bob <bob@example.org>$"],
     "A new store from an old one": [r"\Aok entries \d+\nok keys 4 .*\nok\n\Z"],
+    "Completion, and a Debian package": [r"\Awot_1.0_\w+.deb\n(.* ./usr/bin/.*\n)*.* ./usr/bin/wot-sync -> ../share/wot/wot-sync\n"],
+    "The same small keyring": [
+        r"\A\Z",
+        r"\Aalice .*: \[  full  \]\nbob .*: \[  full  \]\ndora .*: \[marginal\]\nerin .*: \[  full  \]\nfrank .*: \[ unknown\]\n"
+        r"mary .*: \[  full  \]\nme .*: \[ultimate\]\nmike .*: \[  full  \]\n\Z",
+    ],
+    "Both answers": [authenticated({"bob"}), authenticated(set())],
 }
+NEEDS_CHECK = re.compile(r"wot-nightly|wot check|wot compact|nightly/")
+KNOWS_CHECK = run("check\n").stdout != b"err unknown-command\n"
 
 
 class NoGnuPG(Exception):
@@ -40,12 +72,13 @@ def gpg(*words, given=""):
 
 
 def make_keyring():
-    """My key certifies Alice's, and hers Bob's, which expires; nobody certifies Carol's."""
+    """My key certifies Alice's, and hers Bob's, which expires and can encrypt; nobody certifies Carol's."""
     people = {"Me": "never", "Alice": "never", "Bob": "1y", "Carol": "never"}
     for name, expires in people.items():
-        gpg("--quick-generate-key", f"{name} <{name.lower()}@example.org>", "ed25519", "cert", expires)
+        gpg("--quick-generate-key", f"{name} <{name.lower()}@example.org>", "ed25519", "default", expires)
     keys = re.findall(r"^pub:.*\nfpr:{9}([0-9A-F]{40}):", gpg("--with-colons", "--list-keys"), re.M)
     me, alice, bob, carol = keys
+    gpg("--quick-add-key", bob, "cv25519", "encr", "never")
     gpg("--default-key", me, "--quick-sign-key", alice)
     gpg("--default-key", alice, "--quick-sign-key", bob)
     gpg("--import-ownertrust", given=f"{me}:6:\n{alice}:5:\n{bob}:2:\n{carol}:2:\n")
@@ -62,14 +95,22 @@ def blocks(document):
             number += 1
 
 
+def lacking(text):
+    """What a block needs and the machine or the program lacks, or nothing."""
+    files = [file for file in re.findall(r"=(/\S+)", text) if not os.path.exists(file)]
+    tools = [tool for tool in ("git", "sq-wot", "dpkg-deb") if re.search(rf"^{tool} ", text, re.M) and not shutil.which(tool)]
+    return next(iter([*files, *tools, *(["check and compact"] if NEEDS_CHECK.search(text) and not KNOWS_CHECK else [])]), None)
+
+
 def run_all(document, here, tools):
     """Runs each block of a document in one folder; what is at fault, how many ran, and which were skipped."""
-    environment = {**os.environ, "PATH": tools + os.pathsep + os.environ["PATH"]}
+    path = os.pathsep.join([tools, str(TOP / "contrib"), os.environ["PATH"]])
+    environment = {**os.environ, "PATH": path, "PYTHONDONTWRITEBYTECODE": "1"}
     faults, ran, skipped = [], 0, []
     for title, number, text in blocks(document):
-        missing = [file for file in re.findall(r"=(/\S+)", text) if not os.path.exists(file)]
+        missing = lacking(text)
         if missing:
-            skipped.append(f"{title}: no {missing[0]}")
+            skipped.append(f"{title}: no {missing}")
             continue
         done = subprocess.run(["sh", "-eu"], input=text, capture_output=True, text=True, cwd=here, env=environment, timeout=120, check=False)
         ran += 1

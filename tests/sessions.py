@@ -121,6 +121,12 @@ SESSIONS = {
         + listed(("A", "u", "u"), ("B", "f", "m", "scSCD"), tru="tru::1:3000:0:2:1:5\n") + f"{A}:6:\n{B}:132:\nok\n",
         0,
     ),
+    "moved to the other side and back": (
+        "compact\n" + TWO_KEYS + "compact\nlist\ncompact\n" + trust("B", "m") + "compact\ncompact\nlist\ncheck\n",
+        "ok\n" + TWO_TOLD + "ok\n" + TWO_LISTED + "ok\nok\nok\nok\n" + listed(("A", "u", "u"), ("B", "f", "m")) + "tally:2:1:1:0:0:0:0:0:\nok\n",
+        0,
+    ),
+    "compact and check take no word": ("compact now\ncheck 1\nlist\n", "err bad-argument 1\nerr bad-argument 1\n" + listed(), 1),
     "nothing after quit": ("list\nquit\nlist\nfrob\n", listed() + "ok\n", 0),
     "quit with an argument ends nothing": ("quit now\nlist\n", "err bad-argument 1\n" + listed(), 1),
     "options out of their ranges": (
@@ -195,6 +201,9 @@ WORDS = {
     "a block is the whole input": (["import"], key("A") + ".\n" + key("B"), "ok keys 2 kept 0 passed 0\n", "", 0),
     "workers": (["--workers", "3", "list"], "", listed(), "", 0),
     "workers between words": (["list", "--workers=64"], "", listed(), "", 0),
+    "compact": (["compact"], "frob\n", "ok\n", "", 0),
+    "check": (["--workers", "4", "check"], "frob\n", "tally:0:0:0:0:0:0:0:0:\nok\n", "", 0),
+    "check with a word": (["check", A], "", "err bad-argument 1\n", "", 1),
     "a dash word after --": (["--", "-x"], "", "err unknown-command\n", "", 1),
     "no workers": (["--workers", "0"], "", "", USAGE, 2),
     "65 workers": (["--workers=65"], "", "", USAGE, 2),

@@ -18,8 +18,7 @@ GATE, MAGIC, HEADER, PAGE, CONTENT = 0xA5, b"WOTBASE", 24, 4096, 4064
 MOST = 2**32 - 1
 NAMES = ("wot.0", "wot.1")
 FORMAT = 1
-# whether a base whose rows are not those of its state is a fault; the rows are counted anew as long as it is none
-ROWS_ARE_CHECKED = False
+LAST_EPOCH = 2**64 - 1
 
 
 class NoSpelling(Exception):
@@ -257,7 +256,7 @@ def page_contents(data, epoch, pages):
 
 
 def shown_base(data, epoch, pages):
-    """The state of a base, or its first fault."""
+    """The state of a base, or its first fault. Its rows must be those of its introducers, counted by the rules: neither more nor fewer, nor others."""
     if base_end(pages) >= min(len(data), MOST):
         return Bad("Short")
     contents = page_contents(data, epoch, pages)
@@ -267,7 +266,7 @@ def shown_base(data, epoch, pages):
         state, rows = read_base(contents)
     except NoSpelling:
         return Bad("Spelling")
-    return Bad("Row") if ROWS_ARE_CHECKED and rows != rows_of(state) else state
+    return state if rows == rows_of(state) else Bad("Row")
 
 
 def replayed(data, state, at):
@@ -307,6 +306,19 @@ def shown(zero, one):
         return base
     after = replayed(sides[side], base, base_end(pages))
     return after if isinstance(after, Bad) else Shown(after[0], side, epochs[side], after[1])
+
+
+def edited(found, payload):
+    """What a store shows after the edit of this payload, which is accepted."""
+    return found._replace(state=read_edit(payload)(found.state), end=found.end + len(record(payload)))
+
+
+def compacted(found):
+    """What a store shows after it has moved to its other side."""
+    if found.epoch == LAST_EPOCH:
+        return found
+    pages = pages_of(image_bytes(found.state, rows_of(found.state)))
+    return Shown(found.state, 1 - found.side, found.epoch + 1, base_end(pages))
 
 
 def read_sides(where):
@@ -387,9 +399,14 @@ def record(payload):
     return bytes([GATE]) + text(payload)
 
 
+def pages_of(image):
+    """How many pages hold an image."""
+    return -(-len(image) // CONTENT)
+
+
 def side_of(epoch, image, payloads=()):
     """A side with the image as its base, these records behind it, and a closed gate."""
-    pages = -(-len(image) // CONTENT)
+    pages = pages_of(image)
     header = bytes([GATE]) + MAGIC + number(epoch, 8) + number(pages, 8)
     contents = [image[CONTENT * n:CONTENT * (n + 1)].ljust(CONTENT, b"\0") for n in range(pages)]
     return header + b"".join(c + seal(epoch, n, c) for n, c in enumerate(contents)) + b"".join(map(record, payloads)) + b"\0"
@@ -419,6 +436,21 @@ def worked():
     yield "two blank sides", shown(b"", bytes(100)), Shown(opening(), 0, 1, 4120)
     for name, fault in faults(fresh):
         yield name, fault[0], Bad(fault[1])
+    yield from moved(fresh)
+
+
+def moved(fresh):
+    """Stores that are moved to their other side, which may end in what an earlier base left there."""
+    trusted = side_for(1, opening(), [bytes.fromhex("0314" + "00" * 19 + "aa06")])
+    first = shown(trusted, b"")
+    second = compacted(first)
+    moved_once = side_for(2, first.state)
+    yield "a new side", (second, shown(trusted, moved_once)), (Shown(first.state, 1, 2, 4120),) * 2
+    third = compacted(edited(second, bytes.fromhex("0600001388")))
+    moved_twice = side_for(3, third.state) + trusted[4121:]
+    yield "the first side again", (third, shown(moved_twice, moved_once)), (Shown(first.state._replace(date=5000), 0, 3, 4120),) * 2
+    last = Shown(opening(), 0, LAST_EPOCH, 4120)
+    yield "the last epoch", (compacted(last), shown(side_for(LAST_EPOCH, opening()), fresh)), (last, last)
 
 
 def faults(fresh):
@@ -433,8 +465,8 @@ def faults(fresh):
     yield "a page too many", (shown(side_of(1, image + bytes(CONTENT)), b""), "Spelling")
     yield "a byte behind the image", (shown(side_of(1, image + b"\1"), b""), "Spelling")
     yield "another format", (shown(side_of(1, image[:8] + b"\2" + image[9:]), b""), "Spelling")
-    if ROWS_ARE_CHECKED:
-        yield "a row of no key", (shown(side_of(1, image_bytes(opening(), {1: Row(0, 6, 0, None)})), b""), "Row")
+    yield "a row of no key", (shown(side_of(1, image_bytes(opening(), {1: Row(0, 6, 0, None)})), b""), "Row")
+    yield "a row of no key, and a record that passes the side", (shown(side_of(1, image_bytes(opening(), {1: Row(0, 6, 0, None)}))[:-1] + b"\xa5", b""), "Row")
     yield "a record that passes the side", (shown(side_for(1, opening())[:-1] + b"\xa5\0\0\0\1\6", b""), "Short")
     yield "a payload that spells nothing", (shown(side_for(1, opening(), [b"\6\0\0\0"]), b""), "BadPayload")
     yield "a key that is not there", (shown(side_for(1, opening(), [b"\5" + bytes(8)]), b""), "BadEdit")
