@@ -16,10 +16,10 @@ class Failed(Exception):
 
 
 class Bench:
-    """The program that is timed, the floors in C, and a folder for what they read and write."""
+    """The program that is timed, the floors in C, a folder for what they read and write, and how many keys a large keyring has."""
 
-    def __init__(self, program, folder):
-        self.program, self.folder = os.path.abspath(program), folder
+    def __init__(self, program, folder, keys):
+        self.program, self.folder, self.keys = os.path.abspath(program), folder, keys
         self.floors = {}
 
     def floor(self, name):
@@ -130,6 +130,12 @@ def session(words, where):
         yield opened
     finally:
         opened.close()
+
+
+def opened(words, where):
+    """Seconds from a run's start to its first reply."""
+    with session(words, where) as program:
+        return program.opening
 
 
 def table(title, columns, rows):

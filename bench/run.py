@@ -1,14 +1,18 @@
 #!/usr/bin/env python3
-"""Times the program where people wait, each figure beside a floor of the same run, and prints the tables of README.md:
-python3 bench/run.py PROGRAM [PART]...; the parts are import, spelling, edits, growth, sample and gnupg, and all of them without a word.
-It needs cc, and says which part it skips and why."""
-import sys
+"""Times the program where people wait, each figure beside a floor of the same run, and prints the tables of README.md.
+
+run.py PROGRAM [PART]... [--keys NUMBER]: all parts, or those that are named; the parts pages, compact, opening, check, one-key and shapes have so
+many keys. It needs cc, and says which part it skips and why.
+"""
+import argparse
 import tempfile
 
+import bases
 import edits
 import gnupg
 import growth
 import imports
+import shapes
 import spelling
 from measure import Bench, Failed
 
@@ -18,15 +22,25 @@ PARTS = {
     "edits": edits.part,
     "growth": growth.part,
     "sample": growth.part_sample,
+    "pages": bases.part_pages,
+    "compact": bases.part_compact,
+    "opening": bases.part_opening,
+    "check": bases.part_check,
+    "one-key": bases.part_one_key,
+    "shapes": shapes.part,
     "gnupg": gnupg.part,
 }
 
 
 def main():
-    program, parts = sys.argv[1], sys.argv[2:] or list(PARTS)
+    parser = argparse.ArgumentParser()
+    parser.add_argument("program")
+    parser.add_argument("parts", nargs="*", metavar="PART")
+    parser.add_argument("--keys", type=int, default=100_000)
+    asked = parser.parse_args()
     with tempfile.TemporaryDirectory(prefix="wot") as folder:
-        bench = Bench(program, folder)
-        for part in parts:
+        bench = Bench(asked.program, folder, asked.keys)
+        for part in asked.parts or PARTS:
             try:
                 PARTS[part](bench)
             except (Failed, OSError) as fault:
