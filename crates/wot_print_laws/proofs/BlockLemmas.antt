@@ -12,7 +12,7 @@ use Rattle.wot_types.specs.declared.user.User.{User}
 use Rattle.wot_types.specs.declared.user.UserKind.{UserKind}
 use Rattle.wot_types.specs.declared.record.RecordKind.{RecordKind}
 use Rattle.wot_types.specs.declared.record.RecordKind.TheVariants.{Fingerprint, UserId, Signature}
-use Rattle.wot_types.specs.Listing.{Line, begins_user, ends_user, fpr_line, is_certification, is_fpr, is_sub, key_of, user_kind, user_of, user_runs}
+use Rattle.wot_types.specs.Listing.{Line, begins_user, ends_user, fpr_record, is_certification, is_fpr, is_sub, key_of, user_kind, user_of, user_runs}
 use Rattle.wot_types.specs.Records as record_of
 use Rattle.wot_types.specs.Records.{cert_of, class_at, is_fingerprint_record, is_kept_class, is_primary, is_signature, is_subkey, is_user_id, key_id_at, kind_of, fingerprint_at}
 use Rattle.wot_types.specs.Runs.{Run, up_to}
@@ -79,7 +79,7 @@ up_to_free ends (line ∷ lines) h =
     cond-false (ends line) [] (line ∷ up_to ends lines) both.0 ∙ ap (λ l. line ∷ l) (up_to_free ends lines both.1)
 
 pub fpr_line_is : (p f : Line) (marked : Bool) (users : List User) (rs : List (Run Line)) → kind_of f ≡ Fingerprint → AreUsers marked users rs
-    → fpr_line (block_of p f rs) ≡ Some f
+    → fpr_record (block_of p f rs) ≡ Some f
 fpr_line_is p f marked users rs k us =
     ap (find is_fpr) (up_to_free is_sub (f ∷ pieces rs) (or_from (is_sub f) (list_any is_sub (pieces rs)) (of_kind is_subkey f k refl) (users_free is_subkey refl (λ kind. refl) marked users rs us)))
     ∙ cond-true (is_fpr f) (Some f) (find is_fpr (pieces rs)) (ap is_fingerprint_record k)

@@ -29,7 +29,7 @@ use Rattle.wot_types.specs.Fingerprint.{key_id_of}
 use Rattle.wot_types.specs.Keyring.{cert_total, with_keys}
 use Rattle.wot_types.specs.Letters.{key_letter, user_letter}
 use Rattle.wot_types.specs.Levels.{rows_of}
-use Rattle.wot_types.specs.Listing.{Line, Spells, fault_at_end, kept_of, listed_keys, passed_of}
+use Rattle.wot_types.specs.Listing.{Line, Spells, fault_at_end, kept_certs, listed_keys, passed_certs}
 use Rattle.wot_types.specs.Numbers.{capped}
 use Rattle.wot_types.specs.NextCheck.{key_expiries, next_check, sooner_of, soonest_of, user_expiries}
 use Rattle.wot_types.specs.Ownertrust.{ownertrust_of}
@@ -224,8 +224,8 @@ reads_back s h w =
     record {
       faultless = ap fault_at_end (lines_of_text s h w) ∙ faultless (tru_row s) (tru_kind s) es ws said filed rising;
       keys_are = sym (ap listed_keys (lines_of_text s h w) ∙ listed_keys_are (tru_row s) (tru_kind s) es ws said filed rising);
-      kept_is = sym (ap kept_of (lines_of_text s h w) ∙ ap capped (kept_is (tru_row s) (tru_kind s) es ws said filed));
-      passed_is = sym (ap passed_of (lines_of_text s h w) ∙ ap capped (none_passed (tru_row s) (tru_kind s) es ws said filed));
+      kept_is = sym (ap kept_certs (lines_of_text s h w) ∙ ap capped (kept_is (tru_row s) (tru_kind s) es ws said filed));
+      passed_is = sym (ap passed_certs (lines_of_text s h w) ∙ ap capped (none_passed (tru_row s) (tru_kind s) es ws said filed));
     }
 
 -- no printed line is the one that ends an import's block

@@ -38,7 +38,7 @@ use Rattle.wot_types.specs.Letters.{key_letter}
 use Rattle.wot_types.specs.Levels.{rows_of}
 use Rattle.wot_types.specs.Lines.{front_of, is_newline, last_of, open_line, whole_lines}
 use Rattle.wot_types.proofs.ListEnds.{front_of_more, last_of_more}
-use Rattle.wot_types.specs.Listing.{fault_at_end, kept_of, listed_keys, passed_of}
+use Rattle.wot_types.specs.Listing.{fault_at_end, kept_certs, listed_keys, passed_certs}
 use Rattle.wot_types.specs.NextCheck.{next_check}
 use Rattle.wot_types.specs.Outcome.{Outcome, answer_to, block_outcome, edit_outcome, edit_reply, state_after, entries_outcome, has_long_line, head_outcome, is_past, listing_outcome, ok_line, outcome, query_refusal, refusal_of, refuse, sample_reply, unless_refused, unless_unanswered, words_outcome, change_by}
 use Rattle.wot_types.specs.Ownertrust.{ownertrust_of, ownertrust_line}
@@ -211,9 +211,9 @@ delete_replies s fpr false = refused NoSuchKey
 listing_replies : (fault : Option ListingFault) (s : Store) (lines : List (List ℕ)) → Replies (listing_outcome fault s lines)
 listing_replies (Some fault) s lines = refused (Listing fault)
 listing_replies None s lines =
-    let parts : List (List ℕ) = decimal (length (listed_keys lines)) ∷ codes " kept " ∷ decimal (kept_of lines) ∷ codes " passed " ∷ decimal (passed_of lines) ∷ [] in
+    let parts : List (List ℕ) = decimal (length (listed_keys lines)) ∷ codes " kept " ∷ decimal (kept_certs lines) ∷ codes " passed " ∷ decimal (passed_certs lines) ∷ [] in
     edit_replies (reply_line (joined (codes "ok keys ") parts)) s (Import (listed_keys lines))
-    (one_line false (joined (codes "ok keys ") parts) (ok (codes "ok keys ") parts refl (plain_decimal (length (listed_keys lines)), (refl, (plain_decimal (kept_of lines), (refl, (plain_decimal (passed_of lines), tt))))) refl refl))
+    (one_line false (joined (codes "ok keys ") parts) (ok (codes "ok keys ") parts refl (plain_decimal (length (listed_keys lines)), (refl, (plain_decimal (kept_certs lines), (refl, (plain_decimal (passed_certs lines), tt))))) refl refl))
 
 entries_replies : (fault : Option (ℕ × OwnertrustFault)) (s : Store) (lines : List (List ℕ)) → Replies (entries_outcome fault s lines)
 entries_replies (Some fault) s lines = refused (OwnertrustRefusal fault.0 fault.1)

@@ -4,12 +4,13 @@ ghost use Rattle.std.specs.Prelude.{◌≡◌, ◌==◌, ◌&&◌, not};
 ghost use Rattle.std.specs.List.{list_all, list_any};
 ghost use Rattle.wot_types.specs.Listing.{is_same_user};
 ghost use Rattle.wot_types.specs.Ownertrust.{is_unset, kept_of};
-ghost use Rattle.wot_types.specs.Records.{is_capability, is_hash_byte, is_kept_class};
+ghost use Rattle.wot_types.specs.Records.{is_capability, is_hash_byte};
 ghost use Rattle.wot_spelling.specs.Stored.{are_rising_rows, are_stored};
 ghost use Rattle.wot_spelling.specs.Checks.{are_rising_entries, are_settable, are_distinct, are_importable, has_few_certs, has_scope, is_cert, is_in_range, is_marked_once, is_rising, is_sample_count, is_user, is_well_formed};
 
 use wot_types::{
     Cert, Entry, Key, KeyId, MOST_CERTS, MOST_SAMPLE, MOST_USERS, Options, Row, Scope, Trust, User,
+    is_kept_class,
 };
 
 fn is_hash_byte(b: u8) -> bool
@@ -22,12 +23,6 @@ fn is_capability(b: u8) -> bool
     ensures { result ≡ is_capability b }
 {
     matches!(b, b'A'..=b'Z' | b'a'..=b'z') && b != b'D'
-}
-
-fn is_kept_class(class: u8) -> bool
-    ensures { result ≡ is_kept_class class }
-{
-    matches!(class, 0x10..=0x13 | 0x30)
 }
 
 fn has_scope(scope: &Option<Scope>) -> bool
@@ -83,18 +78,10 @@ fn are_unmarked(users: &[User]) -> bool
     users.iter().all(|user| !user.revoked)
 }
 
-fn is_same_user(a: &User, b: &User) -> bool
-    ensures { result ≡ is_same_user a.now b.now }
-{
-    a.kind == b.kind
-        && a.text.as_bytes() == b.text.as_bytes()
-        && a.hash.as_bytes() == b.hash.as_bytes()
-}
-
 fn is_among(users: &[User], user: &User) -> bool
     ensures { result ≡ list_any (is_same_user user.now) users.now }
 {
-    users.iter().any(|other| is_same_user(user, other))
+    users.iter().any(|other| user.is_same(other))
 }
 
 /// Whether no two agree in kind, text and hash. Each is compared with all later ones: a key has at most 1,024.
