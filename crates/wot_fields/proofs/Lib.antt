@@ -1,5 +1,6 @@
 pub mod Calendar
 pub mod CivilForm
+pub mod ColonLemmas
 pub mod CutLemmas
 pub mod DateExamples
 pub mod DateLemmas

@@ -5,17 +5,18 @@ ghost use Rattle.std.specs.List.{position_or_len};
 ghost use Rattle.std.specs.Option.{option_copied};
 ghost use Rattle.wot_types.specs.Fields as listing;
 
+use crate::colons::Colons;
 use std::marker::Model;
 
 /// How many fields are found when a line is cut. A listing's records have no more that are read.
-const MOST: usize = 13;
+const MOST: usize = 12;
 
-/// A line and where its first 13 fields stand. It takes no memory.
+/// A line and where its first 12 fields stand. It takes no memory.
 #[derive(Drop)]
 pub struct Fields<'a> {
     line: &'a [u8],
     /// Where each field begins, and for the last one where the next would.
-    starts: [usize; 14],
+    starts: [usize; 13],
     count: usize,
 }
 
@@ -31,15 +32,16 @@ impl<'a> Model for Fields<'a> {
 }
 
 impl<'a> Fields<'a> {
-    /// Finds the fields in one pass over the line, which ends at the 13th colon.
+    /// Finds the fields in one pass over the line, which ends at the 12th colon.
     pub fn new(line: &'a [u8]) -> Fields<'a>
         ensures { result ≡ line.now }
     {
-        let mut starts = [0; 14];
+        let mut starts = [0; 13];
         let mut count = 0;
+        let mut colons = Colons::of(line);
         while count < MOST {
-            let start = starts[count];
-            let end = start + first_colon(&line[start..]);
+            let (end, rest) = colons.next(line);
+            colons = rest;
             count += 1;
             starts[count] = end + 1;
             if end == line.len() {
@@ -90,19 +92,6 @@ impl<'a> Fields<'a> {
     }
 }
 
-/// How many bytes stand before the first colon.
-fn first_colon(bytes: &[u8]) -> usize
-    ensures first { result ≡ position_or_len listing.is_colon bytes.now }
-    ensures within { result ≤ length bytes.now }
-{
-    for (at, b) in bytes.iter().enumerate() {
-        if *b == b':' {
-            return at;
-        }
-    }
-    bytes.len()
-}
-
 /// The n-th field of a line, and None where there are fewer or n is 0.
 pub fn field(line: &[u8], n: u32) -> Option<&[u8]>
     ensures { option_copied result ≡ listing.field_at n line.now }
@@ -151,8 +140,9 @@ mod tests {
             b"pub".as_slice(),
             b":".as_slice(),
             b"pub:f:1024:17:6C7EE1B8621CC013:899817715:1055898235::m:::scESC:".as_slice(),
+            b"a:b:c:d:e:f:g:h:i:j:k:l".as_slice(),
+            b"a:b:c:d:e:f:g:h:i:j:k:l:".as_slice(),
             b"a:b:c:d:e:f:g:h:i:j:k:l:m".as_slice(),
-            b"a:b:c:d:e:f:g:h:i:j:k:l:m:".as_slice(),
             b"a:b:c:d:e:f:g:h:i:j:k:l:m:n:o:p".as_slice(),
             b"::::::::::::::::::::".as_slice(),
         ] {

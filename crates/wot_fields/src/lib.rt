@@ -1,8 +1,10 @@
-//! The fields of a colon listing: where they stand in a line, the numbers, dates and texts that they spell, and how they are printed.
+//! The lines and fields of texts: which lines say nothing, where the fields of a line stand, the numbers, dates and texts that they spell, and how they are printed.
 #![tactic(auto)]
 
+mod colons; // where the colons of a line stand
 mod dates; // seconds since 1970, and civil dates
 mod fields; // a line cut at its colons
+mod lines; // lines that say nothing
 mod numbers; // decimal numbers
 mod printed; // numbers and bytes as a field prints them
 mod quoting; // texts as a quoted field prints them
@@ -10,6 +12,7 @@ mod unquoting; // the text that a quoted field spells
 
 pub use dates::{date, date_or_0};
 pub use fields::{Fields, field};
+pub use lines::{is_blank, is_comment};
 pub use numbers::{long, number, number_or_0};
 pub use printed::{push_hex, push_number};
 pub use quoting::quote;

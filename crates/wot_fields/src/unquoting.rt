@@ -1,7 +1,9 @@
 //! Texts that quoted fields spell.
 
-ghost use Rattle.std.specs.Prelude.{◌≡◌, ◌+◌, ◌<◌, ℕ, List, length, IfOk, IfSome, IsErrOf, Some, None, option_map};
+ghost use Rattle.std.specs.Prelude.{◌≡◌, ◌==◌, ◌+◌, ◌<◌, not, ℕ, List, length, IfOk, IfSome, IsErrOf, Some, None, option_map};
+ghost use Rattle.std.specs.List.{list_all};
 ghost use Rattle.hex.specs.Hex.{hex_digit_value};
+ghost use Rattle.wot_types.specs.Bytes.{backslash};
 ghost use Rattle.wot_types.specs.Quotes as quotes;
 
 use std::alloc::{AllocError, AllocFailed, Global};
@@ -46,7 +48,7 @@ pub fn unquote(alloc: Global, f: &[u8]) -> Result<Text, QuoteError>
     ensures value { IfOk result (λ t. quotes.text_of_quoted f.now ≡ Some t) }
     ensures no_value { IsErrOf result QuoteError.BadQuote → quotes.text_of_quoted f.now ≡ None }
 {
-    let text = unquoted_bytes(alloc, f)?;
+    let text = spelled_bytes(alloc, f)?;
     Ok(Text::from_vec(text))
 }
 
@@ -58,6 +60,26 @@ pub fn decoder_is_the_quoting_relation()
     ensures bad_quote { (f text : List ℕ) → quotes.text_of_quoted f ≡ None → quotes.Quoted text f → ⊥ }
 {}
 
+/// The bytes that a field spells. Most fields have no escape, and are copied whole.
+#[tactic(auto, using(crate::proofs::QuoteLaws::text_of_plain))]
+fn spelled_bytes(alloc: Global, f: &[u8]) -> Result<Vec<u8>, QuoteError>
+    ensures value { IfOk result (λ t. quotes.text_of_quoted f.now ≡ Some t.items) }
+    ensures no_value { IsErrOf result QuoteError.BadQuote → quotes.text_of_quoted f.now ≡ None }
+{
+    if !is_plain(f) {
+        return unquoted_bytes(alloc, f);
+    }
+    Ok(Vec::from_slice(alloc, f)?)
+}
+
+/// Whether no byte of a field is a backslash.
+fn is_plain(f: &[u8]) -> bool
+    ensures { result ≡ list_all (λ b. not (b == backslash)) f.now }
+{
+    f.iter().all(|b| *b != b'\\')
+}
+
+/// The bytes that a field spells, one after another.
 fn unquoted_bytes(alloc: Global, f: &[u8]) -> Result<Vec<u8>, QuoteError>
     ensures value { IfOk result (λ t. quotes.text_of_quoted f.now ≡ Some t.items) }
     ensures no_value { IsErrOf result QuoteError.BadQuote → quotes.text_of_quoted f.now ≡ None }

@@ -15,7 +15,7 @@ use Rattle.wot_types.specs.declared.fault.ListingWhat.TheVariants.{LimitReached,
 use Rattle.wot_types.specs.declared.record.RecordKind.{RecordKind}
 use Rattle.wot_types.specs.declared.record.RecordKind.TheVariants.{Primary, Fingerprint, UserId, Signature, Subkey, Foreign, Other}
 use Rattle.wot_types.specs.Keyring.{Keyring}
-use Rattle.wot_types.specs.Listing.{Line, begins_keyblock, block_id, blocks, cert_count, checks_of, ends_keyblock, failed_check, first_failing, fpr_checks, fpr_line, in_block, is_repeated_key, is_repeated_user, is_same_user, keys_of, lacks_fingerprint, open_block, open_user, pub_checks, sig_checks, user_at, user_checks, user_kind, user_of, user_runs, wants_fpr, with_keyblock}
+use Rattle.wot_types.specs.Listing.{Line, begins_keyblock, block_id, blocks, cert_count, checks_of, ends_keyblock, failed_check, first_failing, fpr_checks, fpr_record, in_block, is_repeated_key, is_repeated_user, is_same_user, keys_of, lacks_fingerprint, open_block, open_user, pub_checks, sig_checks, user_at, user_checks, user_kind, user_of, user_runs, wants_fpr, with_keyblock}
 use Rattle.wot_types.specs.Limits.{most_users}
 use Rattle.wot_types.specs.Records.{fingerprint_at, is_good, is_revoked_at, key_id_at, kind_of}
 use Rattle.wot_types.specs.Runs.{Run, alone}
@@ -58,7 +58,7 @@ repeated_key_is lines line =
 
 lacks_is : (o : Option (Run Line)) → lacks_fingerprint o ≡ is_unnamed (option_map keyblock_of o)
 lacks_is None = refl
-lacks_is (Some block) = ap not (sym (some_of_map fingerprint_at (fpr_line block)))
+lacks_is (Some block) = ap not (sym (some_of_map fingerprint_at (fpr_record block)))
 
 any_map : {A B : Type 0} (p : B → Bool) (f : A → B) (l : List A) → list_any (λ x. p (f x)) l ≡ list_any p (map f l)
 any_map p f [] = refl

@@ -11,7 +11,7 @@ use Rattle.wot_types.specs.declared.cert.Cert.{Cert}
 use Rattle.wot_types.specs.declared.user.User.{User}
 use Rattle.wot_types.specs.declared.record.RecordKind.{RecordKind}
 use Rattle.wot_types.specs.declared.record.RecordKind.TheVariants.{Primary, Fingerprint, UserId, Signature, Subkey, Foreign, Other}
-use Rattle.wot_types.specs.Listing.{Line, begins_user, cert_count, certifies, certifications, ends_user, fpr_line, is_certification, is_fpr, is_sub, open_user, user_at, user_kind, user_of, wants_fpr}
+use Rattle.wot_types.specs.Listing.{Line, begins_user, cert_count, certifies, certifications, ends_user, fpr_record, is_certification, is_fpr, is_sub, open_user, user_at, user_kind, user_of, wants_fpr}
 use Rattle.wot_types.specs.Records as record_of
 use Rattle.wot_types.specs.Records.{cert_of, class_at, fingerprint_at, is_fingerprint_record, is_good, is_kept_class, is_signature, is_subkey, is_user_id, key_id_at, kind_of}
 use Rattle.wot_types.specs.Runs.{Run, alone, up_to}
@@ -37,15 +37,15 @@ or_both true b h = refl
 or_both false b h = cc
 
 fpr_line_at : (block : Run Line) (line : Line) (any sub : Bool) → list_any is_sub block.rest ≡ any → is_sub line ≡ sub
-    → fpr_line (longer line block) ≡ cond (is_sub line) (fpr_line block) (cond (wants_fpr block && is_fpr line) (Some line) (fpr_line block))
+    → fpr_record (longer line block) ≡ cond (is_sub line) (fpr_record block) (cond (wants_fpr block && is_fpr line) (Some line) (fpr_record block))
 fpr_line_at block line true true p q = rw (up_to_more is_sub block.rest line, p, q) refl
 fpr_line_at block line false true p q = rw (up_to_more is_sub block.rest line, p, q) refl
 fpr_line_at block line true false p q = rw (up_to_more is_sub block.rest line, p, q) refl
 fpr_line_at block line false false p q = rw (up_to_more is_sub block.rest line, p, q)
-    (find-append is_fpr (up_to is_sub block.rest) (line ∷ []) ∙ found_more (fpr_line block) line (is_fpr line))
+    (find-append is_fpr (up_to is_sub block.rest) (line ∷ []) ∙ found_more (fpr_record block) line (is_fpr line))
 
 pub fpr_line_more : (line : Line) (block : Run Line)
-    → fpr_line (longer line block) ≡ cond (is_sub line) (fpr_line block) (cond (wants_fpr block && is_fpr line) (Some line) (fpr_line block))
+    → fpr_record (longer line block) ≡ cond (is_sub line) (fpr_record block) (cond (wants_fpr block && is_fpr line) (Some line) (fpr_record block))
 fpr_line_more line block = fpr_line_at block line _ _ refl refl
 
 none_of_cond : (any : Bool) (X : Option Line) (line : Line) (sub f : Bool)
@@ -60,7 +60,7 @@ none_of_cond false (Some x) line false f = refl
 
 pub wants_fpr_more : (line : Line) (block : Run Line) → wants_fpr (longer line block) ≡ (wants_fpr block && not (is_sub line) && not (is_fpr line))
 wants_fpr_more line block = rw (any_more is_sub block.rest line, fpr_line_more line block)
-    (none_of_cond (list_any is_sub block.rest) (fpr_line block) line (is_sub line) (is_fpr line))
+    (none_of_cond (list_any is_sub block.rest) (fpr_record block) line (is_sub line) (is_fpr line))
 
 pub map_to_list : {A B : Type 0} (f : A → B) (o : Option A) → map f (option_to_list o) ≡ option_to_list (option_map f o)
 map_to_list f None = refl
@@ -180,7 +180,7 @@ after_by_tests : (line : Line) (block : Run Line) → keyblock_of (longer line b
 after_by_tests line block =
     let fpr = ap (option_map fingerprint_at) (fpr_line_more line block)
     ∙ map_cond (option_map fingerprint_at) (is_sub line) _ _
-    ∙ ap (cond (is_sub line) (option_map fingerprint_at (fpr_line block))) (map_cond (option_map fingerprint_at) (wants_fpr block && is_fpr line) _ _) in
+    ∙ ap (cond (is_sub line) (option_map fingerprint_at (fpr_record block))) (map_cond (option_map fingerprint_at) (wants_fpr block && is_fpr line) _ _) in
     let wants = wants_fpr_more line block in
     let users = ended_users_more line block in
     let user = open_user_more line block in

@@ -12,3 +12,4 @@ pub mod SoundKeys
 pub mod TrustLemmas
 pub mod CertLemmas
 pub mod PlaceLemmas
+pub mod HashLemmas

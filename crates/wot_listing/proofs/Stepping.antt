@@ -7,7 +7,7 @@ use Rattle.std.proofs.lemmas.List.{map-append, append-nil, length-append}
 use Rattle.std.proofs.lemmas.List.Sums.{fold_push, sum_by-append}
 use Rattle.wot_types.specs.declared.record.RecordKind.{RecordKind}
 use Rattle.wot_types.specs.declared.record.RecordKind.TheVariants.{Primary, Fingerprint, UserId, Signature, Subkey, Foreign, Other}
-use Rattle.wot_types.specs.Listing.{Line, begins_keyblock, begins_user, cert_count, ends_keyblock, ends_user, fpr_line, is_sig, kept_count, key_of, keys_of, open_block, open_user, user_of, user_runs, with_keyblock}
+use Rattle.wot_types.specs.Listing.{Line, begins_keyblock, begins_user, cert_count, ends_keyblock, ends_user, fpr_record, is_sig, kept_count, key_of, keys_of, open_block, open_user, user_of, user_runs, with_keyblock}
 use Rattle.wot_types.specs.Numbers.{capped}
 use Rattle.wot_types.specs.Records as record_of
 use Rattle.wot_types.specs.Records.{cert_of, fingerprint_at, is_primary, is_signature, kind_of}
@@ -41,7 +41,7 @@ users_are block = ap (map (user_of block)) (runs_split begins_user ends_user use
 
 -- a block's key is what is kept of the block
 pub finished_is : (block : Run Line) → key_of block ≡ key_at_end (keyblock_of block)
-finished_is block = λ i. record (key_at_end (keyblock_of block)) { fpr = fpr_is (fpr_line block) i; users = users_are block i }
+finished_is block = λ i. record (key_at_end (keyblock_of block)) { fpr = fpr_is (fpr_record block) i; users = users_are block i }
 
 -- the keys of ended blocks, and that of the open one
 pub with_block_is : (ended : List (Run Line)) (o : Option (Run Line)) → keys_of (ended ++ option_to_list o) ≡ with_block (keys_of ended) (option_map keyblock_of o)

@@ -12,7 +12,7 @@ use Rattle.wot_types.specs.declared.fault.ListingWhat.TheVariants.{LimitReached,
 use Rattle.wot_types.specs.declared.record.RecordKind.{RecordKind}
 use Rattle.wot_types.specs.declared.record.RecordKind.TheVariants.{Primary, Fingerprint, UserId, Signature, Subkey, Foreign, Other}
 use Rattle.wot_types.specs.Keyring.{Keyring}
-use Rattle.wot_types.specs.Listing.{Check, Line, begins_keyblock, begins_user, cert_count, certifies, ends_keyblock, ends_user, first_failing, fpr_checks, fpr_line, is_same_user, is_sig, kept_count, keys_of, open_block, open_user, pub_checks, sig_checks, user_at, user_checks, user_of, wants_fpr}
+use Rattle.wot_types.specs.Listing.{Check, Line, begins_keyblock, begins_user, cert_count, certifies, ends_keyblock, ends_user, first_failing, fpr_checks, fpr_record, is_same_user, is_sig, kept_count, keys_of, open_block, open_user, pub_checks, sig_checks, user_at, user_checks, user_of, wants_fpr}
 use Rattle.wot_types.specs.Limits.{most_users}
 use Rattle.wot_types.specs.Numbers.{capped}
 use Rattle.wot_types.specs.Records.{capabilities_at, cert_of, date_at, fingerprint_at, is_good, is_revoked_at, key_id_at, kind_of, number_at}
@@ -38,7 +38,7 @@ primary_of line = record {
 abbrev pub keyblock_of : Run Line → KeyBlock
 keyblock_of block = record {
   primary = primary_of block.first;
-  fpr = option_map fingerprint_at (fpr_line block);
+  fpr = option_map fingerprint_at (fpr_record block);
   wants_fpr = wants_fpr block;
   users = map (user_of block) (ended_runs begins_user ends_user block.rest);
   user = option_map (user_of block) (open_user block);

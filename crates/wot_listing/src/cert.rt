@@ -7,10 +7,10 @@ ghost use Rattle.wot_types.specs.Records.{cert_of, class_at, depth_at, amount_at
 ghost use Rattle.wot_listing.specs.Answer.{Answers};
 
 use crate::error::LineError;
-use crate::values::{class_in, date_in, is_kept_class, is_local, key_id_in, text_in, trust_in};
+use crate::values::{class_in, date_in, is_local, key_id_in, text_in, trust_in};
 use std::alloc::Global;
 use wot_fields::Fields;
-use wot_types::{Cert, KeyId, Limit, ListingWhat, MOST_CERTS, Mem, Scope, Text};
+use wot_types::{Cert, KeyId, Limit, ListingWhat, MOST_CERTS, Mem, Scope, Text, is_kept_class};
 
 /// The most bytes of a regular expression.
 const LONGEST_SCOPE: usize = 255;

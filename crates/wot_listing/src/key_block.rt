@@ -10,7 +10,7 @@ ghost use Rattle.wot_listing.specs.Machine.{at_primary, at_sub, after_user, key_
 use crate::cert::read_cert;
 use crate::error::LineError;
 use crate::primary::Primary;
-use crate::user::{is_among, is_same_user, read_user};
+use crate::user::{is_among, read_user};
 use crate::values::{fingerprint_in, is_good};
 use std::alloc::Global;
 use wot_fields::Fields;
@@ -147,7 +147,7 @@ impl KeyBlock {
     {
         let ended = is_among(self.users.as_slice(), user);
         match &self.user {
-            Some(last) => ended || is_same_user(last, user),
+            Some(last) => ended || last.is_same(user),
             None => ended,
         }
     }

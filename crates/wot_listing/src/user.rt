@@ -38,18 +38,9 @@ pub fn read_user(
     })
 }
 
-/// Whether kind, text and hash agree.
-pub fn is_same_user(a: &User, b: &User) -> bool
-    ensures { result ≡ is_same_user a.now b.now }
-{
-    a.kind == b.kind
-        && a.text.as_bytes() == b.text.as_bytes()
-        && a.hash.as_bytes() == b.hash.as_bytes()
-}
-
 /// Whether one of these user IDs has the kind, text and hash of the other.
 pub fn is_among(users: &[User], user: &User) -> bool
     ensures { result ≡ list_any (λ earlier. is_same_user earlier user.now) users.now }
 {
-    users.iter().any(|earlier| is_same_user(earlier, user))
+    users.iter().any(|earlier| earlier.is_same(user))
 }

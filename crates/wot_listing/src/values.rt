@@ -1,6 +1,7 @@
 //! The values of a record's fields.
 
 ghost use Rattle.std.specs.Prelude.{◌≡◌, IfOk};
+ghost use Rattle.std.specs.List.{filter, list_all};
 ghost use Rattle.wot_types.specs.Dates.{date_or_0};
 ghost use Rattle.wot_types.specs.Fields as fields;
 ghost use Rattle.wot_types.specs.Fingerprint.{fingerprint};
@@ -126,13 +127,6 @@ fn read_class(f: &[u8]) -> Option<u8>
     }
 }
 
-/// A certification has a class from 0x10 to 0x13, and a revocation of one 0x30.
-pub fn is_kept_class(class: u8) -> bool
-    ensures { result ≡ records.is_kept_class class }
-{
-    matches!(class, 0x10..=0x13 | 0x30)
-}
-
 /// Whether the class in field 11 is marked local.
 pub fn is_local(line: &Fields<'_>) -> bool
     ensures { result ≡ records.is_local_at line.now }
@@ -153,12 +147,30 @@ pub fn capabilities_in(alloc: Global, line: &Fields<'_>) -> Result<Text, Mem>
     Ok(Text::from_vec(caps))
 }
 
-/// The letters and digits of field 8.
+/// The letters and digits of field 8. Most have nothing else, and are copied whole.
 pub fn hash_in(alloc: Global, line: &Fields<'_>) -> Result<Text, Mem>
     ensures { IfOk result (λ text. text ≡ records.hash_at line.now) }
 {
-    let hash = line
-        .get_or_empty(8)
+    let field = line.get_or_empty(8);
+    if is_hash(field) {
+        Text::from_bytes(alloc, field)
+    } else {
+        hash_bytes(alloc, field)
+    }
+}
+
+/// Whether a field holds letters and digits alone.
+fn is_hash(f: &[u8]) -> bool
+    ensures { result ≡ list_all records.is_hash_byte f.now }
+{
+    f.iter().all(|b| b.is_ascii_alphanumeric())
+}
+
+/// The letters and digits of a field.
+fn hash_bytes(alloc: Global, f: &[u8]) -> Result<Text, Mem>
+    ensures { IfOk result (λ text. text ≡ filter records.is_hash_byte f.now) }
+{
+    let hash = f
         .iter()
         .copied()
         .filter(|b| b.is_ascii_alphanumeric())

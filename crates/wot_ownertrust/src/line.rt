@@ -1,15 +1,13 @@
 //! A line of an ownertrust text: blank, a comment, or `FINGERPRINT:NUMBER:`.
 
 ghost use Rattle.std.specs.Prelude.{◌≡◌, ◌++◌, ◌∷◌, [], IfOk};
-ghost use Rattle.std.specs.List.{list_all};
 ghost use Rattle.wot_types.specs.Fingerprint.{fingerprint};
-ghost use Rattle.wot_types.specs.Lines.{is_blank, is_comment};
 ghost use Rattle.wot_types.specs.Numbers.{number};
 ghost use Rattle.wot_types.specs.Ownertrust.{kept_of, ownertrust_line};
 ghost use Rattle.wot_types.specs.OwnertrustText.{entry_by, entry_of_line, ownertrust_of_number};
 
 use std::alloc::Global;
-use wot_fields::{Fields, number, push_hex, push_number};
+use wot_fields::{Fields, is_blank, is_comment, number, push_hex, push_number};
 use wot_types::{Entry, Fpr, Mem, Ownertrust, OwnertrustFault, Text, Trust};
 
 /// The entry of a line, and None for a blank line, a comment or the number 0. The line has no newline.
@@ -25,18 +23,6 @@ pub fn read_line(line: &[u8]) -> Result<Option<Entry>, OwnertrustFault>
         return Err(OwnertrustFault::BadShape);
     }
     entry_by(fields.get_or_empty(1), fields.get_or_empty(2))
-}
-
-fn is_blank(line: &[u8]) -> bool
-    ensures { result ≡ is_blank line.now }
-{
-    line.iter().all(|b| *b == b' ')
-}
-
-fn is_comment(line: &[u8]) -> bool
-    ensures { result ≡ is_comment line.now }
-{
-    matches!(line, [b'#', ..])
 }
 
 /// The entry of a fingerprint in hexadecimal and a number.
