@@ -2,11 +2,12 @@
 use Rattle.std.proofs.Common.{◌≡◌, ℕ, ◌<◌, ◌==◌, ◌&&◌, ◌||◌, not, Bool, true, false, cond, List, [], ◌∷◌, take, drop, Some, None, BTreeSet, nat_cmp, is_gt, is_eq, Less, refl, sym, ap, ap₂, subst, ◌∙◌, arith}
 use Rattle.std.specs.BTreeSet as set
 use Rattle.std.specs.Cmp.Lexicographic.{pointwise}
-use Rattle.std.specs.Ordering.{ordering_then}
+use Rattle.std.specs.Ordering.{eq_by_cmp, ordering_then}
 use Rattle.std.specs.declared.ops.Bound.TheVariants.{Excluded, Included, Unbounded}
 use Rattle.std.proofs.lemmas.Bool.{false_from_ne_true}
 use Rattle.std.proofs.lemmas.Bool.Decides.{nat_tests}
-use Rattle.std.specs.List.{list_any}
+use Rattle.std.specs.List.{dedup, dedup_from, list_any}
+use Rattle.std.specs.Set.{is_member}
 use Rattle.std.proofs.lemmas.List.{take-append-drop}
 use Rattle.std.proofs.lemmas.List.Folds.{list_any-append}
 use Rattle.wot_index.specs.Indexed.{every_other, has_pair, pair_cmp}
@@ -58,6 +59,34 @@ window_added n k old one two pairs i e f =
     turned false false true false = refl
     turned false false false true = refl
     turned false false false false = refl
+
+-- the members of a set that is made of a list of pairs
+pub members : (n k : ℕ) (pairs : List (ℕ × ℕ)) → is_member (eq_by_cmp pair_cmp) pairs (n, k) ≡ has_pair n k pairs
+members n k [] = refl
+members n k (p ∷ ps) = ap₂ (λ a b. a || b) (same p.0 p.1 n k) (members n k ps)
+  where
+    same : (a b n k : ℕ) → is_eq (ordering_then (nat_cmp n a) (nat_cmp k b)) ≡ ((a == n) && (b == k))
+    same a b n k = grind (arith, nat_tests)
+
+abbrev same_pair : ℕ × ℕ → ℕ × ℕ → Bool
+same_pair p q = (p.0 == q.0) && (p.1 == q.1)
+
+-- of pairs that repeat one is left
+pub distinct_from : (n k : ℕ) (p : ℕ × ℕ) (ps : List (ℕ × ℕ)) → has_pair n k (dedup_from same_pair p ps) ≡ has_pair n k (p ∷ ps)
+distinct_from n k p [] = refl
+distinct_from n k p (q ∷ ps) =
+    elim (same_pair q p) as (λ b. same_pair q p ≡ b → has_pair n k (cond b (dedup_from same_pair p ps) (p ∷ dedup_from same_pair q ps)) ≡ has_pair n k (p ∷ q ∷ ps)) [
+      | true ↦ λ e. distinct_from n k p ps ∙ again p.0 p.1 q.0 q.1 n k (has_pair n k ps) e
+      | false ↦ λ e. ap (λ b. ((p.0 == n) && (p.1 == k)) || b) (distinct_from n k q ps)
+    ] refl
+  where
+    again : (a b c d n k : ℕ) (rest : Bool) → ((c == a) && (d == b)) ≡ true → (((a == n) && (b == k)) || rest) ≡ (((a == n) && (b == k)) || (((c == n) && (d == k)) || rest))
+    again a b c d n k true e = grind (arith, nat_tests)
+    again a b c d n k false e = grind (arith, nat_tests)
+
+pub distinct : (n k : ℕ) (ps : List (ℕ × ℕ)) → has_pair n k (dedup same_pair ps) ≡ has_pair n k ps
+distinct n k [] = refl
+distinct n k (p ∷ ps) = distinct_from n k p ps
 
 module _ (s : BTreeSet (ℕ × ℕ)) where
   under : ℕ → ℕ → Bool

@@ -6,6 +6,7 @@ ghost use Rattle.std.specs.List.Sorted.{IsStrictlyIncreasing};
 ghost use Rattle.wot_index.specs.Indexed.{IsSoonest, StandsBetween, every_other, has, has_pair};
 ghost use Rattle.wot_types.specs.Next.{IsNext};
 
+use crate::falling::Falling;
 use std::alloc::Global;
 use std::collections::BTreeSet;
 use std::ops::Bound;
@@ -17,6 +18,7 @@ const WINDOW: usize = 4096;
 /// A set of pairs of a number and a key. A key may stand under many numbers, and many keys under one.
 #[derive(Drop)]
 pub struct Index {
+    alloc: Global,
     pairs: BTreeSet<(u64, KeyId)>,
 }
 
@@ -26,8 +28,18 @@ impl Index {
         ensures { (n id : ℕ) → has result n id ≡ false }
     {
         Index {
+            alloc,
             pairs: BTreeSet::new(alloc),
         }
+    }
+
+    /// These pairs.
+    pub fn of(alloc: Global, pairs: Vec<(u64, KeyId)>) -> Result<Index, Mem>
+        ensures { IfOk result (λ index. (n id : ℕ) → has index n id ≡ has_pair n id pairs.items) }
+    {
+        let mut index = Index::new(alloc);
+        index.add_all(pairs)?;
+        Ok(index)
     }
 
     /// The pairs stand in it too, each of them once. They are sorted first: neighbours in the tree then come one after the other.
@@ -36,9 +48,22 @@ impl Index {
     {
         let mut left = pairs;
         left.sort_unstable();
+        if self.pairs.is_empty() {
+            return self.build(left);
+        }
         while !left.is_empty() {
             self.add_last(&mut left)?;
         }
+        Ok(())
+    }
+
+    /// Where there are no pairs yet, the tree is made of these at once, so that its nodes are full.
+    fn build(&mut self, sorted: Vec<(u64, KeyId)>) -> Result<(), Mem>
+        ensures { OnOk result ((n id : ℕ) → has self.new n id ≡ has_pair n id sorted.items) }
+    {
+        let mut left = sorted;
+        left.dedup();
+        self.pairs = Falling { left }.collect(self.alloc)?;
         Ok(())
     }
 

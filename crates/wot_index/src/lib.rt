@@ -2,6 +2,7 @@
 #![tactic(auto)]
 
 mod draft; // an index while pairs come
+mod falling; // pairs on their way into an index
 mod index; // the pairs
 
 pub use draft::Draft;

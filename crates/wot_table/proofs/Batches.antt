@@ -1,0 +1,132 @@
+-- Keys that come in rising order of their key IDs into a table that has none.
+use Rattle.std.proofs.Common.{◌≡◌, ℕ, ◌+◌, ◌-◌, ◌<◌, ◌≤◌, ◌==◌, ◌&&◌, ◌||◌, Bool, true, false, cond, List, [], ◌∷◌, ◌++◌, length, reverse, Option, Some, None, BTreeMap, Less, refl, sym, ap, ap₂, subst, ◌∙◌, arith, nat_lt, map as mapped, nat_cmp}
+use Rattle.std.specs.BTreeMap.{IsFromIterResult}
+use Rattle.std.specs.Cmp.{eq_by_cmp_equiv, nat_cmp_total}
+use Rattle.std.specs.FinMap as finmap
+use Rattle.std.specs.FinMap.{get-empty, get-insert, len-empty, len-insert, same_map}
+use Rattle.std.specs.List.{AllByRecursion, slice_index}
+use Rattle.std.specs.List.Sorted.{IsStrictlySortedBy}
+use Rattle.std.specs.Map.{update, update_all}
+use Rattle.std.specs.Ordering.{eq_by_cmp}
+use Rattle.std.proofs.lemmas.Bool.Decides.{nat_tests}
+use Rattle.std.proofs.lemmas.List.{append-nil, append_assoc, reverse-append}
+use Rattle.wot_types.specs.declared.key.Key.{Key}
+use Rattle.wot_types.specs.Keyring.{Keyring, id_of, with_key, with_keys}
+use Rattle.wot_types.proofs.Maps.{get_entries}
+use Rattle.wot_table.specs.declared.heading.Heading.{Heading}
+use Rattle.wot_table.specs.declared.sums.Sums.{Sums}
+use Rattle.wot_table.specs.Headings.{is_under, key_under, keys_under}
+use Rattle.wot_table.specs.Weights.{minus, weight_or_none}
+use Rattle.wot_table.proofs.Filed.{filed_put, none_filed}
+use Rattle.wot_table.proofs.Summing.{sums_equal}
+
+abbrev pub Lacks : Keyring → Key → Type 0
+Lacks keys key = finmap.get keys (id_of key) ≡ None
+
+pub none_yet : (more : List Key) → AllByRecursion (Lacks finmap.empty) more
+none_yet [] = tt
+none_yet (key ∷ more) = (get-empty nat_cmp (id_of key), none_yet more)
+
+above : (a b : ℕ) → nat_cmp a b ≡ Less → eq_by_cmp nat_cmp b a ≡ false
+above a b l = grind (arith, nat_tests)
+
+-- a key that is put has another key ID than those above it
+pub still_lacks : (keys : Keyring) (key : Key) (more : List Key) → AllByRecursion (λ id. nat_cmp (id_of key) id ≡ Less) (mapped id_of more)
+    → AllByRecursion (Lacks keys) more → AllByRecursion (Lacks (with_key keys key)) more
+still_lacks keys key [] above_it lack = tt
+still_lacks keys key (next ∷ more) above_it lack = (
+  get-insert nat_cmp_total keys (id_of key) key (id_of next) ∙ ap (λ b. cond b (Some key) (finmap.get keys (id_of next))) (above (id_of key) (id_of next) above_it.0) ∙ lack.0,
+  still_lacks keys key more above_it.1 lack.1,
+)
+
+pub next_above : (key : Key) (more : List Key) → IsStrictlySortedBy nat_cmp (mapped id_of (key ∷ more)) → AllByRecursion (λ id. nat_cmp (id_of key) id ≡ Less) (mapped id_of more)
+unfolding IsStrictlySortedBy
+next_above key more sorted = sorted.0
+
+pub others_sorted : (key : Key) (more : List Key) → IsStrictlySortedBy nat_cmp (mapped id_of (key ∷ more)) → IsStrictlySortedBy nat_cmp (mapped id_of more)
+unfolding IsStrictlySortedBy
+others_sorted key more sorted = sorted.1
+
+-- key IDs that rise up to one, and that one above the one before it
+pub one_higher : (ids : List ℕ) (i : ℕ) → 1 ≤ i → slice_index ids (i - 1) < slice_index ids i → ((k : ℕ) → k + 1 < i → slice_index ids k < slice_index ids (k + 1))
+    → (k : ℕ) → k + 1 < i + 1 → slice_index ids k < slice_index ids (k + 1)
+one_higher ids i start last old k h = elim (nat_lt (k + 1) i) as (λ b. nat_lt (k + 1) i ≡ b → slice_index ids k < slice_index ids (k + 1)) [
+  | true ↦ λ e. old k (lower (k + 1) i e)
+  | false ↦ λ e.
+      let end : k + 1 ≡ i = omega (arith, h, not_lower (k + 1) i e) in
+      let before : i - 1 ≡ k = omega (arith, end) in
+      subst (λ j. slice_index ids k < slice_index ids j) (sym end) (subst (λ j. slice_index ids j < slice_index ids i) before last)
+] refl
+  where
+    lower : (a b : ℕ) → nat_lt a b ≡ true → a < b
+    lower a b e = grind (arith, nat_tests)
+
+    not_lower : (a b : ℕ) → nat_lt a b ≡ false → b ≤ a
+    not_lower a b e = grind (arith, nat_tests)
+
+-- nothing gives way to a key that comes under a new key ID
+pub nothing_less : (s : Sums) (former : Option Key) → former ≡ None → minus s (weight_or_none former) ≡ s
+nothing_less s former none = ap (λ f. minus s (weight_or_none f)) none ∙ sums_equal _ _ (omega arith) (omega arith) (omega arith)
+
+-- under which numbers the keys stand once all have come
+pub all_filed : (heading : Heading) (n id : ℕ) (keys : Keyring) (more : List Key) → IsStrictlySortedBy nat_cmp (mapped id_of more) → AllByRecursion (Lacks keys) more
+    → (is_under heading n (finmap.get keys id) || keys_under heading n id more) ≡ is_under heading n (finmap.get (with_keys keys more) id)
+all_filed heading n id keys [] sorted lack = or_false (is_under heading n (finmap.get keys id))
+  where
+    or_false : (b : Bool) → (b || false) ≡ b
+    or_false true = refl
+    or_false false = refl
+all_filed heading n id keys (key ∷ more) sorted lack =
+    turned (is_under heading n (finmap.get keys id)) ((id == id_of key) && key_under heading n key) (keys_under heading n id more)
+    ∙ ap (λ b. b || keys_under heading n id more)
+    (chosen (id == id_of key) (is_under heading n (finmap.get keys id)) (key_under heading n key) (λ same. ap (is_under heading n) (ap (finmap.get keys) (equal id (id_of key) same) ∙ lack.0))
+    ∙ filed_put heading keys (id_of key) key n id (is_under heading n (finmap.get keys id)) refl)
+    ∙ all_filed heading n id (with_key keys key) more (others_sorted key more sorted) (still_lacks keys key more (next_above key more sorted) lack.1)
+  where
+    turned : (a b c : Bool) → (a || (b || c)) ≡ ((a || b) || c)
+    turned true b c = refl
+    turned false b c = refl
+
+    chosen : (same had under : Bool) → (same ≡ true → had ≡ false) → (had || (same && under)) ≡ cond same under had
+    chosen true had under none = ap (λ b. b || under) (none refl)
+    chosen false true under none = refl
+    chosen false false under none = refl
+
+    equal : (a b : ℕ) → (a == b) ≡ true → a ≡ b
+    equal a b t = grind (arith, nat_tests)
+
+pub filed_alone : (heading : Heading) (n id : ℕ) (more : List Key) → IsStrictlySortedBy nat_cmp (mapped id_of more)
+    → keys_under heading n id more ≡ is_under heading n (finmap.get (with_keys finmap.empty more) id)
+filed_alone heading n id more sorted =
+    ap (λ b. b || keys_under heading n id more) (sym (none_filed heading n id)) ∙ all_filed heading n id finmap.empty more sorted (none_yet more)
+
+module _ {X : Type 0} where
+  one_more : (e : ℕ × X) (es : List (ℕ × X)) → reverse (e ∷ es) ≡ reverse es ++ e ∷ []
+  one_more e es = reverse-append (e ∷ []) es
+
+  pub added_last : (es fs : List (ℕ × X)) (e : ℕ × X) → fs ≡ es ++ e ∷ [] → reverse fs ≡ e ∷ reverse es
+  added_last es fs e is = ap reverse is ∙ reverse-append es (e ∷ [])
+
+  -- at most as many keys as entries
+  pub len_at_most : (es : List (ℕ × X)) → finmap.len (finmap.from_entries {R = nat_cmp} es) ≤ length es
+  len_at_most [] = omega (arith, len-empty nat_cmp X)
+  len_at_most (e ∷ es) =
+      elim (finmap.contains_key (finmap.from_entries {R = nat_cmp} es) e.0) as (λ b. finmap.len (finmap.from_entries {R = nat_cmp} (e ∷ es)) ≡ cond b (finmap.len (finmap.from_entries {R = nat_cmp} es)) (finmap.len (finmap.from_entries {R = nat_cmp} es) + 1) → finmap.len (finmap.from_entries {R = nat_cmp} (e ∷ es)) ≤ length (e ∷ es)) [
+        | true ↦ λ is. omega (arith, is, len_at_most es)
+        | false ↦ λ is. omega (arith, is, len_at_most es)
+      ] (len-insert nat_cmp_total (finmap.from_entries es) e.0 e.1)
+
+  collected_at : (es fs : List (ℕ × X)) (f : ℕ → Option X) → ((q : ℕ) → f q ≡ finmap.get (finmap.from_entries {R = nat_cmp} fs) q)
+      → (q : ℕ) → update_all (eq_by_cmp nat_cmp) f es q ≡ finmap.get (finmap.from_entries {R = nat_cmp} (reverse es ++ fs)) q
+  collected_at [] fs f h q = h q
+  collected_at (e ∷ es) fs f h q =
+      collected_at es (e ∷ fs) (update (eq_by_cmp nat_cmp) f e.0 (Some e.1)) (λ p.
+      ap₂ (λ b r. cond b (Some e.1) r) ((eq_by_cmp_equiv nat_cmp_total).symm e.0 p) (h p) ∙ sym (get-insert nat_cmp_total (finmap.from_entries fs) e.0 e.1 p)) q
+      ∙ ap (λ es. finmap.get (finmap.from_entries {R = nat_cmp} es) q) (sym (append_assoc (reverse es) (e ∷ []) fs) ∙ ap (λ es. es ++ fs) (sym (one_more e es)))
+
+  -- a map that is made of some entries
+  pub collected : (es : List (ℕ × X)) (made : BTreeMap ℕ X) → IsFromIterResult nat_cmp es made → finmap.from_entries {R = nat_cmp} made.entries ≡ finmap.from_entries (reverse es)
+  collected es made is = same_map nat_cmp_total finmap.nat_cmp-IsAntisymmetric _ _ (λ q.
+      get_entries nat_cmp_total made.entries q ∙ is.0 q
+      ∙ collected_at es [] (λ _. None) (λ p. sym (get-empty nat_cmp p)) q
+      ∙ ap (λ es. finmap.get (finmap.from_entries {R = nat_cmp} es) q) (append-nil (reverse es)))

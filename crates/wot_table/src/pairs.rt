@@ -1,0 +1,76 @@
+//! The pairs under which keys stand, read off the keys before they are held.
+
+ghost use Rattle.std.specs.Prelude.{◌≡◌, ℕ, ◌==◌, ◌&&◌, ◌||◌, IfOk, OnOk, map};
+ghost use Rattle.std.specs.List.{list_any};
+ghost use Rattle.wot_types.specs.Keyring.{id_of};
+ghost use Rattle.wot_index.specs.Indexed.{has, has_pair};
+ghost use Rattle.wot_table.specs.Headings.{is_filed_by, key_under, keys_under, user_under};
+
+use crate::heading::Heading;
+use crate::held::{push_cert, push_expiry};
+use std::alloc::Global;
+use wot_index::Index;
+use wot_types::{Cert, Key, KeyId, Mem, User};
+
+/// The index of these keys.
+pub fn index_of(alloc: Global, heading: Heading, keys: &[Key]) -> Result<Index, Mem>
+    ensures { IfOk result (λ index. (n k : ℕ) → has index n k ≡ keys_under heading n k keys.now) }
+{
+    let mut pairs = Vec::new(alloc);
+    for key in keys {
+        push_pairs_of_key(key, heading, key.fpr.key_id(), &mut pairs)?;
+    }
+    Index::of(alloc, pairs)
+}
+
+fn push_pairs_of_key(
+    key: &Key,
+    heading: Heading,
+    id: KeyId,
+    to: &mut Vec<(u64, KeyId)>,
+) -> Result<(), Mem>
+    ensures { OnOk result ((n k : ℕ) → has_pair n k to.new.items ≡ (has_pair n k to.old.items || ((k == id) && key_under heading n key.now))) }
+{
+    push_expiry(key.expires, heading, id, to)?;
+    push_pairs_of_users(key.users.as_slice(), heading, id, to)
+}
+
+fn push_pairs_of_users(
+    users: &[User],
+    heading: Heading,
+    id: KeyId,
+    to: &mut Vec<(u64, KeyId)>,
+) -> Result<(), Mem>
+    ensures { OnOk result ((n k : ℕ) → has_pair n k to.new.items ≡ (has_pair n k to.old.items || ((k == id) && list_any (user_under heading n) users.now))) }
+{
+    for user in users {
+        push_pairs_of_user(user, heading, id, to)?;
+    }
+    Ok(())
+}
+
+fn push_pairs_of_user(
+    user: &User,
+    heading: Heading,
+    id: KeyId,
+    to: &mut Vec<(u64, KeyId)>,
+) -> Result<(), Mem>
+    ensures { OnOk result ((n k : ℕ) → has_pair n k to.new.items ≡ (has_pair n k to.old.items || ((k == id) && user_under heading n user.now))) }
+{
+    push_expiry(user.expires, heading, id, to)?;
+    push_pairs_of_certs(user.certs.as_slice(), heading, id, to)
+}
+
+fn push_pairs_of_certs(
+    certs: &[Cert],
+    heading: Heading,
+    id: KeyId,
+    to: &mut Vec<(u64, KeyId)>,
+) -> Result<(), Mem>
+    ensures { OnOk result ((n k : ℕ) → has_pair n k to.new.items ≡ (has_pair n k to.old.items || ((k == id) && is_filed_by heading n (map (λ cert. cert.issuer) certs.now) (map (λ cert. cert.expires) certs.now)))) }
+{
+    for cert in certs {
+        push_cert(cert, heading, id, to)?;
+    }
+    Ok(())
+}
