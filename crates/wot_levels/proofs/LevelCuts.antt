@@ -47,7 +47,7 @@ level_if n true row is = is
 level_if n false row is = tt
 
 -- a row of a later level is cut off again
-cut_one : (n m : ℕ) (a b : Option Row) → n ≤ m → HasLevel m b → option_and_then (if_below n) (kept_or a b) ≡ option_and_then (if_below n) a
+pub cut_one : (n m : ℕ) (a b : Option Row) → n ≤ m → HasLevel m b → option_and_then (if_below n) (kept_or a b) ≡ option_and_then (if_below n) a
 cut_one n m (Some row) b higher level = refl
 cut_one n m None None higher level = refl
 cut_one n m None (Some row) higher level = high_goes n (Some row) (omega (arith, level, higher))

@@ -1,6 +1,6 @@
 -- A list of keys that grows, each there once.
-use Rattle.std.proofs.Common.{◌≡◌, ◌<◌, ◌==◌, ◌&&◌, ◌||◌, ◌⊎◌, inl, inr, ℕ, Bool, true, false, cond, nat_eq, nat_le, List, [], ◌∷◌, ◌++◌, Option, Some, None, is_some, refl, sym, ap, ◌∙◌, append_assoc, append-nil, arith}
-use Rattle.std.specs.List.{AllByRecursion, IsDistinct, list_any}
+use Rattle.std.proofs.Common.{◌≡◌, ◌<◌, ◌==◌, ◌&&◌, ◌||◌, ◌⊎◌, inl, inr, ℕ, Bool, true, false, cond, nat_eq, nat_le, List, [], ◌∷◌, ◌++◌, Option, Some, None, refl, sym, ap, ◌∙◌, append_assoc, append-nil, arith}
+use Rattle.std.specs.List.{AllByRecursion, IsDistinct}
 use Rattle.std.proofs.lemmas.Bool.{false≢true, true≢false}
 use Rattle.std.proofs.lemmas.Bool.Decides.{nat_tests}
 use Rattle.std.proofs.lemmas.List.Folds.{list_any-append}
@@ -9,12 +9,7 @@ use Rattle.wot_types.specs.Explanation.{KeySet}
 use Rattle.wot_types.specs.Next.{IsAfter, IsNext}
 use Rattle.wot_types.proofs.Tests.{is_key}
 use Rattle.wot_levels.specs.Walk.{is_done}
-use Rattle.wot_live.specs.Recounting.{IsGrownBy, IsWhole, among, with_id}
-use Rattle.wot_types.specs.Indexes.{has_cert_by, key_issuers}
-use Rattle.wot_types.specs.Keyring.{Keyring}
-use Rattle.wot_types.specs.declared.key.Key.{Key}
-use Rattle.std.specs.FinMap.{contains_key, get}
-use Rattle.std.specs.Option.{option_map_or}
+use Rattle.wot_live.specs.Recounting.{IsGrownBy, among, with_id}
 
 among_append : (xs ys : List ℕ) (k : ℕ) → among (xs ++ ys) k ≡ (among xs k || among ys k)
 among_append xs ys k = list_any-append (λ id. id == k) xs ys
@@ -102,25 +97,6 @@ grown_same set next old now grown same = record {
   all = λ x h. grown.all x (same x ∙ h);
   only = λ x h. elim (grown.only x h) as (λ _. (among old x ≡ true) ⊎ (next x ≡ true)) [ inl before ↦ inl before | inr its ↦ inr (sym (same x) ∙ its) ];
 }
-
--- ---- lists with all keys
-
-has_key : (keys : Keyring) (issuer x : ℕ) → has_cert_by keys issuer x ≡ true → contains_key keys x ≡ true
-has_key keys issuer x its = elim (get keys x) as (λ o. option_map_or (λ (key : Key). list_any (λ n. n == issuer) (key_issuers key)) o false ≡ true → is_some o ≡ true) [
-  | None ↦ λ never. absurd (false≢true never)
-  | Some key ↦ λ _. refl
-] its
-
--- no key can join
-pub whole_grown : (keys : Keyring) (issuer : ℕ) (todo : List ℕ) → ((x : ℕ) → contains_key keys x ≡ true → among todo x ≡ true) → IsGrownBy (has_cert_by keys issuer) todo todo
-whole_grown keys issuer todo all = record {
-  longer = ([], sym (append-nil todo));
-  all = λ x its. all x (has_key keys issuer x its);
-  only = λ x its. inl its;
-}
-
-pub whole_more : (keys : Keyring) (whole : Bool) (todo more : List ℕ) → IsWhole keys whole todo → (added : List ℕ) × (more ≡ todo ++ added) → IsWhole keys whole more
-whole_more keys whole todo more all longer is x its = ap (λ xs. among xs x) longer.1 ∙ among_append todo longer.0 x ∙ ap (λ b. b || among longer.0 x) (all is x its)
 
 -- ---- a walk over the keys of a set in rising order
 

@@ -1,24 +1,22 @@
 -- The recount of several keys at one level, key after key.
-use Rattle.std.proofs.Common.{◌≡◌, ◌≢◌, ◌+◌, ◌<◌, ◌≤◌, ◌==◌, ◌||◌, ◌⊎◌, inl, inr, ℕ, zero, suc, Bool, true, false, cond, nat_eq, nat_lt, List, [], ◌∷◌, ◌++◌, take, length, Option, Some, None, option_and_then, IfSome, refl, sym, ap, subst, ◌∙◌, append_assoc, append-nil, arith}
+use Rattle.std.proofs.Common.{◌≡◌, ◌≢◌, ◌<◌, ◌≤◌, ◌==◌, ◌||◌, ◌⊎◌, inl, inr, ℕ, zero, suc, Bool, true, false, cond, nat_eq, nat_lt, List, [], ◌∷◌, ◌++◌, take, length, Option, Some, None, option_and_then, IfSome, refl, sym, ap, subst, ◌∙◌, append_assoc, append-nil, arith}
 use Rattle.std.specs.FinMap as map
 use Rattle.std.specs.FinMap.{nat_cmp-IsAntisymmetric, same_map}
 use Rattle.std.specs.Cmp.{nat_cmp_total}
 use Rattle.std.specs.List.{AllByRecursion, IsDistinct}
 use Rattle.std.proofs.lemmas.Bool.{false≢true, true≢false}
 use Rattle.std.proofs.lemmas.List.Folds.{list_any-append}
-use Rattle.std.proofs.lemmas.List.Sums.{sum_by-cons}
 use Rattle.std.proofs.Math.Bool.{or-false}
 use Rattle.wot_types.specs.declared.row.Row.{Row}
 use Rattle.wot_types.specs.State.{State}
 use Rattle.wot_types.specs.Candidates.{RowMap}
 use Rattle.wot_types.specs.Indexes.{has_cert_by}
-use Rattle.wot_types.specs.Keyring.{Keyring, certs_at}
 use Rattle.wot_types.specs.Levels.{first_row, new_row}
 use Rattle.wot_types.specs.Touched.{is_same_standing}
 use Rattle.wot_types.proofs.SameRows.{differ_apart, same_standing}
 use Rattle.wot_types.proofs.Tests.{is_key}
 use Rattle.wot_levels.specs.Given.{given_row, rows_below}
-use Rattle.wot_live.specs.Recounting.{IsGrownBy, IsLow, IsRecounted, among, ids_at, kept_above, recounted, row_below, weight}
+use Rattle.wot_live.specs.Recounting.{IsGrownBy, IsLow, IsRecounted, among, ids_at, kept_above, recounted, row_below}
 use Rattle.wot_live.proofs.Befores.{get_below, level_given}
 use Rattle.wot_live.proofs.Stages.{IsGiven, among_first, lower_stays}
 
@@ -211,30 +209,3 @@ pub at_first : (ids added : List ℕ) (i : ℕ) → i < length ids → ids_at (i
 at_first [] added i h = absurd (omega (arith, h))
 at_first (y ∷ ys) added zero h = refl
 at_first (y ∷ ys) added (suc i) h = at_first ys added i (omega (arith, h))
-
-pub take_whole : (ids : List ℕ) (i : ℕ) → length ids ≤ i → take i ids ≡ ids
-take_whole [] zero h = refl
-take_whole [] (suc i) h = refl
-take_whole (y ∷ ys) zero h = absurd (omega (arith, h))
-take_whole (y ∷ ys) (suc i) h = ap (λ xs. y ∷ xs) (take_whole ys i (omega (arith, h)))
-
-pub weight_both : (keys : Keyring) (ids js : List ℕ) → weight keys (ids ++ js) ≡ weight keys ids + weight keys js
-weight_both keys [] js = omega arith
-weight_both keys (x ∷ ids) js =
-    let all = sum_by-cons (certs_at keys) x (ids ++ js) in
-    let first = sum_by-cons (certs_at keys) x ids in
-    let rest = weight_both keys ids js in
-    omega (arith, all, first, rest)
-
-pub weight_take : (keys : Keyring) (ids : List ℕ) (i : ℕ) → weight keys (take i ids) ≤ weight keys ids
-weight_take keys [] zero = omega arith
-weight_take keys [] (suc i) = omega arith
-weight_take keys (x ∷ ids) zero = omega arith
-weight_take keys (x ∷ ids) (suc i) =
-    let all = sum_by-cons (certs_at keys) x ids in
-    let first = sum_by-cons (certs_at keys) x (take i ids) in
-    let rest = weight_take keys ids i in
-    omega (arith, all, first, rest)
-
-pub weight_one : (keys : Keyring) (id : ℕ) → weight keys (id ∷ []) ≡ certs_at keys id
-weight_one keys id = let all = sum_by-cons (certs_at keys) id [] in omega (arith, all)

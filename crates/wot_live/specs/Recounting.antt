@@ -1,5 +1,5 @@
 -- How the rows of a state become those of the state after an edit: level by level, and only of the keys that may have changed.
-use Rattle.std.specs.Prelude.{◌≡◌, ◌≢◌, ◌≤◌, ◌⊎◌, ℕ, zero, suc, Bool, true, false, ◌==◌, nat_lt, List, [], ◌∷◌, ◌++◌, sum_by, slice_get, option_to_list, if◌then◌else◌, Option, Some, None, option_and_then, IfSome}
+use Rattle.std.specs.Prelude.{◌≡◌, ◌≢◌, ◌≤◌, ◌⊎◌, ℕ, zero, suc, Bool, true, false, ◌==◌, nat_lt, List, [], ◌∷◌, ◌++◌, slice_get, option_to_list, if◌then◌else◌, Option, Some, None, option_and_then, IfSome}
 use Rattle.std.specs.FinMap as map
 use Rattle.std.specs.List.{AllByRecursion, list_any}
 use Rattle.wot_types.specs.declared.key.Key.{Key}
@@ -11,7 +11,7 @@ use Rattle.wot_types.specs.Explanation.{KeySet}
 use Rattle.wot_types.specs.Levels.{rows_of, rows_upto, trust_of_owner}
 use Rattle.wot_types.specs.NextCheck.{key_expiries}
 use Rattle.wot_types.specs.Indexes.{has_cert_by}
-use Rattle.wot_types.specs.Keyring.{Keyring, certs_at}
+use Rattle.wot_types.specs.Keyring.{Keyring}
 use Rattle.wot_types.specs.Touched.{is_touched}
 use Rattle.wot_levels.specs.Given.{given_row, if_below}
 
@@ -85,10 +85,6 @@ pub record IsGrownBy (set : KeySet) (old new : List ℕ) : Type 0 where
   pub longer : (added : List ℕ) × (new ≡ old ++ added)
   pub all : (x : ℕ) → set x ≡ true → among new x ≡ true
   pub only : (x : ℕ) → among new x ≡ true → (among old x ≡ true) ⊎ (set x ≡ true)
-
--- the certifications on some keys
-abbrev pub weight : Keyring → List ℕ → ℕ
-weight keys ids = sum_by (certs_at keys) ids
 
 -- where the list is whole each key of the keyring is there
 abbrev pub IsWhole : Keyring → Bool → List ℕ → Type 0

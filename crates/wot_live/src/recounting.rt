@@ -5,16 +5,17 @@ ghost use Rattle.std.specs.List.{IsDistinct};
 ghost use Rattle.std.specs.Option.{option_copied};
 ghost use Rattle.wot_types.specs.State.{State};
 ghost use Rattle.wot_types.specs.Explanation.{KeySet};
-ghost use Rattle.wot_types.specs.Indexes.{has_cert_by};
 ghost use Rattle.wot_types.specs.Keyring.{certs_at};
 ghost use Rattle.wot_types.specs.Payload.{IsInRange};
 ghost use Rattle.wot_types.specs.Touched.{certs_on, is_touched};
 ghost use Rattle.wot_levels.specs.Given.{state_of};
-ghost use Rattle.wot_live.specs.Recounting.{IsBegun, IsCounted, IsGrownBy, IsLow, IsRecounted, IsTouchedList, IsWhole, ids_at, weight};
+ghost use Rattle.wot_live.specs.Recounting.{IsBegun, IsCounted, IsLow, IsRecounted, IsTouchedList, IsWhole, ids_at};
+ghost use Rattle.wot_levels.specs.Frontier.{weight};
 
 use crate::changed_row::recount_row;
 use crate::worklist::Worklist;
 use std::sync::ledger::Ledger;
+use wot_levels::rows;
 use wot_table::Table;
 use wot_types::{KeyId, Mem, Options, Row, Rows, Steps, Trusts};
 
@@ -23,26 +24,10 @@ use wot_types::{KeyId, Mem, Options, Row, Rows, Steps, Trusts};
 pub struct Recount {
     pub rows: Rows,
     pub todo: Worklist,
-    /// Whether all keys are listed already, so that none can join.
+    /// Whether all keys are listed, so that all rows are counted.
     pub whole: bool,
     /// No row is of a higher level.
     pub top: u8,
-}
-
-/// Adds the keys that an issuer certified.
-fn with_certified(
-    table: &Table,
-    todo: Worklist,
-    whole: bool,
-    issuer: KeyId,
-) -> Result<Worklist, Mem>
-    requires whole { IsWhole table.now whole todo }
-    ensures { IfOk result (IsGrownBy (has_cert_by table.now issuer) todo) }
-{
-    if whole {
-        return Ok(todo);
-    }
-    todo.add_certified(table, issuer)
 }
 
 /// Recounts one key; where its row changes, those that it certified are to be recounted too.
@@ -57,9 +42,7 @@ fn recount_key<L: Ledger>(
     steps: &mut Steps<L>,
 ) -> Result<Recount, Mem>
     requires level { options.now.level ≤ 3 }
-    requires whole { IsWhole table.now found.whole found.todo }
     ensures step { IfOk result (λ new. IsRecounted (state_of table.now trusts.now now options.now) level (id ∷ []) found.rows found.todo new.rows new.todo) }
-    ensures whole { IfOk result (λ new. IsWhole table.now new.whole new.todo) }
     ensures low { IfOk result (λ new. IsLow found.top found.rows → IsLow new.top new.rows) }
     ensures top { IfOk result (λ new. (most : ℕ) → found.top ≤ most → level ≤ most → new.top ≤ most) }
     ensures ticks { steps.new ≤ steps.old + certs_at table.now id }
@@ -81,7 +64,7 @@ fn recount_key<L: Ledger>(
     }
     Ok(Recount {
         rows: new.rows,
-        todo: with_certified(table, todo, whole, id)?,
+        todo: todo.add_certified(table, id)?,
         whole,
         top: top.max(level),
     })
@@ -99,9 +82,7 @@ fn recount_place<L: Ledger>(
     steps: &mut Steps<L>,
 ) -> Result<Recount, Mem>
     requires level { options.now.level ≤ 3 }
-    requires whole { IsWhole table.now found.whole found.todo }
     ensures step { IfOk result (λ new. IsRecounted (state_of table.now trusts.now now options.now) level (ids_at found.todo i) found.rows found.todo new.rows new.todo) }
-    ensures whole { IfOk result (λ new. IsWhole table.now new.whole new.todo) }
     ensures low { IfOk result (λ new. IsLow found.top found.rows → IsLow new.top new.rows) }
     ensures top { IfOk result (λ new. (most : ℕ) → found.top ≤ most → level ≤ most → new.top ≤ most) }
     ensures ticks { steps.new ≤ steps.old + weight table.now (ids_at found.todo i) }
@@ -123,9 +104,7 @@ fn recount_level<L: Ledger>(
     steps: &mut Steps<L>,
 ) -> Result<Recount, Mem>
     requires level { options.now.level ≤ 3 }
-    requires whole { IsWhole table.now found.whole found.todo }
     ensures pass { IfOk result (λ new. IsRecounted (state_of table.now trusts.now now options.now) level found.todo found.rows found.todo new.rows new.todo) }
-    ensures whole { IfOk result (λ new. IsWhole table.now new.whole new.todo) }
     ensures low { IfOk result (λ new. IsLow found.top found.rows → IsLow new.top new.rows) }
     ensures top { IfOk result (λ new. (most : ℕ) → found.top ≤ most → level ≤ most → new.top ≤ most) }
     ensures distinct { IsDistinct nat_eq found.todo }
@@ -168,7 +147,6 @@ fn higher(level: u8, row: Option<&Row>) -> u8
 fn measured(found: Recount, level: u8) -> Recount
     ensures rows { result.rows ≡ found.rows }
     ensures todo { result.todo ≡ found.todo }
-    ensures whole { result.whole ≡ found.whole }
     ensures low { IsLow found.top found.rows → IsLow result.top result.rows }
     ensures top { result.top ≤ found.top }
 {
@@ -179,7 +157,7 @@ fn measured(found: Recount, level: u8) -> Recount
     Recount { top, ..found }
 }
 
-/// Recounts the listed keys, and all whose certifiers' rows change, at one level after the other.
+/// Recounts the listed keys, and all whose certifiers' rows change, at one level after the other; where all keys are listed, the rows are counted anew.
 pub fn recount_levels<L: Ledger>(
     table: &Table,
     trusts: &Trusts,
@@ -200,6 +178,10 @@ pub fn recount_levels<L: Ledger>(
         → IsTouchedList named s (state_of table.now trusts.now now options.now) found.todo
         → steps.new ≤ steps.old + options.now.depth * certs_on (is_touched named s (state_of table.now trusts.now now options.now)) table.now }
 {
+    if found.whole {
+        let rows = rows(table, trusts, now, options, steps)?;
+        return Ok(Recount { rows, ..found });
+    }
     let mut found = found;
     for level in 0..options.depth {
         found = measured(found, level);

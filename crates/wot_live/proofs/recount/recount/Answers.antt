@@ -1,7 +1,9 @@
 use Rattle.std.proofs.Common.{◌≡◌, ◌+◌, ◌≤◌, suc, length, take, sym, ap, subst, ◌∙◌, arith}
 use Rattle.wot_live.specs.Counts.{AreCountedAt}
-use Rattle.wot_live.specs.Recounting.{ids_at, weight}
-use Rattle.wot_live.proofs.Passes.{take_at, take_whole, weight_both, weight_take}
+use Rattle.wot_levels.specs.Frontier.{weight}
+use Rattle.wot_levels.proofs.Weights.{take_all, weight_both, weight_take}
+use Rattle.wot_live.specs.Recounting.{ids_at}
+use Rattle.wot_live.proofs.Passes.{take_at}
 use Rattle.wot_live.proofs.Recounts.{counted_both}
 use Rattle.wot_live.proofs.recount.recount.Goals as goal
 
@@ -38,7 +40,7 @@ pub returns-clause-counts : goal.returns-clause-counts
 returns-clause-counts g c =
     let todo = c.args.todo.now in
     let whole : length todo ≤ c.loop-i.i = let many = c.len-count.ensures.len in let test = c.loop-i-test.false in omega (arith, many, test) in
-    subst (λ ids. AreCountedAt c.args.table.now c.args.options.now c.args.now c.args.rows.now ids c.args.counts c.loop-i.counts) (take_whole todo c.loop-i.i whole) c.loop-i.invariant.counts
+    subst (λ ids. AreCountedAt c.args.table.now c.args.options.now c.args.now c.args.rows.now ids c.args.counts c.loop-i.counts) (take_all todo c.loop-i.i whole) c.loop-i.invariant.counts
 
 pub returns-clause-ticks : goal.returns-clause-ticks
 returns-clause-ticks g c =

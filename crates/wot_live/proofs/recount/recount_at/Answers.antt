@@ -1,8 +1,8 @@
 use Rattle.std.proofs.Common.{◌≡◌, option_to_list, Some, None, sym, ap, subst, refl, ◌∙◌, arith}
 use Rattle.std.specs.FinMap as map
 use Rattle.wot_live.specs.Counts.{AreCountedAt, counts_rule, kept_counts, with_counts}
-use Rattle.wot_live.specs.Recounting.{weight}
-use Rattle.wot_live.proofs.Passes.{weight_one}
+use Rattle.wot_levels.specs.Frontier.{weight}
+use Rattle.wot_levels.proofs.Weights.{weight_one}
 use Rattle.wot_live.proofs.Recounts.{counted_one, rule_none, rule_some}
 use Rattle.wot_live.proofs.recount.recount_at.Goals as goal
 

@@ -1,7 +1,9 @@
 use Rattle.std.proofs.Common.{◌≡◌, ◌+◌, ◌<◌, ◌≤◌, suc, length, take, sym, ap, subst, ◌∙◌, arith}
 use Rattle.wot_levels.specs.Given.{state_of}
-use Rattle.wot_live.specs.Recounting.{IsRecounted, ids_at, weight}
-use Rattle.wot_live.proofs.Passes.{at_first, both_steps, fresh_at, take_at, take_whole, weight_both, weight_take}
+use Rattle.wot_levels.specs.Frontier.{weight}
+use Rattle.wot_levels.proofs.Weights.{take_all, weight_both, weight_take}
+use Rattle.wot_live.specs.Recounting.{IsRecounted, ids_at}
+use Rattle.wot_live.proofs.Passes.{at_first, both_steps, fresh_at, take_at}
 use Rattle.wot_live.proofs.recounting.recount_level.Goals as goal
 
 pub returns-in_err-found-clause-ticks : goal.returns-in_err-found-clause-ticks
@@ -43,7 +45,6 @@ loop-i-preserved g c =
     let cost = c.recount_place.ensures.ticks in
     record {
       pass = subst (λ ids. IsRecounted t n ids rows todo new.rows new.todo) (sym next) all;
-      whole = c.in_ok-found.ensures.whole;
       low = λ low. c.in_ok-found.ensures.low (c.loop-i.invariant.low low);
       top = λ most h k. c.in_ok-found.ensures.top most (c.loop-i.invariant.top most h k) k;
       ticks = omega (arith, here, there, both, sofar, cost);
@@ -54,7 +55,7 @@ returns-clause-pass g c =
     let t = state_of c.args.table.now c.args.trusts.now c.args.now c.args.options.now in
     let todo = c.args.found.todo in
     let whole : length todo ≤ c.loop-i.i = let many = c.len-count.ensures.len in let test = c.loop-i-test.false in omega (arith, many, test) in
-    subst (λ ids. IsRecounted t c.args.level ids c.args.found.rows todo c.loop-i.found.rows c.loop-i.found.todo) (take_whole todo c.loop-i.i whole) c.loop-i.invariant.pass
+    subst (λ ids. IsRecounted t c.args.level ids c.args.found.rows todo c.loop-i.found.rows c.loop-i.found.todo) (take_all todo c.loop-i.i whole) c.loop-i.invariant.pass
 
 pub returns-clause-ticks : goal.returns-clause-ticks
 returns-clause-ticks g c =

@@ -1,20 +1,40 @@
-use Rattle.std.proofs.Common.{◌≡◌, ◌+◌, ◌-◌, ◌≤◌, ℕ, suc, false, List, sym, ap, subst, ◌∙◌, arith}
+use Rattle.std.proofs.Common.{◌≡◌, ◌+◌, ◌*◌, ◌-◌, ◌≤◌, ℕ, suc, true, false, List, sym, ap, subst, ◌∙◌, arith}
+use Rattle.std.specs.FinMap as map
 use Rattle.wot_types.specs.State.{State}
+use Rattle.wot_types.specs.Explanation.{KeySet}
+use Rattle.wot_types.specs.Keyring.{cert_total}
 use Rattle.wot_types.specs.Candidates.{RowMap}
 use Rattle.wot_types.specs.Touched.{certs_on, is_touched}
 use Rattle.wot_levels.specs.Given.{state_of}
-use Rattle.wot_live.specs.Recounting.{IsStage, IsTouchedList, IsWhole, among}
+use Rattle.wot_live.specs.Recounting.{IsStage, IsTouchedList, among}
 use Rattle.wot_live.proofs.Rounds.{counted_from, no_more_than, once_more, out_before}
 use Rattle.wot_live.proofs.Stages.{final_at_the_end, final_when_settled, first_stage, next_stage, next_touched}
-use Rattle.wot_live.proofs.Weights.{weight_within}
+use Rattle.wot_live.proofs.Weights.{all_within, weight_within}
 use Rattle.wot_live.proofs.recounting.recount_levels.Goals as goal
 
 moved : (s t : State) (n : ℕ) (rows rows' : RowMap) (todo todo' : List ℕ) → rows' ≡ rows → todo' ≡ todo → IsStage s t n rows todo → IsStage s t n rows' todo'
 moved s t n rows rows' todo todo' r d stage = subst (λ x. IsStage s t n x todo') (sym r) (subst (λ x. IsStage s t n rows x) (sym d) stage)
 
+-- where all keys are listed they are all touched
+all_touched : (s t : State) (named : KeySet) (todo : List ℕ) → IsTouchedList named s t todo → ((x : ℕ) → map.contains_key t.keys x ≡ true → among todo x ≡ true) → certs_on (is_touched named s t) t.keys ≡ cert_total t.keys
+all_touched s t named todo touched whole = all_within (is_touched named s t) t.keys (λ x there. touched x (whole x there))
+
+pub returns-in_err-rows-clause-ticks : goal.returns-in_err-rows-clause-ticks
+returns-in_err-rows-clause-ticks g c = λ s named begun h.
+    let t = state_of c.args.table.now c.args.trusts.now c.args.now c.args.options.now in
+    let all = ap (λ n. t.options.depth * n) (all_touched s t named c.args.found.todo h (c.requires.whole c.if-found.true)) in
+    let cost = c.rows.ensures.ticks in
+    omega (arith, all, cost)
+
+pub returns-then-found-clause-ticks : goal.returns-then-found-clause-ticks
+returns-then-found-clause-ticks g c = λ s named begun h.
+    let t = state_of c.args.table.now c.args.trusts.now c.args.now c.args.options.now in
+    let all = ap (λ n. t.options.depth * n) (all_touched s t named c.args.found.todo h (c.requires.whole c.if-found.true)) in
+    let cost = c.in_ok-rows.ensures.ticks in
+    omega (arith, all, cost)
+
 pub loop-level-init : goal.loop-level-init
 loop-level-init g c = record {
-  whole = c.requires.whole;
   low = c.requires.low;
   top = c.requires.top;
   stage = λ s begun.
@@ -56,12 +76,6 @@ returns-in_err-found-clause-ticks g c = λ s named begun h.
     let all = no_more_than (c.loop-level.level + 1) c.args.options.now.depth (certs_on set keys) (omega (arith, test)) in
     omega (arith, less, sofar, cost, more, all)
 
-pub recount_level-requires-clause-whole : goal.recount_level-requires-clause-whole
-recount_level-requires-clause-whole g c =
-    let m = c.measured-found in
-    subst (λ whole. IsWhole c.args.table.now whole m.result.todo) (sym m.ensures.whole)
-    (subst (λ todo. IsWhole c.args.table.now c.loop-level.found.whole todo) (sym m.ensures.todo) c.loop-level.invariant.whole)
-
 pub loop-level-preserved : goal.loop-level-preserved
 loop-level-preserved g c =
     let t = state_of c.args.table.now c.args.trusts.now c.args.now c.args.options.now in
@@ -82,7 +96,6 @@ loop-level-preserved g c =
     let before = inv.top in
     let apart : (x : ℕ) → among m.result.todo x ≡ false → among start x ≡ false = λ x out. inv.longer x (sym (ap (λ xs. among xs x) m.ensures.todo) ∙ out) in
     record {
-      whole = c.in_ok-found.ensures.whole;
       low = c.in_ok-found.ensures.low low;
       top =
           let less = c.in_ok-found.ensures.top (c.args.options.now.depth - 1) (omega (arith, top, before)) (omega (arith, test)) in

@@ -1,8 +1,10 @@
 use Rattle.std.proofs.Common.{option_to_list, sym, ap, subst, ◌∙◌, arith}
 use Rattle.std.specs.Result.{IfOk}
 use Rattle.wot_levels.specs.Given.{state_of}
-use Rattle.wot_live.specs.Recounting.{IsRecounted, weight}
-use Rattle.wot_live.proofs.Passes.{no_step, weight_one}
+use Rattle.wot_levels.specs.Frontier.{weight}
+use Rattle.wot_levels.proofs.Weights.{weight_one}
+use Rattle.wot_live.specs.Recounting.{IsRecounted}
+use Rattle.wot_live.proofs.Passes.{no_step}
 use Rattle.wot_live.proofs.recounting.recount_place.Goals as goal
 
 pub returns-in-Some-clause-step : goal.returns-in-Some-clause-step

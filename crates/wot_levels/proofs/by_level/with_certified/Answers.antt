@@ -1,0 +1,26 @@
+use Rattle.std.proofs.Common.{◌∷◌, [], sym, subst}
+use Rattle.std.specs.List.{Contains}
+use Rattle.std.proofs.lemmas.Bool.{false≢true}
+use Rattle.std.proofs.lemmas.List.Elements.{Contains-append_left}
+use Rattle.wot_types.specs.Indexes.{has_cert_by}
+use Rattle.wot_levels.proofs.Frontiers.{found_all, found_more}
+use Rattle.wot_levels.proofs.by_level.with_certified.Goals as goal
+
+pub loop-id-init : goal.loop-id-init
+loop-id-init c = record {
+  all = λ x its none. absurd (false≢true none);
+  kept = λ x there. there;
+}
+
+pub loop-id-preserved : goal.loop-id-preserved
+loop-id-preserved c =
+    let ids = c.loop-id.ids.items in
+    let id = c.in-Some.id in
+    let more = sym c.in_ok-push.ensures.items in
+    record {
+      all = λ x its done. subst (λ ids. Contains ids x) more (found_more (has_cert_by c.args.table.now c.args.issuer) c.loop-id.after ids id c.in-Some.ensures c.loop-id.invariant.all x its done);
+      kept = λ x there. subst (λ ids. Contains ids x) more (Contains-append_left ids (id ∷ []) x (c.loop-id.invariant.kept x there));
+    }
+
+pub returns-clause-all : goal.returns-clause-all
+returns-clause-all c = found_all (has_cert_by c.args.table.now c.args.issuer) c.loop-id.after c.loop-id.ids.items c.in_default.ensures c.loop-id.invariant.all
