@@ -7,10 +7,12 @@ ghost use Rattle.wot_site.specs.Site.{Stays, Rose, NoneFell};
 ghost use Rattle.wot_types.specs.PagePlaces.{content_size, page_place};
 ghost use Rattle.wot_pages.specs.Reading.{ReadsPages, FindsFault};
 
-use crate::page::{CONTENT, FIRST, PAGE, seal};
-use std::alloc::Global;
+use crate::checking::check_seals;
+use crate::sealed::read_sealed;
+use std::alloc::{AllocError, Global};
+use std::thread::Threads;
 use thiserror::Error;
-use wot_site::{RangeError, Side, Site, read_range};
+use wot_site::{Side, Site};
 
 /// Why pages were not read.
 #[derive(Clone, Copy, Debug, PartialEq, Eq, Drop, Error)]
@@ -24,14 +26,18 @@ pub enum PagesError {
     Memory,
 }
 
-/// Reads so many pages of a side, and answers their contents in order.
-pub fn read_pages<S: Site>(
+/// Reads so many pages of a side, and answers their contents in order. One thread reads; so many workers check the seals
+/// of what was read, each those of a piece of the pages.
+pub fn read_pages<R: Threads + Sync, S: Site>(
+    rt: &R,
     alloc: Global,
     site: &mut S,
     side: Side,
     epoch: u64,
     pages: u64,
+    workers: u32,
 ) -> Result<Vec<u8>, PagesError>
+    requires workers { (1 ≤ workers) × (workers ≤ 64) }
     requires fits { page_place pages ≤ 2 ^ 32 - 1 }
     requires within { IfHonest (S.seen site.old) (λ s. page_place pages ≤ length (disk_of side s.disks).reads) }
     ensures long { IfOk result (λ contents. length contents.items ≡ content_size * pages) }
@@ -43,24 +49,19 @@ pub fn read_pages<S: Site>(
     ensures counts { NoneFell (S.faults site.old) (S.faults site.new) }
     ensures quiet { (IsErrOf result PagesError.DiskFault → ⊥) → S.faults site.new ≡ S.faults site.old }
 {
-    let mut contents = Vec::new(alloc);
-    if contents.reserve_exact(pages as usize * CONTENT).is_err() {
-        return Err(PagesError::Memory);
-    }
-    for k in 0..pages {
-        let page = match read_range(alloc, site, side, FIRST + PAGE as u64 * k, PAGE) {
-            Ok(page) => page,
-            Err(RangeError::DiskFault) => return Err(PagesError::DiskFault),
-            Err(RangeError::Short) => return Err(PagesError::Seal(k)),
-            Err(RangeError::Memory) => return Err(PagesError::Memory),
-        };
-        let (content, sealed) = page.split_at(CONTENT);
-        if sealed != seal(epoch, k, content).as_slice() {
-            return Err(PagesError::Seal(k));
+    let read = match read_sealed(alloc, site, side, pages) {
+        Ok(read) => read,
+        Err(e) => return Err(e),
+    };
+    let count = read.seals.len() as u64;
+    match check_seals(rt, alloc, epoch, &read.contents, &read.seals, workers) {
+        Ok(Some(k)) => Err(PagesError::Seal(k)),
+        Ok(None) => {
+            if count < pages {
+                return Err(PagesError::Seal(count));
+            }
+            Ok(read.contents)
         }
-        if contents.extend_from_slice(content).is_err() {
-            return Err(PagesError::Memory);
-        }
+        Err(AllocError) => Err(PagesError::Memory),
     }
-    Ok(contents)
 }

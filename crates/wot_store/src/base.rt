@@ -59,7 +59,7 @@ fn load_base<R: Threads + Sync, S: Site, G: Gate + Sync>(
         Some(start) => start,
         None => return Err(StoreError::Bad(BadStore::Short(side, FIRST))),
     };
-    let contents = match read_pages(alloc, site, side, header.epoch, header.pages) {
+    let contents = match read_pages(rt, alloc, site, side, header.epoch, header.pages, workers) {
         Ok(contents) => contents,
         Err(PagesError::DiskFault) => return Err(StoreError::DiskFault),
         Err(PagesError::Seal(page)) => return Err(StoreError::Bad(BadStore::Seal(page))),
