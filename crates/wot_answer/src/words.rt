@@ -4,9 +4,10 @@ ghost use Rattle.std.specs.Prelude.{◌≡◌, Some, IfOk};
 ghost use Rattle.std.specs.Option.{option_copied};
 ghost use Rattle.wot_types.specs.Commands.{ends_block, is_quit, is_skipped, line_words};
 ghost use Rattle.wot_types.specs.Grammar.{has_block};
-ghost use Rattle.wot_types.specs.Lines.{is_blank, is_comment, without_return, words_of};
+ghost use Rattle.wot_types.specs.Lines.{without_return, words_of};
 
 use std::alloc::Global;
+use wot_fields::{is_blank, is_comment};
 use wot_types::{CommandName, Mem, Text, Words};
 
 /// The line without the carriage return at its end.
@@ -41,20 +42,6 @@ fn is_skipped(line: &[u8]) -> bool
     ensures { result ≡ is_skipped line.now }
 {
     is_blank(line) || is_comment(line)
-}
-
-/// Whether a line holds spaces alone.
-fn is_blank(line: &[u8]) -> bool
-    ensures { result ≡ is_blank line.now }
-{
-    line.iter().all(|b| *b == b' ')
-}
-
-/// Whether the first byte of a line is `#`.
-fn is_comment(line: &[u8]) -> bool
-    ensures { result ≡ is_comment line.now }
-{
-    matches!(line, [b'#', ..])
 }
 
 /// Copies of what stands between runs of spaces.

@@ -3,3 +3,4 @@ pub mod Shown
 pub mod Spots
 pub mod Pieces
 pub mod Explaining
+pub mod Counting

@@ -9,7 +9,7 @@ ghost use Rattle.wot_types.specs.Numbers.{capped};
 ghost use Rattle.wot_types.specs.Selection.{Spot};
 ghost use Rattle.wot_types.specs.Tally.{all_letters, tally_line};
 ghost use Rattle.wot_table.specs.Heads.{IsKeyHead};
-ghost use Rattle.wot_print.specs.Counts.{count_fields, counts_of};
+ghost use Rattle.wot_print.specs.Counts.{count_fields, counts_line, counts_of};
 
 use crate::fields::push_count_field;
 use std::alloc::Global;
@@ -34,7 +34,7 @@ pub struct LetterCounts {
 
 impl LetterCounts {
     /// Of no user IDs.
-    fn new() -> LetterCounts
+    pub fn new() -> LetterCounts
         ensures { result ≡ counts_of [] }
     {
         LetterCounts {
@@ -62,6 +62,19 @@ impl LetterCounts {
             Letter::E => self.expired = self.expired.saturating_add(1),
         }
     }
+
+    /// Those of other user IDs added.
+    pub fn add_all(&mut self, more: LetterCounts)
+        ensures { (a b : List Letter) → self.old ≡ counts_of a → more ≡ counts_of b → self.new ≡ counts_of (a ++ b) }
+    {
+        self.ultimate = self.ultimate.saturating_add(more.ultimate);
+        self.full = self.full.saturating_add(more.full);
+        self.marginal = self.marginal.saturating_add(more.marginal);
+        self.undefined = self.undefined.saturating_add(more.undefined);
+        self.unknown = self.unknown.saturating_add(more.unknown);
+        self.revoked = self.revoked.saturating_add(more.revoked);
+        self.expired = self.expired.saturating_add(more.expired);
+    }
 }
 
 /// `tally:ROWS:U:F:M:Q:D:R:E:`, with the letters that the user IDs have by these rows.
@@ -69,9 +82,16 @@ pub fn tally(alloc: Global, engine: &Engine, rows: &Rows) -> Result<Vec<u8>, Mem
     ensures { IfOk result (λ text. text.items ≡ tally_line engine.now rows.now) }
 {
     let counts = count_letters::<Brand>(engine, rows, Blank::new(1));
+    counts_line(alloc, rows, &counts)
+}
+
+/// The line of a tally.
+pub fn counts_line(alloc: Global, rows: &Rows, counts: &LetterCounts) -> Result<Vec<u8>, Mem>
+    ensures { IfOk result (λ text. text.items ≡ counts_line rows.now counts.now) }
+{
     let mut text = Vec::from_slice(alloc, b"tally:")?;
     push_count_field(alloc, &mut text, count_rows(rows))?;
-    push_counts(alloc, &mut text, &counts)?;
+    push_counts(alloc, &mut text, counts)?;
     text.push(b'\n')?;
     Ok(text)
 }
@@ -97,7 +117,7 @@ fn count_letters<L: Ledger>(engine: &Engine, rows: &Rows, blank: Blank) -> Lette
 }
 
 /// The letters of a key's user IDs.
-fn count_users<L: Ledger>(
+pub fn count_users<L: Ledger>(
     counts: &mut LetterCounts,
     engine: &Engine,
     rows: &Rows,
@@ -146,19 +166,4 @@ fn push_counts(alloc: Global, text: &mut Vec<u8>, counts: &LetterCounts) -> Resu
     push_count_field(alloc, text, counts.revoked)?;
     push_count_field(alloc, text, counts.expired)?;
     Ok(())
-}
-
-#[cfg(test)]
-mod tests {
-    use super::*;
-    use std::test::Fail;
-
-    #[test]
-    fn tallies_no_keys(rt: HostRuntime) -> Result<(), Fail> {
-        let alloc = rt.alloc();
-        let engine = Engine::new(alloc)?;
-        let text = tally(alloc, &engine, engine.rows())?;
-        assert_eq!(rt; text.as_slice(), b"tally:0:0:0:0:0:0:0:0:\n".as_slice());
-        Ok(())
-    }
 }

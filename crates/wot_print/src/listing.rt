@@ -132,7 +132,7 @@ fn push_keyblock<L: Ledger>(
     let id = keyblock.id();
     let head = keyblock.key();
     let letter = engine.key_letter(id).unwrap();
-    let kept = kept_of(engine.trusts(), head.fpr);
+    let kept = ownertrust_of(engine.trusts(), head.fpr);
     push_pub(alloc, text, letter, kept, id, &head)?;
     push_fpr(alloc, text, head.fpr)?;
     push_users(alloc, text, engine, keyblock, head.users, sigs, steps)?;
@@ -141,7 +141,7 @@ fn push_keyblock<L: Ledger>(
 }
 
 /// What is kept of a fingerprint.
-fn kept_of(trusts: &Trusts, fpr: &Fpr) -> Ownertrust
+fn ownertrust_of(trusts: &Trusts, fpr: &Fpr) -> Ownertrust
     ensures { result ≡ ownertrust_of trusts.now fpr.now }
 {
     trusts.ownertrust(fpr).unwrap_or(Ownertrust {
@@ -218,21 +218,4 @@ fn push_certs<L: Ledger>(
         push_cert(alloc, text, &placed.cert)?;
     }
     Ok(())
-}
-
-#[cfg(test)]
-mod tests {
-    use super::*;
-    use std::test::Fail;
-
-    #[test]
-    fn lists_no_keys(rt: HostRuntime) -> Result<(), Fail> {
-        let alloc = rt.alloc();
-        let engine = Engine::new(alloc)?;
-        for (only, sigs) in [(None, false), (None, true), (Some(KeyId(7)), true)] {
-            let text = list(alloc, &engine, only, sigs)?;
-            assert_eq!(rt; text.as_slice(), b"tru::1:0:0:3:1:5\n".as_slice());
-        }
-        Ok(())
-    }
 }

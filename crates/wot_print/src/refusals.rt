@@ -120,21 +120,3 @@ fn limit_name(limit: Limit) -> &'static str
         Limit::Scope => "scope",
     }
 }
-
-#[cfg(test)]
-mod tests {
-    use super::*;
-    use std::test::Fail;
-
-    #[test]
-    fn says_why(rt: HostRuntime) -> Result<(), Fail> {
-        let alloc = rt.alloc();
-        let fault = ListingFault {
-            line: 5,
-            what: ListingWhat::LimitReached(Limit::Scope),
-        };
-        let text = refused(alloc, &Refusal::Listing(fault))?;
-        assert_eq!(rt; text.as_slice(), b"err listing 5 LimitReached\n".as_slice());
-        Ok(())
-    }
-}

@@ -9,10 +9,10 @@ use std::thread::Threads;
 use wot_answer::Reply;
 use wot_check::{Gate, rows_by};
 use wot_live::Engine;
-use wot_print::{ok_line, tally};
+use wot_print::{ok_line, tally_by};
 use wot_types::Mem;
 
-/// What is told: a text as it stands, or the tally by rows that so many workers count anew, each of which calls the gate first.
+/// What is told: a text as it stands, or the tally by rows that so many workers count anew, each of which calls the gate first. As many then count the letters.
 pub fn reply_text<R: Threads + Sync, G: Gate + Sync>(
     rt: &R,
     alloc: Global,
@@ -49,7 +49,7 @@ fn recounted_tally<R: Threads + Sync, G: Gate + Sync>(
         workers.count,
         gate,
     )?;
-    let mut text = tally(alloc, engine, &rows)?;
+    let mut text = tally_by(rt, alloc, engine, &rows, workers.count)?;
     let last_line = ok_line(alloc)?;
     text.extend_from_slice(last_line.as_slice())?;
     Ok(text)

@@ -47,7 +47,7 @@ pub fn run_opened<R: Threads + Sync, S: Site, G: Gate + Sync>(
     }
     if !has_block(words) {
         let mut session = Session::new(alloc, opened, Cut::Between, workers);
-        match session.answer_command(rt, site, gate, words) {
+        match session.perform_command(rt, site, gate, words) {
             Ok(()) => {
                 let refused = session.is_refused();
                 leave(session);

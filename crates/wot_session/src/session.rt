@@ -358,7 +358,7 @@ impl Session {
     }
 
     /// The same, and gives it.
-    pub fn answer_command<R: Threads + Sync, S: Site, G: Gate + Sync>(
+    pub fn perform_command<R: Threads + Sync, S: Site, G: Gate + Sync>(
         &mut self,
         rt: &R,
         site: &mut S,

@@ -29,9 +29,9 @@ returns-clause-lines g c =
     let head = c.key-head.ensures in
     let found = key_letter_found s id key c.unwrap-letter.result c.requires.there (sym (ap (key_letter_at s) c.id-id.ensures) ∙ sym c.key_letter.ensures ∙ c.unwrap-letter.ensures) in
     let first : c.push_pub.new.text.items ≡ old ++ pub_line letter kept id key =
-    c.in_ok-push_pub.ensures ∙ ap (λ l. old ++ pub_line l c.kept_of-kept.result c.id-id.result shown) found
-    ∙ ap (λ n. old ++ pub_line letter c.kept_of-kept.result n shown) c.id-id.ensures
-    ∙ ap (λ k. old ++ pub_line letter k id shown) (c.kept_of-kept.ensures ∙ (λ i. ownertrust_of (c.trusts.ensures i) (head.fpr i)))
+    c.in_ok-push_pub.ensures ∙ ap (λ l. old ++ pub_line l c.ownertrust_of-kept.result c.id-id.result shown) found
+    ∙ ap (λ n. old ++ pub_line letter c.ownertrust_of-kept.result n shown) c.id-id.ensures
+    ∙ ap (λ k. old ++ pub_line letter k id shown) (c.ownertrust_of-kept.ensures ∙ (λ i. ownertrust_of (c.trusts.ensures i) (head.fpr i)))
     ∙ ap (λ l. old ++ l) (pub_shown letter kept id key c.key-head.result head) in
     let second : c.push_fpr.new.text.items ≡ (old ++ pub_line letter kept id key) ++ fpr_line key.fpr =
     c.in_ok-push_fpr.ensures ∙ ap (λ l. l ++ fpr_line c.key-head.result.fpr.now) first ∙ ap (λ f. (old ++ pub_line letter kept id key) ++ fpr_line f) head.fpr in

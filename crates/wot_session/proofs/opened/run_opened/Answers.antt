@@ -35,8 +35,8 @@ returns-then-is_empty-clause-stopped g c =
 pub returns-in-Err-Memory-clause-stopped : goal.returns-in-Err-Memory-clause-stopped
 returns-in-Err-Memory-clause-stopped g c store opened holds = words_nothing _ store c.args.words.now c.args.most _ holds
 
-pub answer_command-requires : goal.answer_command-requires
-answer_command-requires g c =
+pub perform_command-requires : goal.perform_command-requires
+perform_command-requires g c =
     let some : c.args.words.now ≡ [] → ⊥ = λ e. some_words c.as_slice.result.now (sym c.is_empty.ensures ∙ c.if-is_empty.false) (c.as_slice.ensures ∙ e) in
     let p : Position = record { progress = at_start c.requires.opened.0; cut = between } in (
       search rules,

@@ -4,7 +4,7 @@ use Rattle.wot_site.proofs.Honest.{honest_weaker}
 use Rattle.wot_session.proofs.Feeds.{holds_at}
 use Rattle.wot_session.proofs.Outcomes.{if_err_memory}
 use Rattle.wot_session.proofs.Sayings.{given_one, giving_one, no_memory}
-use Rattle.wot_session.proofs.session.Session.answer_command.Goals as goal
+use Rattle.wot_session.proofs.session.Session.perform_command.Goals as goal
 
 pub returns-in-Err-Memory-clause-prefix : goal.returns-in-Err-Memory-clause-prefix
 returns-in-Err-Memory-clause-prefix g c p here = no_memory _ p.progress _ _ here.holds

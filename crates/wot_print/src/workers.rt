@@ -1,0 +1,129 @@
+//! How many user IDs have which letter, counted by several threads.
+
+ghost use Rattle.std.specs.Prelude.{◌≡◌, ◌≤◌, ◌<◌, ◌++◌, ℕ, IfOk, List};
+ghost use Rattle.std.specs.Int.{div_ceil};
+ghost use Rattle.std.specs.List.{flat_map};
+ghost use Rattle.wot_types.specs.declared.letter.Letter.{Letter};
+ghost use Rattle.wot_types.specs.Tally.{all_letters, tally_line};
+ghost use Rattle.wot_check.specs.Pieces.{IsByPiece};
+ghost use Rattle.wot_print.specs.Counts.{counts_of};
+ghost use Rattle.wot_print.specs.KeyLetters.{letters_among, letters_at};
+
+use crate::counts::{LetterCounts, count_users, counts_line};
+use std::alloc::{AllocError, Global};
+use std::marker::Brand;
+use std::sync::ledger::{Blank, Ledger};
+use std::thread::{Threads, map_chunks};
+use wot_live::Engine;
+use wot_types::{KeyId, Mem, Rows, Steps};
+
+/// A size of pieces, at least 1, that makes no more of them than there are workers.
+fn piece_size(len: usize, workers: u32) -> usize
+    requires some { 1 ≤ workers }
+    ensures positive { 1 ≤ result }
+    ensures few { div_ceil len result ≤ workers }
+{
+    len.div_ceil(workers as usize).max(1)
+}
+
+/// The letters of a key's user IDs.
+fn count_key<L: Ledger>(
+    counts: &mut LetterCounts,
+    engine: &Engine,
+    rows: &Rows,
+    id: KeyId,
+    steps: &mut Steps<L>,
+)
+    ensures { (letters : List Letter) → counts.old ≡ counts_of letters → counts.new ≡ counts_of (letters ++ letters_at engine.now rows.now id) }
+{
+    match engine.table().keyblock(id) {
+        Some(keyblock) => count_users(counts, engine, rows, &keyblock, steps),
+        None => (),
+    }
+}
+
+/// The letters of the user IDs of a piece, over a counter of its own.
+fn count_keys<L: Ledger>(engine: &Engine, rows: &Rows, ids: &[KeyId], blank: Blank) -> LetterCounts
+    requires own { (blank.name ≡ L.name) × (blank.parts ≡ L.parts) × (0 < L.parts) }
+    ensures { result ≡ counts_of (letters_among engine.now rows.now ids.now) }
+{
+    let mut steps = Steps::<L>::open(blank);
+    let mut counts = LetterCounts::new();
+    for id in ids {
+        count_key(&mut counts, engine, rows, *id, &mut steps);
+    }
+    counts
+}
+
+/// What a worker counts.
+fn count_piece(engine: &Engine, rows: &Rows, ids: &[KeyId]) -> LetterCounts
+    ensures { result ≡ counts_of (letters_among engine.now rows.now ids.now) }
+{
+    count_keys::<Brand>(engine, rows, ids, Blank::new(1))
+}
+
+/// What the workers count, piece by piece.
+fn count_pieces<R: Threads + Sync>(
+    rt: &R,
+    alloc: Global,
+    engine: &Engine,
+    rows: &Rows,
+    ids: &[KeyId],
+    size: usize,
+) -> Result<Vec<LetterCounts>, AllocError>
+    requires size { 1 ≤ size }
+    ensures { IfOk result (λ found. IsByPiece (λ piece. counts_of (letters_among engine.now rows.now piece)) size ids.now found.items) }
+{
+    map_chunks(
+        rt,
+        alloc,
+        ids,
+        size,
+        &|_start: usize, piece: &[KeyId]| -> LetterCounts
+            ensures { result ≡ counts_of (letters_among engine.entry.now rows.entry.now piece.entry.now) }
+        { count_piece(engine, rows, piece) },
+    )
+}
+
+/// The counts of all pieces together.
+fn count_of_pieces(found: &[LetterCounts]) -> LetterCounts
+    ensures { (letters : ℕ → List Letter) (size : ℕ) (ids : List ℕ) → IsByPiece (λ piece. counts_of (flat_map letters piece)) size ids found.now → 0 < size → result ≡ counts_of (flat_map letters ids) }
+{
+    let mut all = LetterCounts::new();
+    for counts in found {
+        all.add_all(*counts);
+    }
+    all
+}
+
+/// The letters of all user IDs, counted by so many workers.
+fn count_letters_by<R: Threads + Sync>(
+    rt: &R,
+    alloc: Global,
+    engine: &Engine,
+    rows: &Rows,
+    workers: u32,
+) -> Result<LetterCounts, Mem>
+    requires some { 1 ≤ workers }
+    ensures { IfOk result (λ counts. counts ≡ counts_of (all_letters engine.now rows.now)) }
+{
+    let ids = engine.table().ids()?;
+    let size = piece_size(ids.len(), workers);
+    let found = count_pieces(rt, alloc, engine, rows, &ids, size)?;
+    Ok(count_of_pieces(&found))
+}
+
+/// The same line as `tally` makes, the letters counted by so many workers.
+pub fn tally_by<R: Threads + Sync>(
+    rt: &R,
+    alloc: Global,
+    engine: &Engine,
+    rows: &Rows,
+    workers: u32,
+) -> Result<Vec<u8>, Mem>
+    requires workers { (1 ≤ workers) × (workers ≤ 64) }
+    ensures { IfOk result (λ text. text.items ≡ tally_line engine.now rows.now) }
+{
+    let counts = count_letters_by(rt, alloc, engine, rows, workers)?;
+    counts_line(alloc, rows, &counts)
+}
