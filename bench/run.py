@@ -1,8 +1,8 @@
 #!/usr/bin/env python3
 """Times the program where people wait, each figure beside a floor of the same run, and prints the tables of README.md.
 
-run.py PROGRAM [PART]... [--keys NUMBER]: all parts, or those that are named; the parts pages, compact, opening, check, one-key and shapes have so
-many keys. It needs cc, and says which part it skips and why.
+run.py PROGRAM [PART]... [--keys NUMBER]: all parts, or those that are named; the parts pages, sealing, compact, opening, check, one-key and shapes have
+so many keys. It needs cc, and says which part it skips and why.
 """
 import argparse
 import tempfile
@@ -12,6 +12,7 @@ import edits
 import gnupg
 import growth
 import imports
+import sealing
 import shapes
 import spelling
 from measure import Bench, Failed
@@ -23,6 +24,7 @@ PARTS = {
     "growth": growth.part,
     "sample": growth.part_sample,
     "pages": bases.part_pages,
+    "sealing": sealing.part,
     "compact": bases.part_compact,
     "opening": bases.part_opening,
     "check": bases.part_check,

@@ -1,12 +1,12 @@
-"""The program crate that times the spelling of an edit: it is made in a folder of its own, upon copies of the crates below it."""
+"""The program crate that times the spelling of an edit."""
 import os
 import re
-import shutil
 import struct
 import subprocess
 
 import keyrings
-from measure import HERE, Failed, in_turn, megabytes, output, shown, table, times
+import timing
+from measure import HERE, in_turn, megabytes, output, shown, table, times
 
 KEYS = 100_000
 
@@ -56,22 +56,6 @@ fn main(rt: HostRuntime) -> io::Result<()> {
     Ok(())
 }
 """
-LISTED = "wot_types: hex thiserror\nwot_spelling: wot_types\nspelling: wot_types wot_spelling\n"
-
-
-def built(folder, repository):
-    """The path of the built program; the crates that it stands on are proved on the way, where they aren't yet."""
-    os.makedirs(f"{folder}/crates/spelling/src")
-    for crate in ("wot_types", "wot_spelling"):
-        shutil.copytree(f"{repository}/crates/{crate}", f"{folder}/crates/{crate}", ignore=shutil.ignore_patterns("out"))
-    for name, text in (("crates.txt", LISTED), ("HANDLES", "Handles allowed: none.\n"), ("crates/spelling/src/main.rt", SOURCE)):
-        with open(f"{folder}/{name}", "w", encoding="utf-8") as file:
-            file.write(text)
-    done = subprocess.run(["rt", "run"], cwd=f"{folder}/crates/spelling", stdin=subprocess.DEVNULL, capture_output=True, text=True, check=False)
-    program = f"{folder}/crates/spelling/out/spelling"
-    if not os.path.exists(program):
-        raise Failed(f"the timing program was not built: {(done.stdout + done.stderr)[-2000:]}")
-    return program
 
 
 def least(program, payload):
@@ -94,7 +78,7 @@ def payload_of(bench):
 
 def part(bench):
     """Encoding and decoding the record of an import, beside a copy of its bytes."""
-    program = built(bench.path("spelling"), os.path.dirname(HERE))
+    program = timing.built(bench.path("spelling"), os.path.dirname(HERE), "spelling", SOURCE, ("wot_types", "wot_spelling"))
     payload, copy = payload_of(bench), bench.floor("copy")
     size = os.path.getsize(payload)
     rows = in_turn(lambda: (int(output([copy, payload, "5"])) / 1e9,), lambda: least(program, payload))
