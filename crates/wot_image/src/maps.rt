@@ -1,17 +1,14 @@
 //! Maps of the lists that are read.
 
-ghost use Rattle.std.specs.Prelude.{◌≡◌, All, IfOk};
-ghost use Rattle.std.specs.FinMap as finmap;
-ghost use Rattle.wot_types.specs.Keyring.{with_keys};
-ghost use Rattle.wot_types.specs.Ownertrust.{with_entries};
+ghost use Rattle.std.specs.Prelude.{All, IfOk};
 ghost use Rattle.wot_types.specs.WellFormed.{IsWellFormed};
-ghost use Rattle.wot_image.specs.States.{IsMadeOf, with_rows};
+ghost use Rattle.wot_image.specs.States.{IsMadeOf};
 
 use crate::image::Image;
 use crate::stored::Stored;
 use std::alloc::Global;
 use wot_table::Table;
-use wot_types::{List, Mem, Row, Rows, Trusts};
+use wot_types::{Mem, Rows, Trusts};
 
 /// The state and the rows that were read.
 pub fn image_of(alloc: Global, stored: Stored) -> Result<Image, Mem>
@@ -23,18 +20,6 @@ pub fn image_of(alloc: Global, stored: Stored) -> Result<Image, Mem>
         trusts: Trusts::new(alloc).set_all(stored.entries)?,
         date: stored.date,
         options: stored.options,
-        rows: rows_of(alloc, stored.rows)?,
+        rows: Rows::of(stored.rows)?,
     })
-}
-
-fn rows_of(alloc: Global, list: List<Row>) -> Result<Rows, Mem>
-    ensures { IfOk result (λ rows. rows ≡ with_rows finmap.empty list) }
-{
-    let mut rows = Rows::new(alloc)?;
-    let mut left = list.into_vec();
-    left.reverse();
-    while let Some(row) = left.pop() {
-        rows = rows.insert(row)?;
-    }
-    Ok(rows)
 }

@@ -17,6 +17,7 @@ use Rattle.wot_types.specs.Keyring.{with_keys}
 use Rattle.wot_types.specs.Levels.{first_row, kept_or, map_by, new_row, rows_of, rows_upto}
 use Rattle.wot_types.specs.declared.ownertrust.Ownertrust.{Ownertrust}
 use Rattle.wot_types.specs.Ownertrust.{entry_of, with_entries}
+use Rattle.wot_types.specs.Rows.{with_rows}
 use Rattle.wot_types.specs.Spelling.{entry_bytes, flag_bytes, key_bytes, list_bytes, number_1, number_4, number_8, options_bytes, row_bytes}
 use Rattle.wot_types.specs.State.{State, opening_options, opening_state}
 use Rattle.wot_types.proofs.FinMaps.{no_entries}
@@ -24,7 +25,7 @@ use Rattle.wot_spelling.specs.Reading.{bytes_at, number_8_at}
 use Rattle.wot_spelling.proofs.Parts.{IsBytes, bind_some, bytes_take}
 use Rattle.wot_image.specs.Bases.{front_of, padded_front}
 use Rattle.wot_image.specs.Reading.{image_of}
-use Rattle.wot_image.specs.States.{IsMadeOf, is_within, state_of, with_rows}
+use Rattle.wot_image.specs.States.{IsMadeOf, is_within, state_of}
 use Rattle.wot_image.specs.declared.image.Image.{Image}
 use Rattle.wot_image.specs.declared.stored.Stored.{Stored}
 use Rattle.wot_image.proofs.BaseLemmas.{base_from, base_front, no_front}

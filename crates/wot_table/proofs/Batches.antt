@@ -1,18 +1,15 @@
 -- Keys that come in rising order of their key IDs into a table that has none.
-use Rattle.std.proofs.Common.{◌≡◌, ℕ, ◌+◌, ◌-◌, ◌<◌, ◌≤◌, ◌==◌, ◌&&◌, ◌||◌, Bool, true, false, cond, List, [], ◌∷◌, ◌++◌, length, reverse, Option, Some, None, BTreeMap, Less, refl, sym, ap, ap₂, subst, ◌∙◌, arith, nat_lt, map as mapped, nat_cmp}
-use Rattle.std.specs.BTreeMap.{IsFromIterResult}
-use Rattle.std.specs.Cmp.{eq_by_cmp_equiv, nat_cmp_total}
+use Rattle.std.proofs.Common.{◌≡◌, ℕ, ◌+◌, ◌-◌, ◌<◌, ◌≤◌, ◌==◌, ◌&&◌, ◌||◌, Bool, true, false, cond, List, [], ◌∷◌, ◌++◌, length, reverse, Option, Some, None, Less, refl, sym, ap, subst, ◌∙◌, arith, nat_lt, map as mapped, nat_cmp}
+use Rattle.std.specs.Cmp.{nat_cmp_total}
 use Rattle.std.specs.FinMap as finmap
-use Rattle.std.specs.FinMap.{get-empty, get-insert, len-empty, len-insert, same_map}
+use Rattle.std.specs.FinMap.{get-empty, get-insert, len-empty, len-insert}
 use Rattle.std.specs.List.{AllByRecursion, slice_index}
 use Rattle.std.specs.List.Sorted.{IsStrictlySortedBy}
-use Rattle.std.specs.Map.{update, update_all}
 use Rattle.std.specs.Ordering.{eq_by_cmp}
 use Rattle.std.proofs.lemmas.Bool.Decides.{nat_tests}
-use Rattle.std.proofs.lemmas.List.{append-nil, append_assoc, reverse-append}
+use Rattle.std.proofs.lemmas.List.{reverse-append}
 use Rattle.wot_types.specs.declared.key.Key.{Key}
 use Rattle.wot_types.specs.Keyring.{Keyring, id_of, with_key, with_keys}
-use Rattle.wot_types.proofs.Maps.{get_entries}
 use Rattle.wot_table.specs.declared.heading.Heading.{Heading}
 use Rattle.wot_table.specs.declared.sums.Sums.{Sums}
 use Rattle.wot_table.specs.Headings.{is_under, key_under, keys_under}
@@ -101,9 +98,6 @@ filed_alone heading n id more sorted =
     ap (λ b. b || keys_under heading n id more) (sym (none_filed heading n id)) ∙ all_filed heading n id finmap.empty more sorted (none_yet more)
 
 module _ {X : Type 0} where
-  one_more : (e : ℕ × X) (es : List (ℕ × X)) → reverse (e ∷ es) ≡ reverse es ++ e ∷ []
-  one_more e es = reverse-append (e ∷ []) es
-
   pub added_last : (es fs : List (ℕ × X)) (e : ℕ × X) → fs ≡ es ++ e ∷ [] → reverse fs ≡ e ∷ reverse es
   added_last es fs e is = ap reverse is ∙ reverse-append es (e ∷ [])
 
@@ -115,18 +109,3 @@ module _ {X : Type 0} where
         | true ↦ λ is. omega (arith, is, len_at_most es)
         | false ↦ λ is. omega (arith, is, len_at_most es)
       ] (len-insert nat_cmp_total (finmap.from_entries es) e.0 e.1)
-
-  collected_at : (es fs : List (ℕ × X)) (f : ℕ → Option X) → ((q : ℕ) → f q ≡ finmap.get (finmap.from_entries {R = nat_cmp} fs) q)
-      → (q : ℕ) → update_all (eq_by_cmp nat_cmp) f es q ≡ finmap.get (finmap.from_entries {R = nat_cmp} (reverse es ++ fs)) q
-  collected_at [] fs f h q = h q
-  collected_at (e ∷ es) fs f h q =
-      collected_at es (e ∷ fs) (update (eq_by_cmp nat_cmp) f e.0 (Some e.1)) (λ p.
-      ap₂ (λ b r. cond b (Some e.1) r) ((eq_by_cmp_equiv nat_cmp_total).symm e.0 p) (h p) ∙ sym (get-insert nat_cmp_total (finmap.from_entries fs) e.0 e.1 p)) q
-      ∙ ap (λ es. finmap.get (finmap.from_entries {R = nat_cmp} es) q) (sym (append_assoc (reverse es) (e ∷ []) fs) ∙ ap (λ es. es ++ fs) (sym (one_more e es)))
-
-  -- a map that is made of some entries
-  pub collected : (es : List (ℕ × X)) (made : BTreeMap ℕ X) → IsFromIterResult nat_cmp es made → finmap.from_entries {R = nat_cmp} made.entries ≡ finmap.from_entries (reverse es)
-  collected es made is = same_map nat_cmp_total finmap.nat_cmp-IsAntisymmetric _ _ (λ q.
-      get_entries nat_cmp_total made.entries q ∙ is.0 q
-      ∙ collected_at es [] (λ _. None) (λ p. sym (get-empty nat_cmp p)) q
-      ∙ ap (λ es. finmap.get (finmap.from_entries {R = nat_cmp} es) q) (append-nil (reverse es)))

@@ -65,7 +65,7 @@ impl Batch {
         let mut batch = Batch::new(alloc, left.len())?;
         while let Some(key) = left.pop() {
             batch = batch.put(key)?;
-            if left.len() < left.capacity() / 2 {
+            if left.len() < left.capacity() / 4 * 3 {
                 left.shrink_to_fit();
             }
         }

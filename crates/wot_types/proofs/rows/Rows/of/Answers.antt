@@ -1,0 +1,23 @@
+use Rattle.std.proofs.Common.{rules, All, map, nat_cmp, sym, subst, ◌∙◌}
+use Rattle.std.specs.BTreeMap.{IsFromIterResult}
+use Rattle.std.specs.Cmp.{nat_cmp_total}
+use Rattle.std.specs.FinMap as finmap
+use Rattle.std.specs.FinMap.{nat_cmp-IsAntisymmetric}
+use Rattle.std.proofs.lemmas.Iterator.{YieldsList-from_map}
+use Rattle.std.proofs.lemmas.Iterator.Adapters.{YieldsList-from_vec, fact_from_collect}
+use Rattle.std.proofs.lemmas.Iterator.Consumers.{YieldsList-at}
+use Rattle.std.proofs.lemmas.Result.{IfOk-at_ok}
+use Rattle.wot_types.specs.Rows.{IsOwnRow}
+use Rattle.wot_types.proofs.AddRows.{keyed, own_alone, rows_alone}
+use Rattle.wot_types.proofs.Maps.{collected}
+use Rattle.wot_types.proofs.rows.Rows.of.Goals as goal
+
+pub returns : goal.returns
+returns c =
+    let rows = c.args.rows in
+    let made = IfOk-at_ok _ c.in_ok-collect.was (fact_from_collect (IsFromIterResult nat_cmp) c.collect.result c.collect.ensures.ran
+    (YieldsList-from_map _ keyed (YieldsList-at c.map-pairs.ensures.source (YieldsList-from_vec {s = c.into_iter.result} rows (search rules) (search rules))) c.map-pairs.ensures.closure (λ x r q k. search rules))) in
+    collected nat_cmp_total nat_cmp-IsAntisymmetric (map keyed rows) c.in_ok-collect.field-0 made ∙ sym (rows_alone rows)
+
+pub invariant_of-result : goal.invariant_of-result
+invariant_of-result c = subst (λ m. All IsOwnRow (finmap.entries m)) (sym (returns c)) (own_alone c.args.rows)
