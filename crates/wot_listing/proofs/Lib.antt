@@ -13,3 +13,4 @@ pub mod TrustLemmas
 pub mod CertLemmas
 pub mod PlaceLemmas
 pub mod HashLemmas
+pub mod MarkLemmas

@@ -8,14 +8,15 @@ ghost use Rattle.wot_listing.specs.Answer.{Answers};
 ghost use Rattle.wot_listing.specs.Machine.{at_primary, at_sub, after_user, key_at_end, repeats_user, users_of, with_cert, with_fpr, with_user};
 
 use crate::cert::read_cert;
+use crate::ended_users::EndedUsers;
 use crate::error::LineError;
 use crate::primary::Primary;
-use crate::user::{is_among, read_user};
+use crate::user::read_user;
 use crate::values::{fingerprint_in, is_good};
 use std::alloc::Global;
 use wot_fields::Fields;
 use wot_types::{
-    Cert, Fpr, Key, KeyId, Limit, List, ListingWhat, MOST_USERS, Mem, User, UserKind, Users,
+    Cert, Fpr, Key, KeyId, Limit, ListingWhat, MOST_USERS, Mem, User, UserKind, Users,
 };
 
 /// A block that no line has ended.
@@ -26,7 +27,7 @@ pub struct KeyBlock {
     /// Whether the next `fpr` is the key's own.
     pub wants_fpr: bool,
     /// The user IDs that a line has ended.
-    pub users: Users,
+    pub users: EndedUsers,
     /// The user ID that no line has ended.
     pub user: Option<User>,
     /// The certifications kept so far, at most 4,194,304.
@@ -34,7 +35,7 @@ pub struct KeyBlock {
 }
 
 impl KeyBlock {
-    /// A block at its `pub`, with room for one user ID, as most keys have.
+    /// A block at its `pub`.
     pub fn new(alloc: Global, primary: Primary) -> Result<KeyBlock, Mem>
         ensures { IfOk result (λ block. block ≡ at_primary primary) }
     {
@@ -42,7 +43,7 @@ impl KeyBlock {
             primary,
             fpr: None,
             wants_fpr: true,
-            users: List::with_capacity(alloc, 1)?,
+            users: EndedUsers::new(alloc)?,
             user: None,
             certs: 0,
         })
@@ -63,7 +64,7 @@ impl KeyBlock {
             certs: _,
         } = self;
         match fpr {
-            Some(fpr) => Ok(key_of(primary, fpr, users)),
+            Some(fpr) => Ok(key_of(primary, fpr, users.into_users())),
             None => Err(LineError::Failed(ListingWhat::NoFingerprint)),
         }
     }
@@ -145,7 +146,7 @@ impl KeyBlock {
     fn has_user(&self, user: &User) -> bool
         ensures { result ≡ repeats_user self.now user.now }
     {
-        let ended = is_among(self.users.as_slice(), user);
+        let ended = self.users.contains(user);
         match &self.user {
             Some(last) => ended || last.is_same(user),
             None => ended,

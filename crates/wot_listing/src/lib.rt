@@ -6,9 +6,11 @@
 mod block_keys; // the keys of the blocks that have ended
 mod blocks; // what a listing gives
 mod cert; // `sig` and `rev`
+mod ended_users; // the user IDs of a block that a line has ended
 mod error; // what stops the reader
 mod key_block; // the block that is being read
 mod listing; // the reader
+mod mark; // numbers that tell user IDs apart
 mod primary; // `pub`
 mod progress; // what is kept of the lines so far
 mod user; // `uid` and `uat`
