@@ -2,7 +2,7 @@
 use Rattle.std.proofs.Common.{Bor, ◌≡◌, ◌+◌, ◌-◌, ◌<◌, ◌≤◌, ◌==◌, ◌⊎◌, inl, inr, zero, suc, ℕ, Bool, true, false, cond, nat_eq, nat_le, List, [], ◌∷◌, ◌++◌, Option, Some, None, option_and_then, is_some, refl, sym, ap, subst, ◌∙◌, arith}
 use Rattle.std.specs.FinMap as finmap
 use Rattle.std.specs.FinMap.{contains_key-keys, get-insert, nat_cmp-IsAntisymmetric, same_map}
-use Rattle.std.specs.List.{AllByRecursion, Contains, list_any}
+use Rattle.std.specs.List.{Contains, list_any}
 use Rattle.std.specs.Option.{option_copied, option_map_or}
 use Rattle.std.specs.Cmp.{nat_cmp_total, nat_eq_equiv}
 use Rattle.std.proofs.lemmas.Bool.{false≢true, true≢false}
@@ -14,7 +14,6 @@ use Rattle.wot_types.specs.declared.row.Row.{Row}
 use Rattle.wot_types.specs.State.{State}
 use Rattle.wot_types.specs.Candidates.{RowMap}
 use Rattle.wot_types.specs.Explanation.{KeySet}
-use Rattle.wot_types.specs.Expiry.{is_expired}
 use Rattle.wot_types.specs.Indexes.{has_cert_by, key_issuers}
 use Rattle.wot_types.specs.Levels.{first_row, kept_or, new_row, rows_upto}
 use Rattle.wot_types.specs.Next.{IsAfter, IsNext}
@@ -23,10 +22,11 @@ use Rattle.wot_types.specs.Rows.{with_row}
 use Rattle.wot_types.proofs.Frames.{issuers_of, new_row_frame}
 use Rattle.wot_types.proofs.LevelLemmas.{no_key}
 use Rattle.wot_types.proofs.Tests.{is_key, same_key}
-use Rattle.wot_levels.specs.Frontier.{IsLookedAt, IsReached, row_after}
+use Rattle.wot_levels.specs.Frontier.{AreCertified, IsLookedAt, IsReached, row_after}
 use Rattle.wot_levels.specs.Given.{given_row, if_below, rows_below}
 use Rattle.wot_levels.specs.Walk.{is_done}
 use Rattle.wot_levels.proofs.LevelCuts.{cut_one, get_below, given_later, level_given, low_stays, next_at, upto_low}
+use Rattle.wot_levels.proofs.Uncertified.{same_dates, uncertified_row}
 
 -- ---- a walk over the keys of a set in rising order
 
@@ -37,21 +37,29 @@ is_after (Some a) x h = grind (arith, nat_tests)
 below : (id x : ℕ) → (id == x) ≡ false → nat_le x id ≡ true → x < id
 below id x e l = grind (arith, nat_tests)
 
+-- what holds of the keys that the walk has passed
+module _ (set : KeySet) (after : Option ℕ) (P : ℕ → Type 0) (sofar : (x : ℕ) → set x ≡ true → is_done after x ≡ true → P x) where
+  pub passed_more : (id : ℕ) → IsNext set after (Some id) → P id → (x : ℕ) → set x ≡ true → is_done (Some id) x ≡ true → P x
+  passed_more id next here x its done = elim (is_done after x) as (λ d. is_done after x ≡ d → P x) [
+    | true ↦ λ before. sofar x its before
+    | false ↦ λ ahead. elim (id == x) as (λ b. (id == x) ≡ b → P x) [
+      | true ↦ λ same. subst P (is_key id x same) here
+      | false ↦ λ other. absurd (false≢true (sym (next.2 x (is_after after x ahead) (below id x other done)) ∙ its))
+    ] refl
+  ] refl
+
+  pub passed_all : IsNext set after None → (x : ℕ) → set x ≡ true → P x
+  passed_all next x its = elim (is_done after x) as (λ d. is_done after x ≡ d → P x) [
+    | true ↦ λ before. sofar x its before
+    | false ↦ λ ahead. absurd (false≢true (sym (next x (is_after after x ahead)) ∙ its))
+  ] refl
+
 pub found_more : (set : KeySet) (after : Option ℕ) (ids : List ℕ) (id : ℕ) → IsNext set after (Some id) → ((x : ℕ) → set x ≡ true → is_done after x ≡ true → Contains ids x)
     → (x : ℕ) → set x ≡ true → is_done (Some id) x ≡ true → Contains (ids ++ id ∷ []) x
-found_more set after ids id next all x its done = elim (is_done after x) as (λ d. is_done after x ≡ d → Contains (ids ++ id ∷ []) x) [
-  | true ↦ λ before. Contains-append_left ids (id ∷ []) x (all x its before)
-  | false ↦ λ ahead. elim (id == x) as (λ b. (id == x) ≡ b → Contains (ids ++ id ∷ []) x) [
-    | true ↦ λ same. subst (λ y. Contains (ids ++ id ∷ []) y) (is_key id x same) (Contains-push ids id)
-    | false ↦ λ other. absurd (false≢true (sym (next.2 x (is_after after x ahead) (below id x other done)) ∙ its))
-  ] refl
-] refl
+found_more set after ids id next all = passed_more set after (Contains (ids ++ id ∷ [])) (λ x its before. Contains-append_left ids (id ∷ []) x (all x its before)) id next (Contains-push ids id)
 
 pub found_all : (set : KeySet) (after : Option ℕ) (ids : List ℕ) → IsNext set after None → ((x : ℕ) → set x ≡ true → is_done after x ≡ true → Contains ids x) → (x : ℕ) → set x ≡ true → Contains ids x
-found_all set after ids next all x its = elim (is_done after x) as (λ d. is_done after x ≡ d → Contains ids x) [
-  | true ↦ λ before. all x its before
-  | false ↦ λ ahead. absurd (false≢true (sym (next x (is_after after x ahead)) ∙ its))
-] refl
+found_all set after ids next all = passed_all set after (Contains ids) all next
 
 -- ---- a look at one key
 
@@ -183,6 +191,10 @@ has_it ids x h = Contains-from_any (λ a b e. is_key a b e) x ids h
 has_not : (ids : List ℕ) (x : ℕ) → list_any (nat_eq x) ids ≡ false → Contains ids x → ⊥
 has_not ids x out there = false≢true (sym out ∙ list_any-from_Contains nat_eq_equiv x ids there)
 
+kept_none : (a : Option Row) → kept_or a None ≡ a
+kept_none (Some row) = refl
+kept_none None = refl
+
 -- at level 1 all keys are looked at
 pub reached_first : (s : State) (rows : RowMap) → rows ≡ rows_upto s 0 → IsReached s 0 rows (finmap.keys s.keys)
 reached_first s rows is = record {
@@ -202,20 +214,31 @@ given_again (Some row) b p q = refl
 given_again None true p q = refl
 given_again None false p q = refl
 
-kept_none : (a : Option Row) → kept_or a None ≡ a
-kept_none (Some row) = refl
-kept_none None = refl
+-- only those certified by a key of level 0 are looked at, where each of the numbers needed is at least 1
+pub reached_certified : (s : State) (rows : RowMap) (ids : List ℕ) → rows ≡ rows_upto s 0 → AreCertified s.keys rows ids → 1 ≤ s.options.completes → 1 ≤ s.options.marginals → IsReached s 0 rows ids
+reached_certified s rows ids is all completes marginals = record {
+  right = is;
+  others = λ x. elim (list_any (nat_eq x) ids) as (λ b. list_any (nat_eq x) ids ≡ b → Contains ids x ⊎ (finmap.get (rows_upto s 1) x ≡ finmap.get (rows_upto s 0) x)) [
+    | true ↦ λ its. inl (has_it ids x its)
+    | false ↦ λ out. inr (next_at s 0 x ∙ ap (kept_or (finmap.get (rows_upto s 0) x)) (no_row x (has_not ids x out)) ∙ kept_none (finmap.get (rows_upto s 0) x))
+  ] refl;
+}
+  where
+    certified : AreCertified s.keys (rows_upto s 0) ids
+    certified = subst (λ r. AreCertified s.keys r ids) is all
 
-same_dates : (date : ℕ) (es : List ℕ) → AllByRecursion (λ e. is_expired e date ≡ is_expired e date) es
-same_dates date [] = tt
-same_dates date (e ∷ es) = (refl, same_dates date es)
+    no_row : (x : ℕ) → (Contains ids x → ⊥) → option_and_then (new_row s (rows_upto s 0) 1 x) (finmap.get s.keys x) ≡ None
+    no_row x out = elim (finmap.get s.keys x) as (λ o. finmap.get s.keys x ≡ o → option_and_then (new_row s (rows_upto s 0) 1 x) o ≡ None) [
+      | None ↦ λ _. refl
+      | Some key ↦ λ there. uncertified_row s (rows_upto s 0) ids certified x out key there completes marginals 1
+    ] refl
 
 module _ (s : State) (n x : ℕ) (same : (y : ℕ) → has_cert_by s.keys y x ≡ true → finmap.get (rows_upto s (suc n)) y ≡ finmap.get (rows_upto s n) y) where
   certifiers : (key : Key) → finmap.get s.keys x ≡ Some key → (y : ℕ) → issuers_of key y ≡ true → finmap.get (rows_upto s (suc n)) y ≡ finmap.get (rows_upto s n) y
   certifiers key is y its = same y (ap (λ o. option_map_or (λ key. list_any (λ n. n == y) (key_issuers key)) o false) is ∙ its)
 
   -- where no certifier of a key got a row at a level, the key gets none at the next
-  passed_over : finmap.get (rows_upto s (suc (suc n))) x ≡ finmap.get (rows_upto s (suc n)) x
+  pub passed_over : finmap.get (rows_upto s (suc (suc n))) x ≡ finmap.get (rows_upto s (suc n)) x
   passed_over =
       let low = rows_upto s n in
       let high = rows_upto s (suc n) in

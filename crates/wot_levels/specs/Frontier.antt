@@ -14,6 +14,10 @@ use Rattle.wot_levels.specs.Given.{given_row}
 abbrev pub weight : Keyring → List ℕ → ℕ
 weight keys ids = sum_by (certs_at keys) ids
 
+-- each key certified by one with a row is among these
+abbrev pub AreCertified : Keyring → RowMap → List ℕ → Type 0
+AreCertified keys rows ids = (y x : ℕ) → map.contains_key rows y ≡ true → has_cert_by keys y x ≡ true → Contains ids x
+
 -- the row of a key once a level is counted: a row of a lower level stays
 abbrev pub row_after : State → ℕ → RowMap → ℕ → Option Row
 row_after s n rows x = kept_or (map.get rows x) (given_row s rows n x)
