@@ -1,8 +1,8 @@
 -- What each edit leaves as it was.
-use Rattle.std.proofs.Common.{◌≡◌, ◌+◌, ◌-◌, ◌*◌, ◌≤◌, ◌==◌, ◌&&◌, ◌||◌, not, ℕ, zero, suc, Bool, true, false, cond, nat_cmp, nat_eq, List, [], ◌∷◌, Option, Some, None, unwrap_or, is_some, IfSome, refl, sym, ap, subst, ◌∙◌, arith}
+use Rattle.std.proofs.Common.{◌≡◌, ◌+◌, ◌-◌, ◌*◌, ◌≤◌, ◌==◌, ◌&&◌, ◌||◌, not, ℕ, Bool, true, false, cond, nat_cmp, nat_eq, List, [], ◌∷◌, Some, None, unwrap_or, is_some, IfSome, refl, sym, ap, subst, ◌∙◌, arith}
 use Rattle.std.specs.Cmp.Lexicographic.{pointwise}
 use Rattle.std.specs.FinMap as map
-use Rattle.std.specs.FinMap.{contains_key, get-empty, get-insert, get-remove, nat_cmp-IsAntisymmetric, same_map}
+use Rattle.std.specs.FinMap.{contains_key, empty_of_len, get-empty, get-insert, get-remove, nat_cmp-IsAntisymmetric, same_map}
 use Rattle.std.specs.Cmp.{nat_cmp_total}
 use Rattle.std.specs.List.{AllByRecursion, list_any}
 use Rattle.std.specs.Option.{option_map_or}
@@ -15,7 +15,7 @@ use Rattle.wot_types.specs.State.{State}
 use Rattle.wot_types.specs.Candidates.{RowMap}
 use Rattle.wot_types.specs.Expiry.{is_expired}
 use Rattle.wot_types.specs.Keyring.{Keyring, cert_total, id_of, is_fpr_of, with_key, with_keys}
-use Rattle.wot_types.specs.Levels.{rows_of, rows_upto}
+use Rattle.wot_types.specs.Levels.{rows_of}
 use Rattle.wot_types.specs.NextCheck.{key_expiries}
 use Rattle.wot_types.specs.Ownertrust.{OwnertrustMap, is_unset, kept_of, unset, with_entries, with_entry}
 use Rattle.wot_types.specs.Explanation.{KeySet}
@@ -25,10 +25,11 @@ use Rattle.wot_types.proofs.LevelLemmas.{level_le}
 use Rattle.wot_types.proofs.MapLemmas.{get_only}
 use Rattle.wot_types.proofs.Tests.{same_key}
 use Rattle.wot_types.specs.Payload.{IsInRange}
-use Rattle.wot_live.specs.Counts.{CountMap, counts_of, kept_counts, key_counts}
+use Rattle.wot_live.specs.Counts.{CountMap}
 use Rattle.wot_live.specs.Follows.{Follows, IsPending}
-use Rattle.wot_live.specs.Recounting.{IsAlike, IsBegun, IsLow, IsTouchedList, among}
-use Rattle.wot_live.proofs.EngineLemmas.{map_by_empty}
+use Rattle.wot_live.specs.Recounting.{IsAlike, IsTouchedList, among}
+use Rattle.wot_live.proofs.Stages.{IsLow}
+use Rattle.wot_live.proofs.Weights.{all_within}
 
 left_out : (a b : Bool) → (a || b) ≡ false → (a ≡ false) × (b ≡ false)
 left_out true b e = absurd (true≢false e)
@@ -102,34 +103,6 @@ remove_alike s id x h = record {
   dates = λ key is. same_dates s.date (key_expiries key);
 }
 
--- ---- all keys, as from a keyring without keys
-
-abbrev pub without_keys : State → State
-without_keys t = record t { keys = map.empty }
-
-no_rows_upto : (t : State) (n : ℕ) → rows_upto (without_keys t) n ≡ map.empty
-unfolding rows_upto
-no_rows_upto t zero = map_by_empty _
-no_rows_upto t (suc n) = map_by_empty _
-
-not_there : {X : Type 0} (o : Option X) → is_some o ≡ false → o ≡ None
-not_there None h = refl
-not_there (Some x) h = absurd (true≢false h)
-
-pub begun_anew : (t : State) (rows : RowMap) (todo : List ℕ) → rows ≡ map.empty → ((x : ℕ) → among todo x ≡ contains_key t.keys x) → IsBegun (without_keys t) t rows todo
-begun_anew t rows todo none all = record {
-  options = refl;
-  rows = none ∙ sym (no_rows_upto t (t.options.depth - 1));
-  alike = λ x out. record {
-    key = get-empty nat_cmp x ∙ sym (not_there (map.get t.keys x) (sym (all x) ∙ out));
-    own = λ key is. refl;
-    dates = λ key is. same_dates t.date (key_expiries key);
-  };
-}
-
-pub no_counts : (t : State) → map.empty ≡ counts_of (without_keys t)
-no_counts t = sym (map_by_empty (λ (_ : ℕ) (key : Key). kept_counts (key_counts t.options t.date (rows_of (without_keys t)) key)))
-
 -- ---- several edits
 
 both_dates : (a b c : ℕ) (es : List ℕ) → AllByRecursion (λ e. is_expired e a ≡ is_expired e b) es → AllByRecursion (λ e. is_expired e b ≡ is_expired e c) es → AllByRecursion (λ e. is_expired e a ≡ is_expired e c) es
@@ -179,9 +152,6 @@ pending_more t u rows counts todo more named pending same grown alike =
       );
     }
 
-pub all_pending : (t : State) (rows : RowMap) (counts : CountMap) (todo : List ℕ) → IsInRange t.options → rows ≡ map.empty → counts ≡ map.empty → ((x : ℕ) → among todo x ≡ contains_key t.keys x) → IsPending t rows counts todo
-all_pending t rows counts todo ranges no_row no_count all = record { ranges = ranges; begun = (without_keys t, begun_anew t rows todo no_row all, no_count ∙ no_counts t) }
-
 -- a list that began empty has the keys that are named
 pub from_none : (start todo : List ℕ) (named : KeySet) → start ≡ [] → ((x : ℕ) → among todo x ≡ (among start x || named x)) → (x : ℕ) → among todo x ≡ named x
 from_none start todo named none grown x = grown x ∙ ap (λ xs. among xs x || named x) none
@@ -213,3 +183,22 @@ pub edit_bound : (s t : State) (named : KeySet) (todo : List ℕ) (old new : ℕ
     → (IsTouchedList named s t todo → new ≤ old + (t.options.depth + 1) * certs_on (is_touched named s t) t.keys) → IsWithinTouched named s t old new
 edit_bound s t named todo old new its cost =
     within_bound t.options.depth (certs_on (is_touched named s t) s.keys) (certs_on (is_touched named s t) t.keys) old new (cost (λ x h. named_touched named s t x (its x h)))
+
+-- keys are put into a keyring without keys: all that are then there are named
+all_put : (s : State) (keys : List Key) (entries : List Entry) → map.len s.keys ≡ 0 → (x : ℕ) → contains_key (with_keys s.keys keys) x ≡ true → named_by_put s keys entries x ≡ true
+all_put s keys entries none x there = elim (list_any (λ key. id_of key == x) keys) as
+    (λ b. list_any (λ key. id_of key == x) keys ≡ b → (b || list_any (λ (e : Entry). is_fpr_of e.fpr (map.get s.keys x)) entries) ≡ true) [
+      | true ↦ λ _. refl
+      | false ↦ λ out.
+          let absent : map.get (with_keys s.keys keys) x ≡ None = sym (other_keys keys s.keys x out) ∙ ap (λ (m : Keyring). map.get m x) (empty_of_len s.keys none) ∙ get-empty nat_cmp x in
+          absurd (true≢false (sym there ∙ ap is_some absent))
+    ] refl
+
+pub first_bound : (s : State) (keys : List Key) (entries : List Entry) (old new : ℕ) → map.len s.keys ≡ 0 → new ≤ old + (s.options.depth + 1) * cert_total (with_keys s.keys keys)
+    → IsWithinTouched (named_by_put s keys entries) s (record s { keys = with_keys s.keys keys; trusts = with_entries s.trusts entries }) old new
+first_bound s keys entries old new none cost =
+    let named = named_by_put s keys entries in
+    let t : State = record s { keys = with_keys s.keys keys; trusts = with_entries s.trusts entries } in
+    let set = is_touched named s t in
+    let all = all_within set t.keys (λ x there. named_touched named s t x (all_put s keys entries none x there)) in
+    within_bound s.options.depth (certs_on set s.keys) (certs_on set t.keys) old new (subst (λ n. new ≤ old + (s.options.depth + 1) * n) (sym all) cost)

@@ -1,6 +1,6 @@
 -- A list of keys that grows, each there once.
-use Rattle.std.proofs.Common.{◌≡◌, ◌<◌, ◌==◌, ◌&&◌, ◌||◌, ◌⊎◌, inl, inr, ℕ, Bool, true, false, cond, nat_eq, nat_le, List, [], ◌∷◌, ◌++◌, Option, Some, None, refl, sym, ap, ◌∙◌, append_assoc, append-nil, arith}
-use Rattle.std.specs.List.{AllByRecursion, IsDistinct}
+use Rattle.std.proofs.Common.{◌≡◌, ◌<◌, ◌==◌, ◌&&◌, ◌||◌, ◌⊎◌, inl, inr, ℕ, Bool, true, false, cond, nat_eq, nat_le, List, [], ◌∷◌, ◌++◌, Option, Some, None, refl, sym, ap, subst, ◌∙◌, append_assoc, append-nil, arith}
+use Rattle.std.specs.List.{AllByRecursion, IsDistinct, dedup, dedup_from}
 use Rattle.std.proofs.lemmas.Bool.{false≢true, true≢false}
 use Rattle.std.proofs.lemmas.Bool.Decides.{nat_tests}
 use Rattle.std.proofs.lemmas.List.Folds.{list_any-append}
@@ -91,12 +91,32 @@ grown_more set next old now id grown its wider only_one = record {
     longer : (added : List ℕ) × (with_id now id ≡ now ++ added)
     longer = with_id_longer now id
 
-grown_same : (set next : KeySet) (old now : List ℕ) → IsGrownBy set old now → ((x : ℕ) → set x ≡ next x) → IsGrownBy next old now
+pub grown_push : (xs old now : List ℕ) (id : ℕ) → IsGrownBy (among xs) old now → IsGrownBy (among (xs ++ id ∷ [])) old (with_id now id)
+grown_push xs old now id grown =
+    grown_more (among xs) (among (xs ++ id ∷ [])) old now id grown (among_pushed xs id id ∙ ap (λ b. among xs id || b) (itself id) ∙ or-true (among xs id))
+    (λ x h. among_pushed xs id x ∙ ap (λ b. b || (id == x)) h)
+    (λ x h other. sym (or-false (among xs x)) ∙ ap (λ b. among xs x || b) (sym other) ∙ sym (among_pushed xs id x) ∙ h)
+  where
+    itself : (n : ℕ) → (n == n) ≡ true
+    itself n = grind (arith, nat_tests)
+
+pub grown_same : (set next : KeySet) (old now : List ℕ) → IsGrownBy set old now → ((x : ℕ) → set x ≡ next x) → IsGrownBy next old now
 grown_same set next old now grown same = record {
   longer = grown.longer;
   all = λ x h. grown.all x (same x ∙ h);
   only = λ x h. elim (grown.only x h) as (λ _. (among old x ≡ true) ⊎ (next x ≡ true)) [ inl before ↦ inl before | inr its ↦ inr (sym (same x) ∙ its) ];
 }
+
+-- which keys are there
+pub grown_members : (set : KeySet) (old new : List ℕ) → IsGrownBy set old new → (x : ℕ) → among new x ≡ (among old x || set x)
+grown_members set old new grown x =
+    equal (among new x) (among old x) (set x) (λ h. ap (λ xs. among xs x) grown.longer.1 ∙ among_append old grown.longer.0 x ∙ ap (λ b. b || among grown.longer.0 x) h) (grown.all x) (grown.only x)
+  where
+    equal : (n o b : Bool) → (o ≡ true → n ≡ true) → (b ≡ true → n ≡ true) → (n ≡ true → (o ≡ true) ⊎ (b ≡ true)) → n ≡ (o || b)
+    equal n true b up all only = up refl
+    equal n false true up all only = all refl
+    equal true false false up all only = elim (only refl) as (λ _. true ≡ false) [ inl e ↦ sym e | inr e ↦ sym e ]
+    equal false false false up all only = refl
 
 -- ---- a walk over the keys of a set in rising order
 
@@ -106,10 +126,6 @@ passed set after x = is_done after x && set x
 both : (a b : Bool) → a ≡ true → b ≡ true → (a && b) ≡ true
 both true b h k = k
 both false b h k = absurd (false≢true h)
-
-parts : (a b : Bool) → (a && b) ≡ true → (a ≡ true) × (b ≡ true)
-parts true b h = (refl, h)
-parts false b h = absurd (false≢true h)
 
 low_itself : (n : ℕ) → nat_le n n ≡ true
 low_itself n = grind (arith, nat_tests)
@@ -125,17 +141,40 @@ is_after (Some a) k h = grind (arith, nat_tests)
 below : (id k : ℕ) → (id == k) ≡ false → nat_le k id ≡ true → k < id
 below id k e l = grind (arith, nat_tests)
 
-pub passed_more : (set : KeySet) (after : Option ℕ) (old now : List ℕ) (id : ℕ) → IsNext set after (Some id) → IsGrownBy (passed set after) old now → IsGrownBy (passed set (Some id)) old (with_id now id)
-passed_more set after old now id next grown =
-    grown_more (passed set after) (passed set (Some id)) old now id grown (both (nat_le id id) (set id) (low_itself id) next.0)
-    (λ x h. let p = parts (is_done after x) (set x) h in both (nat_le x id) (set x) (before_next after id x next.1 p.0) p.1)
-    (λ x h other. let p = parts (nat_le x id) (set x) h in elim (is_done after x) as (λ d. is_done after x ≡ d → (d && set x) ≡ true) [
-      | true ↦ λ _. p.1
-      | false ↦ λ ahead. absurd (false≢true (sym (next.2 x (is_after after x ahead) (below id x other p.0)) ∙ p.1))
-    ] refl)
+-- the keys so far, with the next one
+pub passed_more : (set : KeySet) (after : Option ℕ) (ids : List ℕ) (id : ℕ) → IsNext set after (Some id) → ((x : ℕ) → among ids x ≡ passed set after x) → (x : ℕ) → among (ids ++ id ∷ []) x ≡ passed set (Some id) x
+passed_more set after ids id next is x =
+    among_pushed ids id x ∙ ap (λ b. b || (id == x)) (is x)
+    ∙ elim (id == x) as (λ b. (id == x) ≡ b → (passed set after x || b) ≡ passed set (Some id) x) [
+      | true ↦ λ same. or-true (passed set after x) ∙ sym (subst (λ k. passed set (Some id) k ≡ true) (is_key id x same) (both (nat_le id id) (set id) (low_itself id) next.0))
+      | false ↦ λ other. or-false (passed set after x) ∙ elim (is_done after x) as (λ d. is_done after x ≡ d → (d && set x) ≡ (nat_le x id && set x)) [
+        | true ↦ λ done. ap (λ b. b && set x) (sym (before_next after id x next.1 done))
+        | false ↦ λ ahead. elim (nat_le x id) as (λ l. nat_le x id ≡ l → false ≡ (l && set x)) [
+          | true ↦ λ low. sym (next.2 x (is_after after x ahead) (below id x other low))
+          | false ↦ λ _. refl
+        ] refl
+      ] refl
+    ] refl
 
-pub passed_all : (set : KeySet) (after : Option ℕ) (old now : List ℕ) → IsNext set after None → IsGrownBy (passed set after) old now → IsGrownBy set old now
-passed_all set after old now next grown = grown_same (passed set after) set old now grown (λ x. elim (is_done after x) as (λ d. is_done after x ≡ d → (d && set x) ≡ set x) [
+pub passed_all : (set : KeySet) (after : Option ℕ) (ids : List ℕ) → IsNext set after None → ((x : ℕ) → among ids x ≡ passed set after x) → (x : ℕ) → among ids x ≡ set x
+passed_all set after ids next is x = is x ∙ elim (is_done after x) as (λ d. is_done after x ≡ d → (d && set x) ≡ set x) [
   | true ↦ λ _. refl
   | false ↦ λ ahead. sym (next x (is_after after x ahead))
-] refl)
+] refl
+
+-- ---- each key once
+
+twice : (a b : Bool) → (a || b) ≡ (a || (a || b))
+twice true b = refl
+twice false b = refl
+
+among_dedup_from : (y : ℕ) (ys : List ℕ) (x : ℕ) → among (dedup_from nat_eq y ys) x ≡ ((y == x) || among ys x)
+among_dedup_from y [] x = refl
+among_dedup_from y (z ∷ ys) x = elim (nat_eq z y) as (λ b. nat_eq z y ≡ b → among (cond b (dedup_from nat_eq y ys) (y ∷ dedup_from nat_eq z ys)) x ≡ ((y == x) || ((z == x) || among ys x))) [
+  | true ↦ λ same. among_dedup_from y ys x ∙ twice (y == x) (among ys x) ∙ ap (λ k. (y == x) || ((k == x) || among ys x)) (sym (is_key z y same))
+  | false ↦ λ _. ap (λ b. (y == x) || b) (among_dedup_from z ys x)
+] refl
+
+pub among_dedup : (ids : List ℕ) (x : ℕ) → among (dedup nat_eq ids) x ≡ among ids x
+among_dedup [] x = refl
+among_dedup (y ∷ ys) x = among_dedup_from y ys x

@@ -46,7 +46,7 @@ pub dated : (a b : ℕ) (o : Option Key) → option_map_or (λ key. list_any (is
 dated a b None = refl
 dated a b (Some key) = any_between a b (key_expiries key)
 
-each_way : (id : ℕ) (ids : List ℕ) → among ids id ≡ list_any (nat_eq id) ids
+pub each_way : (id : ℕ) (ids : List ℕ) → among ids id ≡ list_any (nat_eq id) ids
 each_way id [] = refl
 each_way id (k ∷ ids) = λ i. swapped id k i || each_way id ids i
   where

@@ -1,5 +1,5 @@
 -- The recount of several keys at one level, key after key.
-use Rattle.std.proofs.Common.{◌≡◌, ◌≢◌, ◌<◌, ◌≤◌, ◌==◌, ◌||◌, ◌⊎◌, inl, inr, ℕ, zero, suc, Bool, true, false, cond, nat_eq, nat_lt, List, [], ◌∷◌, ◌++◌, take, length, Option, Some, None, option_and_then, IfSome, refl, sym, ap, subst, ◌∙◌, append_assoc, append-nil, arith}
+use Rattle.std.proofs.Common.{◌≡◌, ◌≢◌, ◌≤◌, ◌==◌, ◌||◌, ◌⊎◌, inl, inr, ℕ, zero, suc, Bool, true, false, cond, nat_eq, nat_lt, List, [], ◌∷◌, ◌++◌, take, Option, Some, None, option_and_then, IfSome, refl, sym, ap, subst, ◌∙◌, append_assoc, append-nil, arith}
 use Rattle.std.specs.FinMap as map
 use Rattle.std.specs.FinMap.{nat_cmp-IsAntisymmetric, same_map}
 use Rattle.std.specs.Cmp.{nat_cmp_total}
@@ -16,35 +16,35 @@ use Rattle.wot_types.specs.Touched.{is_same_standing}
 use Rattle.wot_types.proofs.SameRows.{differ_apart, same_standing}
 use Rattle.wot_types.proofs.Tests.{is_key}
 use Rattle.wot_levels.specs.Given.{given_row, rows_below}
-use Rattle.wot_live.specs.Recounting.{IsGrownBy, IsLow, IsRecounted, among, ids_at, kept_above, recounted, row_below}
+use Rattle.wot_live.specs.Recounting.{IsGrownBy, IsRecounted, among, ids_at, kept_above, recounted, row_below}
 use Rattle.wot_live.proofs.Befores.{get_below, level_given}
-use Rattle.wot_live.proofs.Stages.{IsGiven, among_first, lower_stays}
+use Rattle.wot_live.proofs.Stages.{IsGiven, IsLow, among_first, lower_stays}
 
 -- ---- one key
 
-only_it : (id x : ℕ) → among (id ∷ []) x ≡ true → id ≡ x
+pub only_it : (id x : ℕ) → among (id ∷ []) x ≡ true → id ≡ x
 only_it id x h = is_key id x (sym (or-false (id == x)) ∙ h)
 
 not_it : (id x : ℕ) → among (id ∷ []) x ≡ false → (id == x) ≡ false
 not_it id x h = sym (or-false (id == x)) ∙ h
+
+pub all_same : (id : ℕ) (old new : RowMap) → ((x : ℕ) → (id == x) ≡ false → map.get new x ≡ map.get old x) → is_same_standing (map.get old id) (map.get new id) ≡ true → (x : ℕ) → map.get new x ≡ map.get old x
+all_same id old new others same x = elim (id == x) as (λ b. (id == x) ≡ b → map.get new x ≡ map.get old x) [
+  | true ↦ λ it. subst (λ y. map.get new y ≡ map.get old y) (is_key id x it) (sym (same_standing (map.get old id) (map.get new id) same))
+  | false ↦ λ other. others x other
+] refl
 
 module _ (t : State) (n id : ℕ) (old new : RowMap) (todo : List ℕ) (here : map.get new id ≡ recounted n (map.get old id) (given_row t old n id))
     (others : (x : ℕ) → (id == x) ≡ false → map.get new x ≡ map.get old x) where
   counted : (x : ℕ) → among (id ∷ []) x ≡ true → map.get new x ≡ recounted n (map.get old x) (given_row t old n x)
   counted x h = subst (λ y. map.get new y ≡ recounted n (map.get old y) (given_row t old n y)) (only_it id x h) here
 
-  all_same : is_same_standing (map.get old id) (map.get new id) ≡ true → (x : ℕ) → map.get new x ≡ map.get old x
-  all_same same x = elim (id == x) as (λ b. (id == x) ≡ b → map.get new x ≡ map.get old x) [
-    | true ↦ λ it. subst (λ y. map.get new y ≡ map.get old y) (is_key id x it) (sym (same_standing (map.get old id) (map.get new id) same))
-    | false ↦ λ other. others x other
-  ] refl
-
   pub unchanged_step : is_same_standing (map.get old id) (map.get new id) ≡ true → IsRecounted t n (id ∷ []) old todo new todo
   unchanged_step same = record {
     counted = counted;
     others = λ x h. others x (not_it id x h);
     longer = ([], sym (append-nil todo));
-    reach = λ y. inl (all_same same y);
+    reach = λ y. inl (all_same id old new others same y);
     only = λ x its. inl its;
   }
 
@@ -72,6 +72,16 @@ no_step t n old todo = record {
   longer = ([], sym (append-nil todo));
   reach = λ y. inl refl;
   only = λ x its. inl its;
+}
+
+-- which keys are recounted matters, and not in which order they are listed
+pub same_step : (t : State) (n : ℕ) (ids js : List ℕ) (old : RowMap) (todo : List ℕ) (new : RowMap) (more : List ℕ) → ((x : ℕ) → among ids x ≡ among js x) → IsRecounted t n ids old todo new more → IsRecounted t n js old todo new more
+same_step t n ids js old todo new more same step = record {
+  counted = λ x its. step.counted x (same x ∙ its);
+  others = λ x out. step.others x (same x ∙ out);
+  longer = step.longer;
+  reach = step.reach;
+  only = step.only;
 }
 
 among_both : (ids js : List ℕ) (x : ℕ) → among (ids ++ js) x ≡ (among ids x || among js x)
@@ -162,27 +172,11 @@ recounted_low n m (Some old) new h g le = elim (nat_lt old.level n) as (λ b. If
     at (Some row) k = omega (arith, k, le)
     at None k = elim (old.level == n) as (λ b. IfSome (cond b None (Some old)) (λ (row : Row). row.level ≤ m)) [ true ↦ tt | false ↦ h ]
 
-weaker : (a b : ℕ) (o : Option Row) → a ≤ b → IfSome o (λ row. row.level ≤ a) → IfSome o (λ row. row.level ≤ b)
-weaker a b None h low = tt
-weaker a b (Some row) h low = omega (arith, h, low)
-
-pub lower_top : (a b : ℕ) (rows : RowMap) → a ≤ b → IsLow a rows → IsLow b rows
-lower_top a b rows h low x = weaker a b (map.get rows x) h (low x)
-
 -- after a recount at a level no row is of a higher level than this one or the highest before
 pub step_low : (t : State) (n m : ℕ) (ids : List ℕ) (old : RowMap) (todo : List ℕ) (new : RowMap) (more : List ℕ) → IsRecounted t n ids old todo new more → n ≤ m → IsLow m old → IsLow m new
 step_low t n m ids old todo new more step le low x = elim (among ids x) as (λ b. among ids x ≡ b → IfSome (map.get new x) (λ row. row.level ≤ m)) [
   | true ↦ λ its. subst (λ o. IfSome o (λ (row : Row). row.level ≤ m)) (sym (step.counted x its)) (recounted_low n m (map.get old x) (given_row t old n x) (low x) (level_given t old n x) le)
   | false ↦ λ out. subst (λ o. IfSome o (λ (row : Row). row.level ≤ m)) (sym (step.others x out)) (low x)
-] refl
-
-pub same_low : (m : ℕ) (old new : RowMap) → ((x : ℕ) → map.get new x ≡ map.get old x) → IsLow m old → IsLow m new
-same_low m old new same low x = subst (λ o. IfSome o (λ (row : Row). row.level ≤ m)) (sym (same x)) (low x)
-
-pub step_same : (t : State) (n id : ℕ) (old new : RowMap) → ((x : ℕ) → (id == x) ≡ false → map.get new x ≡ map.get old x) → is_same_standing (map.get old id) (map.get new id) ≡ true → (x : ℕ) → map.get new x ≡ map.get old x
-step_same t n id old new others same x = elim (id == x) as (λ b. (id == x) ≡ b → map.get new x ≡ map.get old x) [
-  | true ↦ λ it. subst (λ y. map.get new y ≡ map.get old y) (is_key id x it) (sym (same_standing (map.get old id) (map.get new id) same))
-  | false ↦ λ other. others x other
 ] refl
 
 -- ---- places of a list
@@ -204,8 +198,3 @@ take_at [] zero = refl
 take_at [] (suc i) = refl
 take_at (y ∷ ys) zero = refl
 take_at (y ∷ ys) (suc i) = ap (λ xs. y ∷ xs) (take_at ys i)
-
-pub at_first : (ids added : List ℕ) (i : ℕ) → i < length ids → ids_at (ids ++ added) i ≡ ids_at ids i
-at_first [] added i h = absurd (omega (arith, h))
-at_first (y ∷ ys) added zero h = refl
-at_first (y ∷ ys) added (suc i) h = at_first ys added i (omega (arith, h))

@@ -1,9 +1,8 @@
 -- The counts of some keys, taken anew.
-use Rattle.std.proofs.Common.{◌≡◌, ◌==◌, ◌||◌, ℕ, Bool, true, false, cond, List, [], ◌∷◌, ◌++◌, Option, Some, None, option_and_then, is_some, refl, sym, ap, ◌∙◌}
+use Rattle.std.proofs.Common.{◌≡◌, ◌==◌, ◌||◌, ℕ, Bool, true, false, cond, List, [], ◌∷◌, ◌++◌, Option, Some, None, option_and_then, refl, sym, ap, ◌∙◌}
 use Rattle.std.specs.FinMap as map
-use Rattle.std.specs.FinMap.{contains_key, get-empty, get-insert, get-remove, nat_cmp-IsAntisymmetric, same_map}
+use Rattle.std.specs.FinMap.{get-insert, get-remove, nat_cmp-IsAntisymmetric, same_map}
 use Rattle.std.specs.Cmp.{nat_cmp_total}
-use Rattle.std.specs.Ordering.{nat_cmp}
 use Rattle.std.proofs.lemmas.List.Folds.{list_any-append}
 use Rattle.wot_types.specs.declared.count.Count.{Count}
 use Rattle.wot_types.specs.declared.key.Key.{Key}
@@ -15,7 +14,7 @@ use Rattle.wot_types.specs.Levels.{rows_of}
 use Rattle.wot_types.proofs.Frames.{issuers_of, key_counts_frame}
 use Rattle.wot_types.proofs.MapBy.{get-map_by}
 use Rattle.wot_types.proofs.Tests.{is_key, same_key}
-use Rattle.wot_live.specs.Counts.{AreCountedAt, CountMap, counts_of, counts_over, counts_rule, kept_counts, key_counts, with_counts}
+use Rattle.wot_live.specs.Counts.{AreCountedAt, CountMap, counts_of, counts_rule, kept_counts, key_counts, with_counts}
 use Rattle.wot_live.specs.Recounting.{IsBegun, IsCounted, among}
 use Rattle.wot_live.proofs.Stages.{certified_here}
 
@@ -49,16 +48,6 @@ module _ (keys : Keyring) (o : Options) (now : ℕ) (rows : RowMap) where
       either true false r d = refl
       either false true r d = refl
       either false false r d = refl
-
-  -- those of all keys
-  pub counted_all : (ids : List ℕ) (none new : CountMap) → none ≡ map.empty → ((x : ℕ) → among ids x ≡ contains_key keys x) → AreCountedAt keys o now rows ids none new → new ≡ counts_over keys o now rows
-  counted_all ids none new is all counted = same_map nat_cmp_total nat_cmp-IsAntisymmetric new (counts_over keys o now rows) (λ x.
-      counted x ∙ ap (λ b. cond b (counts_rule keys o now rows x) (map.get none x)) (all x)
-      ∙ elim (map.get keys x) as (λ k. cond (is_some k) (option_and_then (λ (key : Key). kept_counts (key_counts o now rows key)) k) (map.get none x) ≡ option_and_then (λ (key : Key). kept_counts (key_counts o now rows key)) k) [
-        | None ↦ ap (λ (m : CountMap). map.get m x) is ∙ get-empty nat_cmp x
-        | Some key ↦ refl
-      ]
-      ∙ sym (get-map_by (λ _ key. kept_counts (key_counts o now rows key)) keys x))
 
 -- ---- the counts of the new state
 

@@ -15,15 +15,14 @@ use Rattle.wot_types.specs.declared.row.Row.{Row}
 use Rattle.wot_types.specs.State.{State}
 use Rattle.wot_types.specs.Candidates.{RowMap}
 use Rattle.wot_types.specs.Explanation.{KeySet}
-use Rattle.wot_types.specs.Levels.{first_row, kept_or, new_row, rows_of, rows_upto}
+use Rattle.wot_types.specs.Levels.{first_row, kept_or, new_row, rows_of}
 use Rattle.wot_types.specs.Indexes.{has_cert_by, key_issuers}
 use Rattle.wot_types.specs.Touched.{is_certified_at, is_certified_by, is_touched, row_differs}
 use Rattle.wot_types.proofs.Frames.{certified_by_one, first_row_frame, issuers_of, new_row_frame}
 use Rattle.wot_types.proofs.SameRows.{decide_standing, standings_differ}
 use Rattle.wot_types.proofs.Tests.{is_key}
 use Rattle.wot_levels.specs.Given.{given_row, row_at_level, rows_below}
-use Rattle.wot_levels.proofs.Settled.{settled}
-use Rattle.wot_live.specs.Recounting.{IsAlike, IsLow, IsRecounted, IsStage, IsTouchedList, among, kept_above, recounted, row_below, rows_before}
+use Rattle.wot_live.specs.Recounting.{IsAlike, IsRecounted, IsStage, IsTouchedList, among, kept_above, recounted, row_below, rows_before}
 use Rattle.wot_live.proofs.Befores.{before_below_itself, get_below, get_step, high_goes, level_given, low_stays, no_key_before, of_final, restricted}
 
 -- ---- one key at one level
@@ -35,10 +34,10 @@ at_level : (n : ℕ) (o : Option Row) → IsGiven n o → row_below (suc n) o �
 at_level n None h = refl
 at_level n (Some row) h = low_stays (suc n) (Some row) (omega (arith, h))
 
-not_low : (n : ℕ) (old : Row) → nat_lt old.level n ≡ false → n ≤ old.level
+pub not_low : (n : ℕ) (old : Row) → nat_lt old.level n ≡ false → n ≤ old.level
 not_low n old h = grind (arith, nat_tests)
 
-is_low : (n : ℕ) (old : Row) → nat_lt old.level n ≡ true → old.level < n
+pub is_low : (n : ℕ) (old : Row) → nat_lt old.level n ≡ true → old.level < n
 is_low n old h = grind (arith, nat_tests)
 
 above : (n : ℕ) (old : Row) → nat_lt old.level n ≡ false → (old.level == n) ≡ false → suc n ≤ old.level
@@ -72,7 +71,7 @@ lower_stays n (Some old) new given = elim (nat_lt old.level n) as (λ b. nat_lt 
     ]
 
 -- where a recount changes a row, the rows up to the level differ
-changes_here : (n : ℕ) (old new : Option Row) → IsGiven n new → (recounted n old new ≡ old) ⊎ (row_below (suc n) (recounted n old new) ≢ row_below (suc n) old)
+pub changes_here : (n : ℕ) (old new : Option Row) → IsGiven n new → (recounted n old new ≡ old) ⊎ (row_below (suc n) (recounted n old new) ≢ row_below (suc n) old)
 changes_here n None None given = inl refl
 changes_here n None (Some new) given = inr (λ e. apart (sym (at_level n (Some new) given) ∙ e))
   where
@@ -118,6 +117,39 @@ right_below t n rows h = same_map nat_cmp_total nat_cmp-IsAntisymmetric _ _ (λ 
 
 pub certified_here : (t : State) (x y : ℕ) (key : Key) → finmap.get t.keys x ≡ Some key → issuers_of key y ≡ true → has_cert_by t.keys y x ≡ true
 certified_here t x y key is its = ap (λ o. option_map_or (λ key. list_any (λ n. n == y) (key_issuers key)) o false) is ∙ its
+
+-- the kept rows of lower levels are those of the state
+module _ (t : State) (n : ℕ) (rows : RowMap) (below : (x : ℕ) → row_below n (finmap.get rows x) ≡ finmap.get (rows_before t n) x) where
+  -- what the level gives a key that is recounted
+  step_of : (x : ℕ) → finmap.get (rows_before t (suc n)) x ≡ option_and_then (λ key. kept_or (finmap.get (rows_before t n) x) (row_at_level t rows n x key)) (finmap.get t.keys x)
+  step_of x = get_step t n rows x (right_below t n rows below)
+
+  had_key : (x : ℕ) (row : Row) → finmap.get (rows_before t n) x ≡ Some row → option_and_then {U = Row} (λ (key : Key). Some row) (finmap.get t.keys x) ≡ Some row
+  had_key x row is = elim (finmap.get t.keys x) as (λ o. finmap.get t.keys x ≡ o → option_and_then {U = Row} (λ (key : Key). Some row) o ≡ Some row) [
+    | None ↦ λ none. absurd (there (sym is ∙ no_key_before t n x none))
+    | Some key ↦ λ _. refl
+  ] refl
+    where
+      there : Some row ≡ None → ⊥
+      there e = cc
+
+  pub counted_is : (x : ℕ) (old : Option Row) → finmap.get rows x ≡ old → row_below (suc n) (recounted n old (given_row t rows n x)) ≡ finmap.get (rows_before t (suc n)) x
+  counted_is x None is =
+      let none = sym (below x) ∙ ap (row_below n) is in
+      at_level n (given_row t rows n x) (level_given t rows n x)
+      ∙ sym (step_of x ∙ ap (λ r. option_and_then (λ key. kept_or r (row_at_level t rows n x key)) (finmap.get t.keys x)) none)
+  counted_is x (Some old) is =
+      elim (nat_lt old.level n) as (λ b. nat_lt old.level n ≡ b → row_below (suc n) (cond b (Some old) (kept_above n old (given_row t rows n x))) ≡ finmap.get (rows_before t (suc n)) x) [
+        | true ↦ λ low.
+            let there = sym (below x) ∙ ap (row_below n) is ∙ low_stays n (Some old) (is_low n old low) in
+            let less = is_low n old low in
+            low_stays (suc n) (Some old) (omega (arith, less))
+            ∙ sym (step_of x ∙ ap (λ r. option_and_then (λ key. kept_or r (row_at_level t rows n x key)) (finmap.get t.keys x)) there ∙ had_key x old there)
+        | false ↦ λ high.
+            let none = sym (below x) ∙ ap (row_below n) is ∙ high_goes n (Some old) (not_low n old high) in
+            counted_here n old (given_row t rows n x) (level_given t rows n x) high
+            ∙ sym (step_of x ∙ ap (λ r. option_and_then (λ key. kept_or r (row_at_level t rows n x key)) (finmap.get t.keys x)) none)
+      ] refl
 
 module _ (s t : State) (options : s.options ≡ t.options) (start : List ℕ) (alike_but : (x : ℕ) → among start x ≡ false → IsAlike s t x) (some : 1 ≤ t.options.depth) where
   old_depth : (n : ℕ) → n ≤ t.options.depth → n ≤ s.options.depth
@@ -165,40 +197,9 @@ module _ (s t : State) (options : s.options ≡ t.options) (start : List ℕ) (a
     untouched : (x : ℕ) → among todo x ≡ false → finmap.get new x ≡ finmap.get (rows_of s) x
     untouched x out = pass.others x out ∙ stage.kept x out
 
-    -- what the level gives a key that is recounted
-    step_of : (x : ℕ) → finmap.get (rows_before t (suc n)) x ≡ option_and_then (λ key. kept_or (finmap.get (rows_before t n) x) (row_at_level t rows n x key)) (finmap.get t.keys x)
-    step_of x = get_step t n rows x (right_below t n rows stage.below)
-
-    had_key : (x : ℕ) (row : Row) → finmap.get (rows_before t n) x ≡ Some row → option_and_then {U = Row} (λ (key : Key). Some row) (finmap.get t.keys x) ≡ Some row
-    had_key x row is = elim (finmap.get t.keys x) as (λ o. finmap.get t.keys x ≡ o → option_and_then {U = Row} (λ (key : Key). Some row) o ≡ Some row) [
-      | None ↦ λ none. absurd (there (sym is ∙ no_key_before t n x none))
-      | Some key ↦ λ _. refl
-    ] refl
-      where
-        there : Some row ≡ None → ⊥
-        there e = cc
-
-    counted_is : (x : ℕ) (old : Option Row) → finmap.get rows x ≡ old → row_below (suc n) (recounted n old (given_row t rows n x)) ≡ finmap.get (rows_before t (suc n)) x
-    counted_is x None is =
-        let none = sym (stage.below x) ∙ ap (row_below n) is in
-        at_level n (given_row t rows n x) (level_given t rows n x)
-        ∙ sym (step_of x ∙ ap (λ r. option_and_then (λ key. kept_or r (row_at_level t rows n x key)) (finmap.get t.keys x)) none)
-    counted_is x (Some old) is =
-        elim (nat_lt old.level n) as (λ b. nat_lt old.level n ≡ b → row_below (suc n) (cond b (Some old) (kept_above n old (given_row t rows n x))) ≡ finmap.get (rows_before t (suc n)) x) [
-          | true ↦ λ low.
-              let there = sym (stage.below x) ∙ ap (row_below n) is ∙ low_stays n (Some old) (is_low n old low) in
-              let less = is_low n old low in
-              low_stays (suc n) (Some old) (omega (arith, less))
-              ∙ sym (step_of x ∙ ap (λ r. option_and_then (λ key. kept_or r (row_at_level t rows n x key)) (finmap.get t.keys x)) there ∙ had_key x old there)
-          | false ↦ λ high.
-              let none = sym (stage.below x) ∙ ap (row_below n) is ∙ high_goes n (Some old) (not_low n old high) in
-              counted_here n old (given_row t rows n x) (level_given t rows n x) high
-              ∙ sym (step_of x ∙ ap (λ r. option_and_then (λ key. kept_or r (row_at_level t rows n x key)) (finmap.get t.keys x)) none)
-        ] refl
-
     next_below : (x : ℕ) → row_below (suc n) (finmap.get new x) ≡ finmap.get (rows_before t (suc n)) x
     next_below x = elim (among todo x) as (λ b. among todo x ≡ b → row_below (suc n) (finmap.get new x) ≡ finmap.get (rows_before t (suc n)) x) [
-      | true ↦ λ its. ap (row_below (suc n)) (pass.counted x its) ∙ counted_is x (finmap.get rows x) refl
+      | true ↦ λ its. ap (row_below (suc n)) (pass.counted x its) ∙ counted_is t n rows stage.below x (finmap.get rows x) refl
       | false ↦ λ out.
           let before = sym (before_of n x low_within) ∙ sym (ap (row_below n) (stage.kept x out)) ∙ stage.below x in
           ap (row_below (suc n)) (untouched x out) ∙ before_of (suc n) x within
@@ -279,6 +280,10 @@ module _ (s t : State) (options : s.options ≡ t.options) (start : List ℕ) (a
 
 -- ---- the last level
 
+-- no kept row is of a higher level
+abbrev pub IsLow : ℕ → RowMap → Type 0
+IsLow top rows = (x : ℕ) → IfSome (finmap.get rows x) (λ row. row.level ≤ top)
+
 low_all : (n : ℕ) (o : Option Row) (top : ℕ) → top < n → IfSome o (λ row. row.level ≤ top) → row_below n o ≡ o
 low_all n None top h low = refl
 low_all n (Some row) top h low = low_stays n (Some row) (omega (arith, h, low))
@@ -292,27 +297,6 @@ module _ (s t : State) (some : 1 ≤ t.options.depth) (n : ℕ) (rows : RowMap) 
   final_at_the_end e h =
       let last : n ≡ suc (t.options.depth - 1) = omega (arith, e, some) in
       all_below h ∙ ap (rows_before t) last
-
-  one_before : (m : ℕ) → n ≡ suc m → top < m → rows ≡ rows_before t m
-  one_before m e h = same_map nat_cmp_total nat_cmp-IsAntisymmetric _ _ (λ x.
-      let more : m + 1 ≡ n = omega (arith, e) in
-      sym (low_all m (finmap.get rows x) top h (low x))
-      ∙ ap (λ r. row_below m (finmap.get r x)) (all_below (omega (arith, h, e)))
-      ∙ restricted t m 1 n x more)
-
-  settles : (j : ℕ) → n ≡ suc (suc j) → top < suc j → suc (suc j) ≤ t.options.depth → rows ≡ rows_of t
-  unfolding rows_upto
-  settles j e h within =
-      let below : rows ≡ rows_upto t j = one_before (suc j) e h in
-      let here : rows ≡ rows_upto t (suc j) = all_below (omega (arith, h, e)) ∙ ap (rows_before t) e in
-      let first : suc j - 1 ≡ j = omega arith in
-      here ∙ settled t (suc j) (t.options.depth - 1) (rows_upto t j) (rows_upto t (suc j)) (sym (ap (rows_upto t) first)) (omega (arith, within)) refl (ap finmap.len (sym here ∙ below))
-
-  -- a level that would have no row is the end: no later one has any
-  pub final_when_settled : n ≤ t.options.depth → top + 2 ≤ n → rows ≡ rows_of t
-  final_when_settled within h =
-      let far : n ≡ suc (suc (n - 2)) = omega (arith, h) in
-      settles (n - 2) far (omega (arith, h)) (omega (arith, within, h))
 
   -- the issuers of a key that wasn't recounted have their old rows
   pub issuers_alike : rows ≡ rows_of t → (x y : ℕ) → among todo x ≡ false → has_cert_by t.keys y x ≡ true → finmap.get (rows_of s) y ≡ finmap.get (rows_of t) y

@@ -1,5 +1,5 @@
 -- How the rows of a state become those of the state after an edit: level by level, and only of the keys that may have changed.
-use Rattle.std.specs.Prelude.{◌≡◌, ◌≢◌, ◌≤◌, ◌⊎◌, ℕ, zero, suc, Bool, true, false, ◌==◌, nat_lt, List, [], ◌∷◌, ◌++◌, slice_get, option_to_list, if◌then◌else◌, Option, Some, None, option_and_then, IfSome}
+use Rattle.std.specs.Prelude.{◌≡◌, ◌≢◌, ◌⊎◌, ℕ, zero, suc, Bool, true, false, ◌==◌, nat_lt, List, [], ◌∷◌, ◌++◌, slice_get, option_to_list, if◌then◌else◌, Option, Some, None, option_and_then}
 use Rattle.std.specs.FinMap as map
 use Rattle.std.specs.List.{AllByRecursion, list_any}
 use Rattle.wot_types.specs.declared.key.Key.{Key}
@@ -61,10 +61,6 @@ pub record IsStage (s t : State) (n : ℕ) (rows : RowMap) (todo : List ℕ) : T
   pub kept : (x : ℕ) → among todo x ≡ false → map.get rows x ≡ map.get (rows_of s) x
   pub first : (y : ℕ) → (map.get rows y ≡ map.get (rows_of s) y) ⊎ (map.get (rows_before s n) y ≢ map.get (rows_before t n) y)
   pub reach : (x y : ℕ) → among todo x ≡ false → has_cert_by t.keys y x ≡ true → map.get (rows_before s n) y ≡ map.get (rows_before t n) y
-
--- no kept row is of a higher level
-abbrev pub IsLow : ℕ → RowMap → Type 0
-IsLow top rows = (x : ℕ) → IfSome (map.get rows x) (λ row. row.level ≤ top)
 
 abbrev pub IsTouchedList : KeySet → State → State → List ℕ → Type 0
 IsTouchedList names s t todo = (x : ℕ) → among todo x ≡ true → is_touched names s t x ≡ true

@@ -13,36 +13,12 @@ use crate::worklist::Worklist;
 use wot_table::Table;
 use wot_types::{Entries, Entry, Fpr, KeyId, Keys, Mem};
 
-fn add_all(list: Worklist, ids: &[KeyId]) -> Result<Worklist, Mem>
-    ensures { IfOk result (λ new. (x : ℕ) → among new x ≡ (among list x || among ids.now x)) }
-{
-    let mut list = list;
-    for id in ids {
-        list = list.add(*id)?;
-    }
-    Ok(list)
-}
-
 /// The keys with an expiry on them that one of the two dates has passed and the other hasn't.
 pub fn named_by_date(list: Worklist, table: &Table, from: u32, to: u32) -> Result<Worklist, Mem>
     ensures { IfOk result (λ new. (x : ℕ) → among new x ≡ (among list x || option_map_or (λ key. list_any (is_passed_between from to) (key_expiries key)) (finmap.get table.now x) false)) }
 {
     let ids = table.expiring(from.min(to), from.max(to))?;
-    add_all(list, &ids)
-}
-
-/// All keys.
-pub fn named_by_options(table: &Table) -> Result<Worklist, Mem>
-    ensures { IfOk result (λ new. (x : ℕ) → among new x ≡ finmap.contains_key table.now x) }
-{
-    let mut list = Worklist::new(table.alloc());
-    let mut after = None;
-    while let Some(id) = table.next_key(after) {
-        let _ = id.0;
-        list = list.add(id)?;
-        after = Some(id);
-    }
-    Ok(list)
+    list.add_all(&ids)
 }
 
 fn add_keys(list: Worklist, keys: &Keys) -> Result<Worklist, Mem>

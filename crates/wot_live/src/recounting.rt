@@ -1,163 +1,174 @@
 //! The rows that an edit changes, level by level.
 
-ghost use Rattle.std.specs.Prelude.{◌≡◌, ◌≤◌, ◌<◌, ◌+◌, ◌*◌, ℕ, [], ◌∷◌, nat_eq, IfOk, IfSome};
+ghost use Rattle.std.specs.Prelude.{◌≡◌, ◌≤◌, ◌+◌, ◌*◌, ℕ, true, List, [], ◌∷◌, nat_eq, take, IfOk};
 ghost use Rattle.std.specs.List.{IsDistinct};
-ghost use Rattle.std.specs.Option.{option_copied};
 ghost use Rattle.wot_types.specs.State.{State};
 ghost use Rattle.wot_types.specs.Explanation.{KeySet};
 ghost use Rattle.wot_types.specs.Keyring.{certs_at};
 ghost use Rattle.wot_types.specs.Payload.{IsInRange};
 ghost use Rattle.wot_types.specs.Touched.{certs_on, is_touched};
-ghost use Rattle.wot_levels.specs.Given.{state_of};
-ghost use Rattle.wot_live.specs.Recounting.{IsBegun, IsCounted, IsLow, IsRecounted, IsTouchedList, IsWhole, ids_at};
 ghost use Rattle.wot_levels.specs.Frontier.{weight};
+ghost use Rattle.wot_levels.specs.Given.{state_of};
+ghost use Rattle.wot_live.specs.Agenda.{AreDue, IsWithin, due_at, is_due};
+ghost use Rattle.wot_live.specs.Recounting.{IsBegun, IsCounted, IsRecounted, IsTouchedList, ids_at};
 
+use crate::agenda::{Agenda, Due, each_once};
 use crate::changed_row::recount_row;
-use crate::worklist::Worklist;
+use crate::planning::plan;
+use crate::worklist::{Worklist, certified_by};
 use std::sync::ledger::Ledger;
-use wot_levels::rows;
 use wot_table::Table;
-use wot_types::{KeyId, Mem, Options, Row, Rows, Steps, Trusts};
+use wot_types::{KeyId, List, Mem, Options, Rows, Steps, Trusts};
 
 /// Rows while they are recounted, and the keys to be recounted, which only grow.
 #[derive(Drop)]
 pub struct Recount {
     pub rows: Rows,
     pub todo: Worklist,
-    /// Whether all keys are listed, so that all rows are counted.
-    pub whole: bool,
-    /// No row is of a higher level.
-    pub top: u8,
 }
 
-/// Recounts one key; where its row changes, those that it certified are to be recounted too.
+/// The same between two levels, with the levels at which the listed keys are due.
+#[derive(Drop)]
+struct Course {
+    rows: Rows,
+    todo: Worklist,
+    agenda: Agenda,
+}
+
+/// Plans the listed keys, of which so many are planned already.
+fn with_plan<L: Ledger>(
+    table: &Table,
+    course: Course,
+    planned: usize,
+    level: u8,
+    steps: &mut Steps<L>,
+) -> Result<Course, Mem>
+    requires due { AreDue table.now course.rows level (take planned course.todo) course.agenda }
+    requires within { IsWithin course.todo course.agenda }
+    ensures rows { IfOk result (λ new. new.rows ≡ course.rows) }
+    ensures todo { IfOk result (λ new. new.todo ≡ course.todo) }
+    ensures due { IfOk result (λ new. AreDue table.now new.rows level new.todo new.agenda) }
+    ensures within { IfOk result (λ new. IsWithin new.todo new.agenda) }
+    ensures distinct { IsDistinct nat_eq course.todo }
+    ensures ticks { steps.new + weight table.now (take planned course.todo) ≤ steps.old + weight table.now course.todo }
+{
+    let Course { rows, todo, agenda } = course;
+    let agenda = plan(table, &rows, &todo, agenda, planned, level, steps)?;
+    Ok(Course { rows, todo, agenda })
+}
+
+/// Recounts one key; where its row changes, those that it certified are to be recounted too, and are due at the next level.
 fn recount_key<L: Ledger>(
     table: &Table,
     trusts: &Trusts,
     now: u32,
     options: &Options,
-    found: Recount,
+    course: Course,
     id: KeyId,
     level: u8,
     steps: &mut Steps<L>,
-) -> Result<Recount, Mem>
+) -> Result<Course, Mem>
     requires level { options.now.level ≤ 3 }
-    ensures step { IfOk result (λ new. IsRecounted (state_of table.now trusts.now now options.now) level (id ∷ []) found.rows found.todo new.rows new.todo) }
-    ensures low { IfOk result (λ new. IsLow found.top found.rows → IsLow new.top new.rows) }
-    ensures top { IfOk result (λ new. (most : ℕ) → found.top ≤ most → level ≤ most → new.top ≤ most) }
+    ensures step { IfOk result (λ new. IsRecounted (state_of table.now trusts.now now options.now) level (id ∷ []) course.rows course.todo new.rows new.todo) }
+    ensures due { IfOk result (λ new. (ids : List ℕ) → AreDue table.now course.rows (level + 1) ids course.agenda → AreDue table.now new.rows (level + 1) ids new.agenda) }
+    ensures within { IfOk result (λ new. IsWithin course.todo course.agenda → IsWithin new.todo new.agenda) }
     ensures ticks { steps.new ≤ steps.old + certs_at table.now id }
+    ensures unread { level ≡ 0 → steps.new ≡ steps.old }
 {
-    let Recount {
-        rows,
-        todo,
-        whole,
-        top,
-    } = found;
+    let Course { rows, todo, agenda } = course;
     let new = recount_row(table, trusts, now, options, rows, id, level, steps)?;
     if !new.changed {
-        return Ok(Recount {
+        return Ok(Course {
             rows: new.rows,
             todo,
-            whole,
-            top,
+            agenda,
         });
     }
-    Ok(Recount {
+    let ids = certified_by(table, id)?;
+    Ok(Course {
         rows: new.rows,
-        todo: todo.add_certified(table, id)?,
-        whole,
-        top: top.max(level),
+        todo: todo.add_all(&ids)?,
+        agenda: agenda.add_all(table.alloc(), level as u16 + 1, &ids)?,
     })
 }
 
-/// Recounts the key at this place of the list.
+/// Recounts the key at this place of a list.
 fn recount_place<L: Ledger>(
     table: &Table,
     trusts: &Trusts,
     now: u32,
     options: &Options,
-    found: Recount,
+    course: Course,
+    ids: &List<KeyId>,
     i: usize,
     level: u8,
     steps: &mut Steps<L>,
-) -> Result<Recount, Mem>
+) -> Result<Course, Mem>
     requires level { options.now.level ≤ 3 }
-    ensures step { IfOk result (λ new. IsRecounted (state_of table.now trusts.now now options.now) level (ids_at found.todo i) found.rows found.todo new.rows new.todo) }
-    ensures low { IfOk result (λ new. IsLow found.top found.rows → IsLow new.top new.rows) }
-    ensures top { IfOk result (λ new. (most : ℕ) → found.top ≤ most → level ≤ most → new.top ≤ most) }
-    ensures ticks { steps.new ≤ steps.old + weight table.now (ids_at found.todo i) }
+    ensures step { IfOk result (λ new. IsRecounted (state_of table.now trusts.now now options.now) level (ids_at ids.now i) course.rows course.todo new.rows new.todo) }
+    ensures due { IfOk result (λ new. (ids : List ℕ) → AreDue table.now course.rows (level + 1) ids course.agenda → AreDue table.now new.rows (level + 1) ids new.agenda) }
+    ensures within { IfOk result (λ new. IsWithin course.todo course.agenda → IsWithin new.todo new.agenda) }
+    ensures ticks { steps.new ≤ steps.old + weight table.now (ids_at ids.now i) }
+    ensures unread { level ≡ 0 → steps.new ≡ steps.old }
 {
-    match found.todo.get(i) {
-        Some(id) => recount_key(table, trusts, now, options, found, id, level, steps),
-        None => Ok(found),
+    match ids.get(i) {
+        Some(id) => recount_key(table, trusts, now, options, course, *id, level, steps),
+        None => Ok(course),
     }
 }
 
-/// Recounts at a level the keys that are listed when it begins.
+/// Recounts these keys at a level.
+fn recount_all<L: Ledger>(
+    table: &Table,
+    trusts: &Trusts,
+    now: u32,
+    options: &Options,
+    course: Course,
+    ids: &List<KeyId>,
+    level: u8,
+    steps: &mut Steps<L>,
+) -> Result<Course, Mem>
+    requires level { options.now.level ≤ 3 }
+    requires distinct { IsDistinct nat_eq ids.now }
+    ensures pass { IfOk result (λ new. IsRecounted (state_of table.now trusts.now now options.now) level ids.now course.rows course.todo new.rows new.todo) }
+    ensures due { IfOk result (λ new. (ids : List ℕ) → AreDue table.now course.rows (level + 1) ids course.agenda → AreDue table.now new.rows (level + 1) ids new.agenda) }
+    ensures within { IfOk result (λ new. IsWithin course.todo course.agenda → IsWithin new.todo new.agenda) }
+    ensures ticks { steps.new ≤ steps.old + weight table.now ids.now }
+    ensures unread { level ≡ 0 → steps.new ≡ steps.old }
+{
+    let mut course = course;
+    let count = ids.len();
+    for i in 0..count {
+        course = recount_place(table, trusts, now, options, course, ids, i, level, steps)?;
+    }
+    Ok(course)
+}
+
+/// Recounts the keys that are due at a level.
 fn recount_level<L: Ledger>(
     table: &Table,
     trusts: &Trusts,
     now: u32,
     options: &Options,
-    found: Recount,
+    course: Course,
     level: u8,
     steps: &mut Steps<L>,
-) -> Result<Recount, Mem>
+) -> Result<Course, Mem>
     requires level { options.now.level ≤ 3 }
-    ensures pass { IfOk result (λ new. IsRecounted (state_of table.now trusts.now now options.now) level found.todo found.rows found.todo new.rows new.todo) }
-    ensures low { IfOk result (λ new. IsLow found.top found.rows → IsLow new.top new.rows) }
-    ensures top { IfOk result (λ new. (most : ℕ) → found.top ≤ most → level ≤ most → new.top ≤ most) }
-    ensures distinct { IsDistinct nat_eq found.todo }
-    ensures ticks { steps.new ≤ steps.old + weight table.now found.todo }
+    ensures pass { IfOk result (λ new. IsRecounted (state_of table.now trusts.now now options.now) level (due_at course.agenda level) course.rows course.todo new.rows new.todo) }
+    ensures due { IfOk result (λ new. (ids : List ℕ) → AreDue table.now course.rows level ids course.agenda → AreDue table.now new.rows (level + 1) ids new.agenda) }
+    ensures within { IfOk result (λ new. IsWithin course.todo course.agenda → IsWithin new.todo new.agenda) }
+    ensures ticks { (set : KeySet) → ((x : ℕ) → is_due course.agenda level x ≡ true → set x ≡ true) → steps.new ≤ steps.old + certs_on set table.now }
+    ensures unread { level ≡ 0 → steps.new ≡ steps.old }
 {
-    let mut found = found;
-    let count = found.todo.len();
-    for i in 0..count {
-        found = recount_place(table, trusts, now, options, found, i, level, steps)?;
-    }
-    Ok(found)
+    let Course { rows, todo, agenda } = course;
+    let Due { agenda, ids } = agenda.take(table.alloc(), level as u16);
+    let ids = each_once(ids);
+    let course = Course { rows, todo, agenda };
+    recount_all(table, trusts, now, options, course, &ids, level, steps)
 }
 
-/// The highest level of a row, and no less than 0.
-fn highest(rows: &Rows) -> u8
-    ensures { IsLow result rows.now }
-{
-    let mut top = 0;
-    let mut after = None;
-    while let Some(id) = rows.next(after) {
-        let _ = id.0;
-        top = higher(top, rows.get(id));
-        after = Some(id);
-    }
-    top
-}
-
-/// The higher one of a level and that of a row.
-fn higher(level: u8, row: Option<&Row>) -> u8
-    ensures level { level ≤ result }
-    ensures row { IfSome (option_copied row.entry) (λ r. r.level ≤ result) }
-{
-    match row {
-        None => level,
-        Some(row) => level.max(row.level),
-    }
-}
-
-/// Every eighth level the rows are looked at for their highest level, where that costs no more than the levels since then.
-fn measured(found: Recount, level: u8) -> Recount
-    ensures rows { result.rows ≡ found.rows }
-    ensures todo { result.todo ≡ found.todo }
-    ensures low { IsLow found.top found.rows → IsLow result.top result.rows }
-    ensures top { result.top ≤ found.top }
-{
-    if level % 8 != 2 || found.todo.len() < found.rows.len() / 8 {
-        return found;
-    }
-    let top = highest(&found.rows).min(found.top);
-    Recount { top, ..found }
-}
-
-/// Recounts the listed keys, and all whose certifiers' rows change, at one level after the other; where all keys are listed, the rows are counted anew.
+/// Recounts the listed keys, and all whose certifiers' rows change, at one level after the other.
 pub fn recount_levels<L: Ledger>(
     table: &Table,
     trusts: &Trusts,
@@ -167,9 +178,6 @@ pub fn recount_levels<L: Ledger>(
     steps: &mut Steps<L>,
 ) -> Result<Recount, Mem>
     requires ranges { IsInRange options.now }
-    requires whole { IsWhole table.now found.whole found.todo }
-    requires low { IsLow found.top found.rows }
-    requires top { found.top < options.now.depth }
     ensures counted { IfOk result (λ new. (s : State) → IsBegun s (state_of table.now trusts.now now options.now) found.rows found.todo
         → IsCounted s (state_of table.now trusts.now now options.now) found.todo new.rows new.todo) }
     ensures touched { IfOk result (λ new. (s : State) (named : KeySet) → IsBegun s (state_of table.now trusts.now now options.now) found.rows found.todo
@@ -178,18 +186,15 @@ pub fn recount_levels<L: Ledger>(
         → IsTouchedList named s (state_of table.now trusts.now now options.now) found.todo
         → steps.new ≤ steps.old + options.now.depth * certs_on (is_touched named s (state_of table.now trusts.now now options.now)) table.now }
 {
-    if found.whole {
-        let rows = rows(table, trusts, now, options, steps)?;
-        return Ok(Recount { rows, ..found });
-    }
-    let mut found = found;
+    let Recount { rows, todo } = found;
+    let agenda = Agenda::new(table.alloc());
+    let mut course = Course { rows, todo, agenda };
+    let mut planned = 0;
     for level in 0..options.depth {
-        found = measured(found, level);
-        // A level that had no rows is the last: no later one has any.
-        if level >= 2 && found.top <= level - 2 {
-            return Ok(found);
-        }
-        found = recount_level(table, trusts, now, options, found, level, steps)?;
+        course = with_plan(table, course, planned, level, steps)?;
+        planned = course.todo.len();
+        course = recount_level(table, trusts, now, options, course, level, steps)?;
     }
-    Ok(found)
+    let Course { rows, todo, .. } = course;
+    Ok(Recount { rows, todo })
 }

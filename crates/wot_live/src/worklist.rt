@@ -1,9 +1,9 @@
 //! The keys that are to be recounted.
 
-ghost use Rattle.std.specs.Prelude.{◌≡◌, [], nat_eq, slice_get, length, IfOk};
+ghost use Rattle.std.specs.Prelude.{◌≡◌, ℕ, [], nat_eq, slice_get, length, IfOk};
 ghost use Rattle.std.specs.List.{IsDistinct};
 ghost use Rattle.wot_types.specs.Indexes.{has_cert_by};
-ghost use Rattle.wot_live.specs.Recounting.{IsGrownBy, IsWhole, with_id};
+ghost use Rattle.wot_live.specs.Recounting.{IsGrownBy, IsWhole, among, with_id};
 
 use std::alloc::Global;
 use std::collections::BTreeSet;
@@ -87,17 +87,28 @@ impl Worklist {
         true
     }
 
-    /// Adds the keys that an issuer certified.
-    pub fn add_certified(self, table: &Table, issuer: KeyId) -> Result<Worklist, Mem>
-        ensures { IfOk result (IsGrownBy (has_cert_by table.now issuer) self) }
+    /// Adds those of these keys that aren't there.
+    pub fn add_all(self, ids: &[KeyId]) -> Result<Worklist, Mem>
+        ensures { IfOk result (IsGrownBy (among ids.now) self) }
     {
         let mut list = self;
-        let mut after = None;
-        while let Some(id) = table.signed_by(issuer, after) {
-            let _ = id.0;
-            list = list.add(id)?;
-            after = Some(id);
+        for id in ids {
+            list = list.add(*id)?;
         }
         Ok(list)
     }
+}
+
+/// The keys that an issuer certified.
+pub fn certified_by(table: &Table, issuer: KeyId) -> Result<Vec<KeyId>, Mem>
+    ensures { IfOk result (λ ids. (x : ℕ) → among ids.items x ≡ has_cert_by table.now issuer x) }
+{
+    let mut ids = Vec::new(table.alloc());
+    let mut after = None;
+    while let Some(id) = table.signed_by(issuer, after) {
+        let _ = id.0;
+        ids.push(id)?;
+        after = Some(id);
+    }
+    Ok(ids)
 }

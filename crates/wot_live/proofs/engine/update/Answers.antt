@@ -1,18 +1,16 @@
-use Rattle.std.proofs.Common.{ap, arith}
-use Rattle.wot_types.specs.declared.options.Options.{Options}
+use Rattle.std.proofs.Common.{◌+◌, ◌*◌, ◌≤◌, sym, subst, arith}
 use Rattle.wot_types.specs.Touched.{certs_on, is_touched}
 use Rattle.wot_levels.specs.Given.{state_of}
-use Rattle.wot_live.proofs.EditLemmas.{low_of}
 use Rattle.wot_live.proofs.Recounts.{counts_final}
 use Rattle.wot_live.proofs.Rounds.{once_more}
-use Rattle.wot_live.proofs.Weights.{weight_within}
+use Rattle.wot_live.proofs.Weights.{all_within, weight_within}
 use Rattle.wot_live.proofs.engine.update.Goals as goal
 
-pub recount_levels-requires-clause-low : goal.recount_levels-requires-clause-low
-recount_levels-requires-clause-low g c =
-    let begun = c.requires.pending.begun.1 in
-    let depth = ap (λ (o : Options). o.depth) begun.options in
-    low_of c.requires.pending.begun.0 c.args.rows _ begun.rows (omega (arith, depth))
+pub returns-then-is_whole-clause-ticks : goal.returns-then-is_whole-clause-ticks
+returns-then-is_whole-clause-ticks g c = λ s named begun h.
+    let t = state_of c.args.table c.args.trusts c.args.date c.args.options in
+    let all = all_within (is_touched named s t) c.args.table (λ x there. h x (c.is_whole.ensures c.if-is_whole.true x there)) in
+    subst (λ n. c.count_anew.new.steps ≤ c.args.steps.now + (c.args.options.depth + 1) * n) (sym all) c.count_anew.ensures.ticks
 
 pub returns-in_err-counts-clause-ticks : goal.returns-in_err-counts-clause-ticks
 returns-in_err-counts-clause-ticks g c = λ s named begun h.

@@ -1,0 +1,277 @@
+-- A listed key that isn't due at a level keeps its row there.
+use Rattle.std.proofs.Common.{◌≡◌, ◌+◌, ◌≤◌, ◌==◌, ◌||◌, ◌⊎◌, inl, inr, ℕ, zero, suc, Bool, true, false, cond, nat_lt, unwrap_or, List, [], ◌++◌, Option, Some, None, IfSome, refl, sym, ap, subst, ◌∙◌, arith}
+use Rattle.std.specs.FinMap as map
+use Rattle.std.specs.FinMap.{get-insert, get-remove}
+use Rattle.std.specs.Cmp.{nat_cmp_total}
+use Rattle.std.proofs.lemmas.Bool.{false≢true, or_cases}
+use Rattle.std.proofs.lemmas.Bool.Decides.{nat_tests}
+use Rattle.std.proofs.lemmas.List.Folds.{list_any-append}
+use Rattle.std.proofs.Math.Bool.{or-true}
+use Rattle.wot_types.specs.declared.row.Row.{Row}
+use Rattle.wot_types.specs.State.{State}
+use Rattle.wot_types.specs.Candidates.{RowMap}
+use Rattle.wot_types.specs.Explanation.{KeySet}
+use Rattle.wot_types.specs.Indexes.{has_cert_by}
+use Rattle.wot_types.specs.Keyring.{Keyring}
+use Rattle.wot_types.specs.Levels.{rows_upto}
+use Rattle.wot_types.proofs.Tests.{is_key, same_key}
+use Rattle.wot_levels.specs.Given.{given_row}
+use Rattle.wot_levels.proofs.Frontiers.{passed_over}
+use Rattle.wot_live.specs.Agenda.{AgendaMap, AreDue, IsPutOff, IsQuiet, IsWithin, due_at, is_due, is_one_below}
+use Rattle.wot_live.specs.Recounting.{IsGrownBy, IsRecounted, among, has_level, kept_above, recounted, row_below, rows_before}
+use Rattle.wot_live.proofs.Befores.{high_goes, level_given, low_stays, lower_part, restricted}
+use Rattle.wot_live.proofs.Lists.{grown_same}
+use Rattle.wot_live.proofs.Stages.{IsGiven, among_first, changes_here, counted_is, is_low, not_low}
+
+-- ---- a row of another level
+
+abbrev IsOff : ℕ → Option Row → Type 0
+IsOff n o = IfSome o (λ row. (row.level == n) ≡ false)
+
+off_level : (n : ℕ) (o : Option Row) → has_level n o ≡ false → IsOff n o
+off_level n None h = tt
+off_level n (Some row) h = h
+
+off_below : (n : ℕ) (o : Option Row) → is_one_below (suc n) o ≡ false → IsOff n o
+off_below n None h = tt
+off_below n (Some row) h = grind (arith, nat_tests)
+
+-- it is among the rows up to this level where it is among those below it
+off_same : (n : ℕ) (o : Option Row) → IsOff n o → row_below (suc n) o ≡ row_below n o
+off_same n None off = refl
+off_same n (Some row) off = elim (nat_lt row.level n) as (λ b. nat_lt row.level n ≡ b → row_below (suc n) (Some row) ≡ row_below n (Some row)) [
+  | true ↦ λ low. let less = is_low n row low in low_stays (suc n) (Some row) (omega (arith, less)) ∙ sym (low_stays n (Some row) less)
+  | false ↦ λ high. high_goes (suc n) (Some row) (beyond high) ∙ sym (high_goes n (Some row) (not_low n row high))
+] refl
+  where
+    beyond : nat_lt row.level n ≡ false → suc n ≤ row.level
+    beyond high = grind (arith, nat_tests)
+
+-- ---- a key that is passed over
+
+module _ (t : State) (rows : RowMap) where
+  -- where no certifier has a row of the level before, all rows that count for the key counted then
+  certifiers_same : (k x : ℕ) → ((y : ℕ) → row_below (suc (suc k)) (map.get rows y) ≡ map.get (rows_before t (suc (suc k))) y) → IsQuiet t.keys rows (suc (suc k)) x
+      → (y : ℕ) → has_cert_by t.keys y x ≡ true → map.get (rows_upto t (suc k)) y ≡ map.get (rows_upto t k) y
+  certifiers_same k x below quiet y cert =
+      let one : suc k + 1 ≡ suc (suc k) = omega arith in
+      let less : suc k ≤ suc (suc k) = omega arith in
+      sym (below y)
+      ∙ off_same (suc k) (map.get rows y) (off_below (suc k) (map.get rows y) (quiet.certifiers y cert))
+      ∙ sym (lower_part (suc k) (suc (suc k)) (map.get rows y) less)
+      ∙ ap (row_below (suc k)) (below y)
+      ∙ restricted t (suc k) 1 (suc (suc k)) y one
+
+  pub quiet_stays : (n x : ℕ) → ((y : ℕ) → row_below n (map.get rows y) ≡ map.get (rows_before t n) y) → IsQuiet t.keys rows n x → recounted n (map.get rows x) (given_row t rows n x) ≡ map.get rows x
+  quiet_stays zero x below quiet = let late = quiet.late in absurd (omega (arith, late))
+  quiet_stays (suc zero) x below quiet = let late = quiet.late in absurd (omega (arith, late))
+  quiet_stays (suc (suc k)) x below quiet =
+      let n = suc (suc k) in
+      let over : map.get (rows_before t (suc n)) x ≡ map.get (rows_before t n) x = passed_over t k x (certifiers_same k x below quiet) in
+      elim (changes_here n (map.get rows x) (given_row t rows n x) (level_given t rows n x)) as (λ _. recounted n (map.get rows x) (given_row t rows n x) ≡ map.get rows x) [
+        | inl same ↦ same
+        | inr differs ↦ absurd (differs (counted_is t n rows below x (map.get rows x) refl ∙ over ∙ sym (below x) ∙ sym (off_same n (map.get rows x) (off_level n (map.get rows x) quiet.own))))
+      ]
+
+-- ---- one level
+
+-- where all others keep their rows, a recount of those that are due is one of all listed keys
+pub all_recounted : (t : State) (n : ℕ) (rows : RowMap) (todo : List ℕ) (agenda : AgendaMap) (new : RowMap) (more : List ℕ)
+    → ((y : ℕ) → row_below n (map.get rows y) ≡ map.get (rows_before t n) y) → AreDue t.keys rows n todo agenda → IsWithin todo agenda
+    → IsRecounted t n (due_at agenda n) rows todo new more → IsRecounted t n todo rows todo new more
+all_recounted t n rows todo agenda new more below due within pass = record {
+  counted = λ x its. elim (is_due agenda n x) as (λ b. is_due agenda n x ≡ b → map.get new x ≡ recounted n (map.get rows x) (given_row t rows n x)) [
+    | true ↦ λ here. pass.counted x here
+    | false ↦ λ later. pass.others x later ∙ sym (quiet_stays t rows n x below (due n x (itself n) its later))
+  ] refl;
+  others = λ x out. elim (is_due agenda n x) as (λ b. is_due agenda n x ≡ b → map.get new x ≡ map.get rows x) [
+    | true ↦ λ here. absurd (false≢true (sym out ∙ within n x here))
+    | false ↦ λ later. pass.others x later
+  ] refl;
+  longer = pass.longer;
+  reach = pass.reach;
+  only = pass.only;
+}
+  where
+    itself : (k : ℕ) → k ≤ k
+    itself k = omega arith
+
+-- ---- the keys of one level
+
+pub due_set : (agenda : AgendaMap) (n : ℕ) (ids : List ℕ) (m : ℕ) → due_at (map.insert agenda n ids) m ≡ cond (n == m) ids (due_at agenda m)
+due_set agenda n ids m =
+    ap (λ o. unwrap_or o []) (get-insert nat_cmp_total agenda n ids m ∙ ap (λ b. cond b (Some ids) (map.get agenda m)) (same_key m n))
+    ∙ elim (n == m) as (λ b. unwrap_or (cond b (Some ids) (map.get agenda m)) [] ≡ cond b ids (due_at agenda m)) [ true ↦ refl | false ↦ refl ]
+
+due_unset : (agenda : AgendaMap) (n m : ℕ) → due_at (map.remove agenda n) m ≡ cond (n == m) [] (due_at agenda m)
+due_unset agenda n m =
+    ap (λ o. unwrap_or o []) (get-remove nat_cmp_total agenda n m ∙ ap (λ b. cond b None (map.get agenda m)) (same_key m n))
+    ∙ elim (n == m) as (λ b. unwrap_or (cond b None (map.get agenda m)) [] ≡ cond b [] (due_at agenda m)) [ true ↦ refl | false ↦ refl ]
+
+-- keys in place of those that were taken off
+pub due_again : (agenda : AgendaMap) (n : ℕ) (ids : List ℕ) (m : ℕ) → due_at (map.insert (map.remove agenda n) n ids) m ≡ cond (n == m) ids (due_at agenda m)
+due_again agenda n ids m =
+    due_set (map.remove agenda n) n ids m ∙ ap (cond (n == m) ids) (due_unset agenda n m)
+    ∙ elim (n == m) as (λ b. cond b ids (cond b [] (due_at agenda m)) ≡ cond b ids (due_at agenda m)) [ true ↦ refl | false ↦ refl ]
+
+pub put_off_again : (agenda new : AgendaMap) (n : ℕ) (ids : List ℕ) → new ≡ map.insert (map.remove agenda n) n (due_at agenda n ++ ids) → IsPutOff (among ids) n agenda new
+put_off_again agenda new n ids is = record {
+  grown = record {
+    longer = (ids, here);
+    all = λ x its. ap (λ xs. among xs x) here ∙ both x ∙ ap (λ b. is_due agenda n x || b) its ∙ or-true (is_due agenda n x);
+    only = λ x its. or_cases (is_due agenda n x) (among ids x) (sym (both x) ∙ ap (λ xs. among xs x) (sym here) ∙ its);
+  };
+  others = λ m other. at m ∙ ap (λ b. cond b (due_at agenda n ++ ids) (due_at agenda m)) other;
+}
+  where
+    at : (m : ℕ) → due_at new m ≡ cond (n == m) (due_at agenda n ++ ids) (due_at agenda m)
+    at m = ap (λ a. due_at a m) is ∙ due_again agenda n (due_at agenda n ++ ids) m
+
+    itself : (n == n) ≡ true
+    itself = grind (arith, nat_tests)
+
+    here : due_at new n ≡ due_at agenda n ++ ids
+    here = at n ∙ ap (λ b. cond b (due_at agenda n ++ ids) (due_at agenda n)) itself
+
+    both : (x : ℕ) → among (due_at agenda n ++ ids) x ≡ (is_due agenda n x || among ids x)
+    both x = list_any-append (λ id. id == x) (due_at agenda n) ids
+
+pub put_off_same : (set next : KeySet) (n : ℕ) (old new : AgendaMap) → ((x : ℕ) → set x ≡ next x) → IsPutOff set n old new → IsPutOff next n old new
+put_off_same set next n old new same put = record {
+  grown = grown_same set next (due_at old n) (due_at new n) put.grown same;
+  others = put.others;
+}
+
+-- ---- the agenda behind a level
+
+due_without : (agenda : AgendaMap) (n m : ℕ) → (n == m) ≡ false → due_at (map.remove agenda n) m ≡ due_at agenda m
+due_without agenda n m other = due_unset agenda n m ∙ ap (λ b. cond b [] (due_at agenda m)) other
+
+none_left : (agenda : AgendaMap) (n : ℕ) → due_at (map.remove agenda n) n ≡ []
+none_left agenda n = due_unset agenda n n ∙ ap (λ b. cond b [] (due_at agenda n)) here
+  where
+    here : (n == n) ≡ true
+    here = grind (arith, nat_tests)
+
+later_not : (n m : ℕ) → n + 1 ≤ m → (n == m) ≡ false
+later_not n m h = grind (arith, nat_tests)
+
+pub due_behind : (keys : Keyring) (rows : RowMap) (n : ℕ) (ids : List ℕ) (agenda : AgendaMap) → AreDue keys rows n ids agenda → AreDue keys rows (n + 1) ids (map.remove agenda n)
+due_behind keys rows n ids agenda due m x later its out =
+    due m x (omega (arith, later)) its (ap (λ xs. among xs x) (sym (due_without agenda n m (later_not n m later))) ∙ out)
+
+pub within_behind : (ids : List ℕ) (n : ℕ) (agenda : AgendaMap) → IsWithin ids agenda → IsWithin ids (map.remove agenda n)
+within_behind ids n agenda within m x its = elim (n == m) as (λ b. (n == m) ≡ b → among ids x ≡ true) [
+  | true ↦ λ same. absurd (false≢true (ap (λ xs. among xs x) (sym (none_left agenda n)) ∙ ap (λ k. is_due (map.remove agenda n) k x) (is_key n m same) ∙ its))
+  | false ↦ λ other. within m x (ap (λ xs. among xs x) (sym (due_without agenda n m other)) ∙ its)
+] refl
+
+-- ---- the agenda behind a recount of one key
+
+stays_or_given : (n : ℕ) (old new : Option Row) → IsGiven n new → (recounted n old new ≡ old) ⊎ IsGiven n (recounted n old new)
+stays_or_given n None new given = inr given
+stays_or_given n (Some old) new given = elim (nat_lt old.level n) as (λ b. (cond b (Some old) (kept_above n old new) ≡ Some old) ⊎ IsGiven n (cond b (Some old) (kept_above n old new))) [
+  | true ↦ inl refl
+  | false ↦ at new given
+]
+  where
+    at : (o : Option Row) → IsGiven n o → (kept_above n old o ≡ Some old) ⊎ IsGiven n (kept_above n old o)
+    at (Some row) is = inr is
+    at None is = elim (old.level == n) as (λ b. (cond b None (Some old) ≡ Some old) ⊎ IsGiven n (cond b None (Some old))) [ true ↦ inr tt | false ↦ inl refl ]
+
+given_not : (n m : ℕ) (o : Option Row) → IsGiven n o → n + 1 ≤ m → has_level m o ≡ false
+given_not n m None is h = refl
+given_not n m (Some row) is h = grind (arith, nat_tests)
+
+given_not_before : (n m : ℕ) (o : Option Row) → IsGiven n o → (n + 1 == m) ≡ false → is_one_below m o ≡ false
+given_not_before n m None is h = refl
+given_not_before n m (Some row) is h = grind (arith, nat_tests)
+
+pub due_same : (keys : Keyring) (old new : RowMap) (n : ℕ) (ids : List ℕ) (agenda : AgendaMap) → ((x : ℕ) → map.get new x ≡ map.get old x) → AreDue keys old n ids agenda → AreDue keys new n ids agenda
+due_same keys old new n ids agenda same due m x later its out =
+    let quiet = due m x later its out in
+    record {
+      late = quiet.late;
+      own = ap (has_level m) (same x) ∙ quiet.own;
+      certifiers = λ y cert. ap (is_one_below m) (same y) ∙ quiet.certifiers y cert;
+    }
+
+put_off_kept : (set : KeySet) (n : ℕ) (old new : AgendaMap) → IsPutOff set n old new → (m x : ℕ) → is_due old m x ≡ true → is_due new m x ≡ true
+put_off_kept set n old new put m x its = elim (n == m) as (λ b. (n == m) ≡ b → is_due new m x ≡ true) [
+  | true ↦ λ same. subst (λ k. is_due old k x ≡ true → is_due new k x ≡ true) (is_key n m same) here its
+  | false ↦ λ other. ap (λ xs. among xs x) (put.others m other) ∙ its
+] refl
+  where
+    here : is_due old n x ≡ true → is_due new n x ≡ true
+    here its = ap (λ xs. among xs x) put.grown.longer.1 ∙ among_first (due_at old n) put.grown.longer.0 x its
+
+pub out_before : (a b : Bool) → (a ≡ true → b ≡ true) → b ≡ false → a ≡ false
+out_before true b up out = absurd (false≢true (sym out ∙ up refl))
+out_before false b up out = refl
+
+module _ (t : State) (n id : ℕ) (old new : RowMap) (here : map.get new id ≡ recounted n (map.get old id) (given_row t old n id))
+    (others : (x : ℕ) → (id == x) ≡ false → map.get new x ≡ map.get old x) where
+  given_here : (map.get new id ≡ map.get old id) ⊎ IsGiven n (map.get new id)
+  given_here = elim (stays_or_given n (map.get old id) (given_row t old n id) (level_given t old n id)) as (λ _. (map.get new id ≡ map.get old id) ⊎ IsGiven n (map.get new id)) [
+    | inl same ↦ inl (here ∙ same)
+    | inr is ↦ inr (subst (IsGiven n) (sym here) is)
+  ]
+
+  own_after : (m x : ℕ) → n + 1 ≤ m → has_level m (map.get old x) ≡ false → has_level m (map.get new x) ≡ false
+  own_after m x later off = elim (id == x) as (λ b. (id == x) ≡ b → has_level m (map.get new x) ≡ false) [
+    | false ↦ λ other. ap (has_level m) (others x other) ∙ off
+    | true ↦ λ it. subst (λ y. has_level m (map.get old y) ≡ false → has_level m (map.get new y) ≡ false) (is_key id x it) at_it off
+  ] refl
+    where
+      at_it : has_level m (map.get old id) ≡ false → has_level m (map.get new id) ≡ false
+      at_it off = elim given_here as (λ _. has_level m (map.get new id) ≡ false) [
+        | inl same ↦ ap (has_level m) same ∙ off
+        | inr is ↦ given_not n m (map.get new id) is later
+      ]
+
+  before_after : (m y : ℕ) → (id == y) ≡ false ⊎ ((n + 1 == m) ≡ false) → is_one_below m (map.get old y) ≡ false → is_one_below m (map.get new y) ≡ false
+  before_after m y (inl other) off = ap (is_one_below m) (others y other) ∙ off
+  before_after m y (inr far) off = elim (id == y) as (λ b. (id == y) ≡ b → is_one_below m (map.get new y) ≡ false) [
+    | false ↦ λ other. ap (is_one_below m) (others y other) ∙ off
+    | true ↦ λ it. subst (λ k. is_one_below m (map.get old k) ≡ false → is_one_below m (map.get new k) ≡ false) (is_key id y it) at_it off
+  ] refl
+    where
+      at_it : is_one_below m (map.get old id) ≡ false → is_one_below m (map.get new id) ≡ false
+      at_it off = elim given_here as (λ _. is_one_below m (map.get new id) ≡ false) [
+        | inl same ↦ ap (is_one_below m) same ∙ off
+        | inr is ↦ given_not_before n m (map.get new id) is far
+      ]
+
+  -- those that the key certified are due at the next level
+  pub due_after : (before after : AgendaMap) → IsPutOff (has_cert_by t.keys id) (n + 1) before after → (ids : List ℕ) → AreDue t.keys old (n + 1) ids before → AreDue t.keys new (n + 1) ids after
+  due_after before after put ids due m x later its out =
+      let quiet = due m x later its (out_before (is_due before m x) (is_due after m x) (put_off_kept (has_cert_by t.keys id) (n + 1) before after put m x) out) in
+      record {
+        late = quiet.late;
+        own = own_after m x later quiet.own;
+        certifiers = λ y cert. before_after m y (apart y cert) (quiet.certifiers y cert);
+      }
+    where
+      apart : (y : ℕ) → has_cert_by t.keys y x ≡ true → (id == y) ≡ false ⊎ ((n + 1 == m) ≡ false)
+      apart y cert = elim (id == y) as (λ b. (id == y) ≡ b → (id == y) ≡ false ⊎ ((n + 1 == m) ≡ false)) [
+        | false ↦ λ other. inl other
+        | true ↦ λ it. elim (n + 1 == m) as (λ b. (n + 1 == m) ≡ b → (id == y) ≡ false ⊎ ((n + 1 == m) ≡ false)) [
+          | false ↦ λ far. inr far
+          | true ↦ λ next. absurd (false≢true (sym out ∙ ap (λ k. is_due after k x) (sym (is_key (n + 1) m next)) ∙ put.grown.all x (ap (λ k. has_cert_by t.keys k x) (is_key id y it) ∙ cert)))
+        ] refl
+      ] refl
+
+pub within_after : (set : KeySet) (n : ℕ) (todo more : List ℕ) (before after : AgendaMap) → IsGrownBy set todo more → IsPutOff set n before after → IsWithin todo before → IsWithin more after
+within_after set n todo more before after grown put within m x its = elim (n == m) as (λ b. (n == m) ≡ b → among more x ≡ true) [
+  | true ↦ λ same. at_level (ap (λ k. is_due after k x) (is_key n m same) ∙ its)
+  | false ↦ λ other. still (within m x (ap (λ xs. among xs x) (sym (put.others m other)) ∙ its))
+] refl
+  where
+    still : among todo x ≡ true → among more x ≡ true
+    still its = ap (λ xs. among xs x) grown.longer.1 ∙ among_first todo grown.longer.0 x its
+
+    at_level : is_due after n x ≡ true → among more x ≡ true
+    at_level its = elim (put.grown.only x its) as (λ _. among more x ≡ true) [
+      | inl before ↦ still (within n x before)
+      | inr certified ↦ grown.all x certified
+    ]

@@ -1,0 +1,18 @@
+use Rattle.std.proofs.Common.{◌==◌, nat_eq, sym, ap, subst, ◌∙◌}
+use Rattle.std.specs.List.{IsDistinct}
+use Rattle.std.proofs.lemmas.List.Filters.{dedup_is}
+use Rattle.std.proofs.lemmas.List.Sorted.{list_any-IsPermutation}
+use Rattle.wot_levels.proofs.Weights.{distinct_sorted}
+use Rattle.wot_live.specs.Recounting.{among}
+use Rattle.wot_live.proofs.Lists.{among_dedup}
+use Rattle.wot_live.proofs.agenda.each_once.Goals as goal
+
+pub returns-clause-same : goal.returns-clause-same
+returns-clause-same c = λ x.
+    let sorted = c.sort_unstable.new.self.items in
+    ap (λ xs. among xs x) (c.from_vec.ensures ∙ dedup_is nat_eq _ _ c.dedup.ensures.filtered) ∙ among_dedup sorted x
+    ∙ sym (list_any-IsPermutation (λ id. id == x) _ _ c.sort_unstable.ensures.permutation) ∙ ap (λ xs. among xs x) c.into_vec-ids.ensures
+
+pub returns-clause-distinct : goal.returns-clause-distinct
+returns-clause-distinct c =
+    subst (IsDistinct nat_eq) (sym (c.from_vec.ensures ∙ dedup_is nat_eq _ _ c.dedup.ensures.filtered)) (distinct_sorted c.sort_unstable.new.self.items c.sort_unstable.ensures.sorted)

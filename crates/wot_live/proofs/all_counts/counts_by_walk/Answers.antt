@@ -1,0 +1,54 @@
+use Rattle.std.proofs.Common.{ℕ, sym, ap, subst, ◌∙◌, arith}
+use Rattle.std.proofs.lemmas.List.Sums.{sum_by-cons}
+use Rattle.wot_types.specs.declared.key.Key.{Key}
+use Rattle.wot_types.specs.Keyring.{key_certs}
+use Rattle.wot_levels.specs.Walk.{WalksOn}
+use Rattle.wot_levels.proofs.WalksOn.{walk_all, walk_start}
+use Rattle.wot_live.specs.Counts.{kept_counts, with_counts}
+use Rattle.wot_live.proofs.AllCounts.{all_certs_left, counts_by, left_certs, walk_counted}
+use Rattle.wot_live.proofs.all_counts.counts_by_walk.Goals as goal
+
+pub loop-keyblock-init : goal.loop-keyblock-init
+loop-keyblock-init g c =
+    let keys = c.args.table.now in
+    let rule = counts_by keys c.args.options.now c.args.now c.args.rows.now in
+    let all = c.into_iter-keyblock-iterator.ensures.into_iter_gives ∙ c.walk-keyblock-items.ensures.whole in
+    record {
+      counts = subst (λ left. WalksOn rule keys left c.new-counts.result) (sym all) (subst (WalksOn rule keys _) (sym c.new-counts.ensures) (walk_start rule keys c.walk-keyblock-items.ensures.found));
+      ticks = let certs = ap left_certs all ∙ all_certs_left keys in omega (arith, certs);
+    }
+
+pub returns-in_err-list-clause-ticks : goal.returns-in_err-list-clause-ticks
+returns-in_err-list-clause-ticks g c =
+    let one = ap left_certs c.in-Some.ensures.steps ∙ sum_by-cons (λ (e : ℕ × Key). key_certs e.1) c.in-Some.keyblock c.next.new.self in
+    let sofar = c.loop-keyblock.invariant.ticks in
+    let cost = c.counts_in.ensures.ticks in
+    omega (arith, one, sofar, cost)
+
+pub loop-keyblock-preserved : goal.loop-keyblock-preserved
+loop-keyblock-preserved g c =
+    let keys = c.args.table.now in
+    let o = c.args.options.now in
+    let now = c.args.now in
+    let rows = c.args.rows.now in
+    let rule = counts_by keys o now rows in
+    let e = c.in-Some.keyblock in
+    let old = c.loop-keyblock.counts in
+    let left = subst (λ left. WalksOn rule keys left old) c.in-Some.ensures.steps c.loop-keyblock.invariant.counts in
+    let made = c.in_ok-set.ensures ∙ (λ i. with_counts old (c.id.ensures i) (kept_counts (c.in_ok-list.ensures.counts i))) in
+    let one = ap left_certs c.in-Some.ensures.steps ∙ sum_by-cons (λ (e : ℕ × Key). key_certs e.1) e c.next.new.self in
+    let sofar = c.loop-keyblock.invariant.ticks in
+    let cost = c.in_ok-list.ensures.ticks in
+    record {
+      counts = subst (WalksOn rule keys c.next.new.self) (sym made) (walk_counted keys o now rows e c.next.new.self old left);
+      ticks = omega (arith, one, sofar, cost);
+    }
+
+pub returns-clause-counts : goal.returns-clause-counts
+returns-clause-counts g c =
+    let keys = c.args.table.now in
+    let rule = counts_by keys c.args.options.now c.args.now c.args.rows.now in
+    walk_all rule keys c.loop-keyblock.counts (subst (λ left. WalksOn rule keys left c.loop-keyblock.counts) c.in-None.ensures.steps.0 c.loop-keyblock.invariant.counts)
+
+pub returns-clause-ticks : goal.returns-clause-ticks
+returns-clause-ticks g c = let sofar = c.loop-keyblock.invariant.ticks in omega (arith, sofar)

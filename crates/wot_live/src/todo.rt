@@ -1,0 +1,69 @@
+//! What of a state is to be counted.
+
+ghost use Rattle.std.specs.Prelude.{◌≡◌, IfOk};
+ghost use Rattle.std.specs.FinMap as map;
+ghost use Rattle.wot_types.specs.Keyring.{with_keys};
+ghost use Rattle.wot_types.specs.Ownertrust.{with_entries};
+ghost use Rattle.wot_types.specs.State.{State};
+ghost use Rattle.wot_live.specs.Follows.{IsDue};
+
+use crate::counts::Counts;
+use crate::named::{named_by_date, named_by_put};
+use crate::worklist::Worklist;
+use wot_table::Table;
+use wot_types::{Entries, KeyId, Keys, Mem, Rows};
+
+/// What edits left to be counted.
+#[derive(Drop)]
+pub enum Todo {
+    /// All keys.
+    All,
+    /// The keys that the edits named.
+    Named(Named),
+}
+
+/// The rows and counts of the state before some edits, and the keys that these named.
+#[derive(Drop)]
+pub struct Named {
+    pub rows: Rows,
+    pub counts: Counts,
+    pub list: Worklist,
+}
+
+impl Todo {
+    /// Keys are put and entries set, beside the edits before. Into a keyring without keys all that it has then are put.
+    pub fn put(self, table: &Table, keys: &Keys, entries: &Entries) -> Result<Todo, Mem>
+        ensures { (s : State) → s.keys ≡ table.now → IsDue s self → IfOk result (IsDue (record s { keys = with_keys s.keys keys.now; trusts = with_entries s.trusts entries.now })) }
+    {
+        if table.totals().keys == 0 {
+            return Ok(Todo::All);
+        }
+        let Todo::Named(Named { rows, counts, list }) = self else {
+            return Ok(Todo::All);
+        };
+        let list = named_by_put(list, table, keys, entries)?;
+        Ok(Todo::Named(Named { rows, counts, list }))
+    }
+
+    /// A key is taken out.
+    pub fn remove(self, id: KeyId) -> Result<Todo, Mem>
+        ensures { (s : State) → IsDue s self → IfOk result (IsDue (record s { keys = map.remove s.keys id })) }
+    {
+        let Todo::Named(Named { rows, counts, list }) = self else {
+            return Ok(Todo::All);
+        };
+        let list = list.add(id)?;
+        Ok(Todo::Named(Named { rows, counts, list }))
+    }
+
+    /// The date is set from one to another.
+    pub fn set_date(self, table: &Table, from: u32, to: u32) -> Result<Todo, Mem>
+        ensures { (s : State) → s.keys ≡ table.now → s.date ≡ from → IsDue s self → IfOk result (IsDue (record s { date = to })) }
+    {
+        let Todo::Named(Named { rows, counts, list }) = self else {
+            return Ok(Todo::All);
+        };
+        let list = named_by_date(list, table, from, to)?;
+        Ok(Todo::Named(Named { rows, counts, list }))
+    }
+}
