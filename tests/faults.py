@@ -44,6 +44,31 @@ def stores():
     yield "a record that takes away a key that isn't there", (new[:JOURNAL] + bytes.fromhex("a5000000090500000000000000aa00"), one), "BadEdit"
 
 
+def with_bytes(side, *changes):
+    for at, byte in changes:
+        side = changed(side, at, bytes([byte]))
+    return side
+
+
+def bases():
+    """Headers and pages that were changed, of a store that was compacted once: what is wrong, the sides, and the name that is told."""
+    zero, one = opened_by(b"compact\n")
+    wrong = (7, 0x46)
+    yield "another last letter in the header", (with_bytes(zero, wrong), b""), "Magic"
+    yield "the same on the other side", (zero, with_bytes(one, wrong)), "Magic"
+    yield "the same on both sides", (with_bytes(zero, wrong), with_bytes(one, wrong)), "Magic"
+    yield "one epoch on both sides", (zero, with_bytes(one, (15, 1))), "SameEpoch"
+    yield "one epoch on both sides, and a page that isn't there", (with_bytes(zero, (23, 2)), with_bytes(one, (15, 1), (23, 2))), "SameEpoch"
+    yield "one page too many", (with_bytes(zero, (23, 2)), b""), "Short"
+    yield "as many pages as a number holds", (with_bytes(zero, (16, 0xFF)), with_bytes(one, (16, 0xFF))), "Short"
+    yield "a greater epoch over a side that ends within its page", (zero, one[:4000]), "Short"
+    yield "the seal of another epoch", (with_bytes(zero, (15, 2)), b""), "Seal"
+    yield "a byte of the shown page changed", (zero, with_bytes(one, (30, 1))), "Seal"
+    yield "a byte of its seal changed", (zero, with_bytes(one, (4119, one[4119] ^ 1))), "Seal"
+    yield "no pages", (with_bytes(zero, (23, 0)), b""), "Spelling"
+    yield "no pages on the shown side", (zero, with_bytes(one, (23, 0))), "Spelling"
+
+
 def head(name):
     return f"pub:-:255:22:{key_id(name)}:1000:::-:::scSC:\nfpr:::::::::{fingerprint(name)}:\n"
 
@@ -71,7 +96,7 @@ def told_of(sides):
 
 def main():
     failed = tried = 0
-    for what, sides, name in stores():
+    for what, sides, name in (*stores(), *bases()):
         tried += 1
         told, wanted = told_of(sides), (6, b"", f"wot: bad store: {name}\n".encode(), True)
         if told != wanted:

@@ -6,7 +6,7 @@ use crate::samples::{NOW, Sample, filled_sample, options, sample_rows};
 use std::alloc::Global;
 use std::test::Fail;
 use std::thread::Threads;
-use wot_check::{NoGate, check_all, rows_by};
+use wot_check::{NoGate, check_all};
 use wot_gen::key_id;
 use wot_types::{KeyId, Mem, Row, Rows, Trust};
 
@@ -85,27 +85,6 @@ fn said_by_all<R: Threads + Sync>(
     } else {
         Ok(None)
     }
-}
-
-#[test]
-fn rows_of_a_sample_stand(rt: HostRuntime) -> Result<(), Fail> {
-    let alloc = rt.alloc();
-    let of = filled_sample(alloc, 7, 500)?;
-    let rows = sample_rows(&of)?;
-    assert_eq!(rt; said_by_all(&rt, alloc, &of, &rows)?, Some(None));
-    let counted = rows_by(
-        &rt,
-        alloc,
-        &of.table,
-        &of.trusts,
-        NOW,
-        &options(),
-        3,
-        &NoGate,
-    )?;
-    assert_eq!(rt; counted.len(), rows.len());
-    assert_eq!(rt; said(&rt, alloc, &of, &counted, 1)?, None);
-    Ok(())
 }
 
 #[test]

@@ -1,7 +1,6 @@
 //! Fields of a line, which colons cut and which are numbered from 1.
 
-ghost use Rattle.std.specs.Prelude.{◌≡◌, ◌≤◌, length};
-ghost use Rattle.std.specs.List.{position_or_len};
+ghost use Rattle.std.specs.Prelude.{◌≡◌};
 ghost use Rattle.std.specs.Option.{option_copied};
 ghost use Rattle.wot_types.specs.Fields as listing;
 
@@ -105,53 +104,4 @@ fn has_fewer(line: &[u8], n: u32) -> bool
     ensures { result ≡ listing.has_fewer n line.now }
 {
     line.split(|b| *b == b':').count() < n as usize
-}
-
-#[cfg(test)]
-mod tests {
-    use super::*;
-
-    const PRIMARY: &[u8] = b"pub:f:1024:17:6C7EE1B8621CC013:899817715:1055898235::m:::scESC:";
-
-    #[test]
-    fn reads_a_primary_key(rt: HostRuntime) {
-        for (n, want) in [
-            (0, None),
-            (1, Some(b"pub".as_slice())),
-            (5, Some(b"6C7EE1B8621CC013".as_slice())),
-            (8, Some(b"".as_slice())),
-            (12, Some(b"scESC".as_slice())),
-            (13, Some(b"".as_slice())),
-            (14, None),
-            (u32::MAX, None),
-        ] {
-            assert_eq!(rt; field(PRIMARY, n), want, "field {n}");
-        }
-        assert!(rt; !has_fewer(PRIMARY, 13));
-        assert!(rt; has_fewer(PRIMARY, 14));
-        assert!(rt; !has_fewer(b"", 1));
-        assert!(rt; has_fewer(b"", 2));
-    }
-
-    #[test]
-    fn finds_the_fields_that_a_scan_finds(rt: HostRuntime) {
-        for line in [
-            b"".as_slice(),
-            b"pub".as_slice(),
-            b":".as_slice(),
-            b"pub:f:1024:17:6C7EE1B8621CC013:899817715:1055898235::m:::scESC:".as_slice(),
-            b"a:b:c:d:e:f:g:h:i:j:k:l".as_slice(),
-            b"a:b:c:d:e:f:g:h:i:j:k:l:".as_slice(),
-            b"a:b:c:d:e:f:g:h:i:j:k:l:m".as_slice(),
-            b"a:b:c:d:e:f:g:h:i:j:k:l:m:n:o:p".as_slice(),
-            b"::::::::::::::::::::".as_slice(),
-        ] {
-            let fields = Fields::new(line);
-            for n in 0..=25 {
-                assert_eq!(rt; fields.get(n), field(line, n), "field {n}");
-                assert_eq!(rt; fields.has_fewer(n), has_fewer(line, n), "fewer than {n}");
-            }
-            assert_eq!(rt; fields.get(u32::MAX), None);
-        }
-    }
 }

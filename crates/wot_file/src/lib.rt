@@ -6,6 +6,3 @@ mod sides; // the two files
 mod streams; // one call of a reader or a writer, tried again where a signal cut it short
 
 pub use file::FileSite;
-
-#[cfg(test)]
-mod tests;

@@ -8,8 +8,6 @@ mod names; // key IDs, fingerprints and texts
 mod one_key; // a key
 mod ownertrust; // the entry of a key
 mod sample; // many keys and entries
-#[cfg(test)]
-mod tests;
 
 pub use certs::cert_count;
 pub use names::{fpr, key_id};

@@ -8,6 +8,3 @@ mod text; // the entries of a whole text, or its first fault
 pub use laws::exported_reads_back;
 pub use line::{read_line, write_line};
 pub use text::{OwnertrustText, TextError};
-
-#[cfg(test)]
-mod tests;

@@ -198,8 +198,8 @@ fn open_shown<R: Threads + Sync, S: Site, G: Gate + Sync>(
 }
 
 /// Opens the store, and writes side Zero as a first one where both sides are blank. Both sides are synced first. All memory for a first
-/// side is taken before it is written. The rows of the base are checked by so many workers, each of which calls the gate first;
-/// the answer is the same for every gate and every number of workers.
+/// side is taken before it is written. The seals of the base's pages and its rows are checked by so many workers, of which those that check
+/// rows call the gate first; the answer is the same for every gate and every number of workers.
 pub fn open_store<R: Threads + Sync, S: Site, G: Gate + Sync>(
     rt: &R,
     alloc: Global,

@@ -4,7 +4,7 @@ use std::alloc::Global;
 use std::test::Fail;
 use std::thread::Threads;
 use wot_check::NoGate;
-use wot_session::{Status, run, run_within};
+use wot_session::{Status, run};
 use wot_site::{MemorySite, Pick};
 
 /// The images that are looked at: no pending write was made, or all, or each range holds the byte of an open gate.
@@ -123,25 +123,4 @@ pub fn keeps_edits<R: Threads + Sync>(
         }
     }
     Ok(shows_edits(site.told(), shown, acknowledged))
-}
-
-#[test]
-fn the_bound_counts_the_bytes_up_to_quit(rt: HostRuntime) -> Result<(), Fail> {
-    let alloc = rt.alloc();
-    let words: Vec<String> = Vec::new(alloc);
-    let bounds: [(&[u8], u64, Status); 5] = [
-        (b"export\n", 6, Status::TooLong),
-        (b"export\n", 7, Status::Done),
-        (b"export", 6, Status::Done),
-        (b"quit\nexport\n", 5, Status::Done),
-        (b"quit\nexport\n", 4, Status::TooLong),
-    ];
-    for (input, most, status) in bounds {
-        let mut site = over(alloc, input)?;
-        assert_eq!(rt;
-            run_within(&rt, alloc, &words, &mut site, &NoGate, most),
-            status
-        );
-    }
-    Ok(())
 }

@@ -7,6 +7,3 @@ mod words; // what all the words ask for
 
 pub use error::WordsError;
 pub use words::{ProgramWords, program_words};
-
-#[cfg(test)]
-mod tests;
