@@ -7,6 +7,8 @@ from measure import in_turn, megabytes, ran, session, shown, table, times
 
 SIZES = (1_000, 10_000, 100_000)
 SEED, DEEPEST = 7, 4
+# commands that touch one key: each is timed as the middle of several in a row
+SMALL = ("`trust` of a key that certifies nobody", "`import` of one key", "`delete` of that key")
 
 
 def made_store(bench, count):
@@ -51,6 +53,11 @@ def commands(count):
     }
 
 
+def taken(program, lines, turns):
+    """The middle of the seconds that so many of these commands take, one after the other: the first one finds what the last command left in the processor's caches."""
+    return sorted(program.accept(next(lines)) for _ in range(turns))[turns // 2]
+
+
 def deepest(program, count):
     """The level and the number of a key of the highest level that explanations show."""
     found = (0, key_id(0))
@@ -70,7 +77,7 @@ def figures(bench, count):
     with session([bench.program], where) as program:
         level, number = deepest(program, count)
         given = {**commands(count), "`why` of a key as deep as there is": itertools.repeat(f"why {fingerprint(number)} 1\n")}
-        jobs = [lambda lines=lines: program.accept(next(lines)) for lines in given.values()]
+        jobs = [lambda name=name, lines=lines: taken(program, lines, 9 if name in SMALL else 1) for name, lines in given.items()]
         floor, *seconds = in_turn(lambda: ran([cut], listing), *jobs)
         opening = program.opening
         return {"a cut of its `sigs` alone": floor, "opening": opening, **dict(zip(given, seconds))}, level, program.peak(), os.path.getsize(listing)

@@ -4,7 +4,7 @@ import shutil
 from collections.abc import Callable, Iterable
 from typing import NamedTuple
 
-from measure import in_turn, megabytes, ran, shown, table, times
+from measure import in_turn, megabytes, ran, session, shown, table, times
 
 DATE, DEPTH, USERS = 1600000000, 255, 1024
 
@@ -136,11 +136,31 @@ def copied(bench, made):
     return shutil.copytree(made, where)
 
 
+def beside(bench, name):
+    """Of a shape: the size of its listing, and the least seconds of its import in an open session of a store with as many made keys."""
+    listing = bench.path("listing-beside")
+    with open(written(listing, SHAPES[name].blocks(bench.keys)), encoding="utf-8") as file:
+        given = f"import\n{file.read()}.\n"
+    made = bench.store("others", (["sample", "7", str(bench.keys)], None), *prepared(bench, SHAPES[name], bench.keys))
+
+    def imported():
+        with session([bench.program], copied(bench, made)) as program:
+            return program.accept(given)
+
+    return os.path.getsize(listing), in_turn(imported)[0]
+
+
 def part(bench):
-    """Imports of each shape."""
+    """Imports of each shape, and of a chain beside other keys."""
     rows = []
     for name in SHAPES:
         size, took, peak, ordinary = figures(bench, name)
         rows.append((name, megabytes(size), shown(took), f"{took / size * 1e9:.1f} ns", times(took / size, ordinary), times(peak, size)))
     columns = ("listing", "size", "import", "a byte", "times the ordinary byte", "memory, times the listing")
     table(f"Imports of listings of {bench.keys:,} keys, of which all may introduce", columns, rows)
+    rows = []
+    for name in ("ordinary", "chains of 255 levels"):
+        size, took = beside(bench, name)
+        rows.append((name, megabytes(size), shown(took), f"{took / size * 1e9:.1f} ns", took / size))
+    columns = ("listing", "size", "import", "a byte", "times the ordinary byte")
+    table(f"The same in an open session of a store with {bench.keys:,} made keys", columns, [(*row[:4], times(row[4], rows[0][4])) for row in rows])
