@@ -6,8 +6,8 @@ use Rattle.std.proofs.lemmas.List.{append-nil}
 use Rattle.std.proofs.Math.Bool.{or-false}
 use Rattle.wot_types.specs.State.{State}
 use Rattle.wot_types.specs.Commands as lines
-use Rattle.wot_types.specs.Commands.{Command, ReadLine, closed_command, cut_by, ends, ends_block, is_quit, made_by, of_line, opened_command, opens_block, with_line, words_in}
-use Rattle.wot_types.specs.Commands.Cut.{between, within, over}
+use Rattle.wot_types.specs.Commands.{Command, ReadLine, closed_command, divided_by, ends, ends_block, is_quit, made_by, of_line, opened_command, opens_block, with_line, words_in}
+use Rattle.wot_types.specs.Commands.Division.{between, within, over}
 use Rattle.wot_types.specs.LineByLine.{Position}
 use Rattle.wot_types.specs.Outcome.{Outcome, outcome, skip}
 use Rattle.wot_types.specs.Session.{after_all, replies}
@@ -15,82 +15,82 @@ use Rattle.wot_types.specs.Store.{Store}
 use Rattle.wot_answer.specs.declared.block.Block.{Block}
 use Rattle.wot_answer.specs.Block.{IsBlockOf}
 use Rattle.wot_answer.specs.declared.answer.Answered.{Answered}
-use Rattle.wot_answer.specs.declared.cut.Cut.{Cut}
-use Rattle.wot_answer.specs.declared.cut.Cut.TheVariants.{Between, Within, Over}
-use Rattle.wot_answer.specs.Answer.{Answers, Does, Ends, IsCut, IsReply, reads_on}
+use Rattle.wot_answer.specs.declared.division.Division.{Division}
+use Rattle.wot_answer.specs.declared.division.Division.TheVariants.{Between, Within, Over}
+use Rattle.wot_answer.specs.Answer.{Answers, Does, Ends, IsDivision, IsReply, reads_on}
 
 module _ (answered : Answered) (p : Position) (line : ReadLine) where
   -- a command is whole, and was answered
-  pub answers_whole : (command : Command) → made_by p.cut line ≡ command ∷ [] → Ends answered p.progress.store (outcome p.progress.store command) → IsCut answered.cut (cut_by p.cut line) → Answers answered p line
+  pub answers_whole : (command : Command) → made_by p.division line ≡ command ∷ [] → Ends answered p.progress.store (outcome p.progress.store command) → IsDivision answered.division (divided_by p.division line) → Answers answered p line
   answers_whole command made ends now = record {
     text = ap (replies p.progress) made ∙ append-nil _ ∙ ends.text;
     refused = ap (λ cs. (after_all p.progress cs).refused) made ∙ ap (λ b. p.progress.refused || b) ends.refused;
     state = ap (λ cs. (after_all p.progress cs).store.state) made ∙ ends.state;
-    cut = now;
+    division = now;
     does = subst (λ cs. Does answered.answer.effect p.progress.store (after_all p.progress cs).store) (sym made) ends.does;
   }
 
   -- no command is whole, and nothing was told
-  pub answers_none : (old : State) → old ≡ p.progress.store.state → made_by p.cut line ≡ [] → IsReply answered old skip → IsCut answered.cut (cut_by p.cut line) → Answers answered p line
+  pub answers_none : (old : State) → old ≡ p.progress.store.state → made_by p.division line ≡ [] → IsReply answered old skip → IsDivision answered.division (divided_by p.division line) → Answers answered p line
   answers_none old same none reply now =
       let nothing = reply p.progress.store same in
       record {
         text = ap (replies p.progress) none ∙ nothing.text;
         refused = ap (λ cs. (after_all p.progress cs).refused) none ∙ sym (or-false p.progress.refused) ∙ ap (λ b. p.progress.refused || b) nothing.refused;
         state = ap (λ cs. (after_all p.progress cs).store.state) none ∙ nothing.state;
-        cut = now;
+        division = now;
         does = subst (λ cs. Does answered.answer.effect p.progress.store (after_all p.progress cs).store) (sym none) nothing.does;
       }
 
   -- between two commands: one whose line is whole
-  pub answers_line : p.cut ≡ between → opens_block line ≡ false → Ends answered p.progress.store (outcome p.progress.store (of_line line))
-      → IsCut answered.cut (if is_quit (words_in line) then over else between) → Answers answered p line
+  pub answers_line : p.division ≡ between → opens_block line ≡ false → Ends answered p.progress.store (outcome p.progress.store (of_line line))
+      → IsDivision answered.division (if is_quit (words_in line) then over else between) → Answers answered p line
   answers_line here single ends now =
       answers_whole (of_line line) (ap (λ c. made_by c line) here ∙ ap (λ b. if b then [] else of_line line ∷ []) single) ends
-      (subst (IsCut answered.cut) (sym (ap (λ c. cut_by c line) here ∙ ap (λ b. if b then within (opened_command line) else if is_quit (words_in line) then over else between) single)) now)
+      (subst (IsDivision answered.division) (sym (ap (λ c. divided_by c line) here ∙ ap (λ b. if b then within (opened_command line) else if is_quit (words_in line) then over else between) single)) now)
 
   -- one whose block begins
-  pub answers_opened : (old : State) → old ≡ p.progress.store.state → p.cut ≡ between → opens_block line ≡ true → IsReply answered old skip → IsCut answered.cut (within (opened_command line)) → Answers answered p line
+  pub answers_opened : (old : State) → old ≡ p.progress.store.state → p.division ≡ between → opens_block line ≡ true → IsReply answered old skip → IsDivision answered.division (within (opened_command line)) → Answers answered p line
   answers_opened old same here opens reply now =
       answers_none old same (ap (λ c. made_by c line) here ∙ ap (λ b. if b then [] else of_line line ∷ []) opens) reply
-      (subst (IsCut answered.cut) (sym (ap (λ c. cut_by c line) here ∙ ap (λ b. if b then within (opened_command line) else if is_quit (words_in line) then over else between) opens)) now)
+      (subst (IsDivision answered.division) (sym (ap (λ c. divided_by c line) here ∙ ap (λ b. if b then within (opened_command line) else if is_quit (words_in line) then over else between) opens)) now)
 
   -- within a block: its end
-  pub answers_end : (command : Command) → p.cut ≡ within command → ends command line ≡ true → Ends answered p.progress.store (outcome p.progress.store (closed_command command))
-      → answered.cut ≡ Between → Answers answered p line
+  pub answers_end : (command : Command) → p.division ≡ within command → ends command line ≡ true → Ends answered p.progress.store (outcome p.progress.store (closed_command command))
+      → answered.division ≡ Between → Answers answered p line
   answers_end command here ended replied now =
       answers_whole (closed_command command) (ap (λ c. made_by c line) here ∙ ap (λ b. if b then closed_command command ∷ [] else []) ended) replied
-      (subst (IsCut answered.cut) (sym (ap (λ c. cut_by c line) here ∙ ap (λ b. if b then between else within (with_line command line)) ended)) (subst (λ c. IsCut c between) (sym now) tt))
+      (subst (IsDivision answered.division) (sym (ap (λ c. divided_by c line) here ∙ ap (λ b. if b then between else within (with_line command line)) ended)) (subst (λ c. IsDivision c between) (sym now) tt))
 
   -- behind `quit`
-  pub answers_over : (old : State) → old ≡ p.progress.store.state → p.cut ≡ over → IsReply answered old skip → answered.cut ≡ Over → Answers answered p line
+  pub answers_over : (old : State) → old ≡ p.progress.store.state → p.division ≡ over → IsReply answered old skip → answered.division ≡ Over → Answers answered p line
   answers_over old same here reply now =
       answers_none old same (ap (λ c. made_by c line) here) reply
-      (subst (IsCut answered.cut) (sym (ap (λ c. cut_by c line) here)) (subst (λ c. IsCut c over) (sym now) tt))
+      (subst (IsDivision answered.division) (sym (ap (λ c. divided_by c line) here)) (subst (λ c. IsDivision c over) (sym now) tt))
 
--- what the cut is where an answer holds it
-pub is_between : (c : lines.Cut) → IsCut Between c → c ≡ between
+-- what the division is where an answer holds it
+pub is_between : (c : lines.Division) → IsDivision Between c → c ≡ between
 is_between between is = refl
 is_between (within command) is = absurd is
 is_between over is = absurd is
 
-pub is_over : (c : lines.Cut) → IsCut Over c → c ≡ over
+pub is_over : (c : lines.Division) → IsDivision Over c → c ≡ over
 is_over over is = refl
 is_over (within command) is = absurd is
 is_over between is = absurd is
 
-pub within_cut : (block : Block) (c : lines.Cut) → IsCut (Within block) c → (command : Command) × (c ≡ within command) × IsBlockOf block command
-within_cut block (within command) is = (command, refl, is)
-within_cut block between is = absurd is
-within_cut block over is = absurd is
+pub within_division : (block : Block) (c : lines.Division) → IsDivision (Within block) c → (command : Command) × (c ≡ within command) × IsBlockOf block command
+within_division block (within command) is = (command, refl, is)
+within_division block between is = absurd is
+within_division block over is = absurd is
 
 -- a line that a block doesn't go on with ends the block of its command
 pub is_ended : (block : Block) (command : Command) (line : ReadLine) → IsBlockOf block command → reads_on (Within block) line ≡ false → ends command line ≡ true
 is_ended block command line of stops = ap (λ b. not b && ends_block line) of.to_end ∙ not-false _ stops
 
--- an answer whose cut is set anew
-pub recut : (answered : Answered) (cut : Cut) (s : Store) (o : Outcome) → Ends answered s o → Ends (record answered { cut = cut }) s o
-recut answered cut s o ends = record { text = ends.text; refused = ends.refused; state = ends.state; does = ends.does }
+-- an answer whose division is set anew
+pub redivided : (answered : Answered) (division : Division) (s : Store) (o : Outcome) → Ends answered s o → Ends (record answered { division = division }) s o
+redivided answered division s o ends = record { text = ends.text; refused = ends.refused; state = ends.state; does = ends.does }
 
 -- two facts of one result
 pub if_both : {X E : Type 0} (P Q : X → Type 0) (r : Result X E) → IfOk r P → IfOk r Q → IfOk r (λ x. P x × Q x)

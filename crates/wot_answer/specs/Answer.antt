@@ -6,7 +6,7 @@ use Rattle.wot_types.specs.declared.query.Query.TheVariants as query
 use Rattle.wot_types.specs.State.{State}
 use Rattle.wot_types.specs.Commands as lines
 use Rattle.wot_types.specs.Commands.{Command, ReadLine, ends_block}
-use Rattle.wot_types.specs.Commands.Cut.{between, within, over}
+use Rattle.wot_types.specs.Commands.Division.{between, within, over}
 use Rattle.wot_types.specs.Compaction.{compacted_store}
 use Rattle.wot_types.specs.Levels.{rows_of}
 use Rattle.wot_types.specs.LineByLine.{Position, after_line, reply_to_line}
@@ -17,22 +17,22 @@ use Rattle.wot_types.specs.Tally.{tally_line}
 use Rattle.wot_journal.specs.Record.{Framed}
 use Rattle.wot_answer.specs.Block.{IsBlockOf}
 use Rattle.wot_answer.specs.declared.answer.Answered.{Answered}
-use Rattle.wot_answer.specs.declared.cut.Cut.{Cut}
-use Rattle.wot_answer.specs.declared.cut.Cut.TheVariants.{Between, Within, Over}
+use Rattle.wot_answer.specs.declared.division.Division.{Division}
+use Rattle.wot_answer.specs.declared.division.Division.TheVariants.{Between, Within, Over}
 use Rattle.wot_answer.specs.declared.reply.Effect.{Effect}
 use Rattle.wot_answer.specs.declared.reply.Effect.TheVariants.{Nothing, Append, Compact}
 use Rattle.wot_answer.specs.declared.reply.Reply.{Reply}
 use Rattle.wot_answer.specs.declared.reply.Reply.TheVariants.{Text, Recount}
 
--- the lines so far leave the cut here
-abbrev pub IsCut : Cut → lines.Cut → Type 0
-IsCut Between between = Unit {0}
-IsCut (Within block) (within command) = IsBlockOf block command
-IsCut Over over = Unit {0}
-IsCut _ _ = ⊥
+-- the lines so far are divided so
+abbrev pub IsDivision : Division → lines.Division → Type 0
+IsDivision Between between = Unit {0}
+IsDivision (Within block) (within command) = IsBlockOf block command
+IsDivision Over over = Unit {0}
+IsDivision _ _ = ⊥
 
 -- a block goes on with this line
-abbrev pub reads_on : Cut → ReadLine → Bool
+abbrev pub reads_on : Division → ReadLine → Bool
 reads_on (Within block) line = not (not block.to_end && ends_block line)
 reads_on _ line = false
 
@@ -76,5 +76,5 @@ pub record Answers (answered : Answered) (p : Position) (line : ReadLine) : Type
   pub text : reply_to_line p line ≡ reply_of answered.answer.reply answered.engine
   pub refused : (after_line p line).progress.refused ≡ (p.progress.refused || answered.answer.refused)
   pub state : (after_line p line).progress.store.state ≡ answered.engine
-  pub cut : IsCut answered.cut (after_line p line).cut
+  pub division : IsDivision answered.division (after_line p line).division
   pub does : Does answered.answer.effect p.progress.store (after_line p line).progress.store

@@ -4,7 +4,7 @@ ghost use Rattle.std.specs.Prelude.{◌≡◌, true, false, List, Some, if◌the
 ghost use Rattle.std.specs.Option.{option_copied};
 ghost use Rattle.wot_types.specs.Commands as lines;
 ghost use Rattle.wot_types.specs.Commands.{Command, begun_command, closed_command, is_quit};
-ghost use Rattle.wot_types.specs.Commands.Cut.{between, over};
+ghost use Rattle.wot_types.specs.Commands.Division.{between, over};
 ghost use Rattle.wot_types.specs.Grammar.{has_block};
 ghost use Rattle.wot_types.specs.LineByLine.{Position};
 ghost use Rattle.wot_types.specs.Listing.{Line, fault_at_end};
@@ -13,12 +13,12 @@ ghost use Rattle.wot_types.specs.OwnertrustText.{ownertrust_fault};
 ghost use Rattle.wot_types.specs.Store.{Store};
 ghost use Rattle.wot_listing.specs.Reading.{HasRead};
 ghost use Rattle.wot_ownertrust.specs.Reading.{reading_of};
-ghost use Rattle.wot_answer.specs.Answer.{Answers, Ends, IsCut, reads_on};
+ghost use Rattle.wot_answer.specs.Answer.{Answers, Ends, IsDivision, reads_on};
 ghost use Rattle.wot_answer.specs.Block.{IsBlockOf, IsReadFor};
-ghost use Rattle.wot_answer.specs.declared.cut.Cut.TheVariants.{Between};
+ghost use Rattle.wot_answer.specs.declared.division.Division.TheVariants.{Between};
 
 use crate::block::{Block, Body};
-use crate::cut::Cut;
+use crate::division::Division;
 use crate::edit::make_edit;
 use crate::edit_reply::EditReply;
 use crate::query::{answer_query, has_key};
@@ -37,26 +37,26 @@ use wot_types::{Edit, Fpr, Head, Mem, Refusal, Words};
 pub struct Answered {
     pub engine: Engine,
     pub answer: Answer,
-    pub cut: Cut,
+    pub division: Division,
 }
 
-/// Answers a line without its newline; None is a line that is too long. A line that a block goes on with is read by `Cut::read_on`, and not answered here. The journal ends at `end`.
+/// Answers a line without its newline; None is a line that is too long. A line that a block goes on with is read by `Division::read_on`, and not answered here. The journal ends at `end`.
 pub fn answer_line(
     alloc: Global,
     engine: Engine,
     end: u64,
-    cut: Cut,
+    division: Division,
     line: Option<&[u8]>,
 ) -> Result<Answered, Mem>
-    requires known { (c : lines.Cut) × IsCut cut c }
-    requires ended { reads_on cut (option_copied line) ≡ false }
+    requires known { (c : lines.Division) × IsDivision division c }
+    requires ended { reads_on division (option_copied line) ≡ false }
     ensures answers { IfOk result (λ answered. (p : Position) → engine ≡ p.progress.store.state → end ≡ p.progress.store.end
-        → IsCut cut p.cut → Answers answered p (option_copied line.entry)) }
+        → IsDivision division p.division → Answers answered p (option_copied line.entry)) }
 {
-    match cut {
-        Cut::Between => answer_command(alloc, engine, end, line),
-        Cut::Within(block) => answer_body(alloc, engine, end, block.body),
-        Cut::Over => Ok(say_nothing(alloc, engine, Cut::Over)),
+    match division {
+        Division::Between => answer_command(alloc, engine, end, line),
+        Division::Within(block) => answer_body(alloc, engine, end, block.body),
+        Division::Over => Ok(say_nothing(alloc, engine, Division::Over)),
     }
 }
 
@@ -68,7 +68,7 @@ fn answer_command(
     line: Option<&[u8]>,
 ) -> Result<Answered, Mem>
     ensures answers { IfOk result (λ answered. (p : Position) → engine ≡ p.progress.store.state → end ≡ p.progress.store.end
-        → p.cut ≡ between → Answers answered p (option_copied line.entry)) }
+        → p.division ≡ between → Answers answered p (option_copied line.entry)) }
 {
     match line {
         Some(line) => answer_text(alloc, engine, end, line),
@@ -79,7 +79,7 @@ fn answer_command(
 /// The same of a line that isn't too long.
 fn answer_text(alloc: Global, engine: Engine, end: u64, line: &[u8]) -> Result<Answered, Mem>
     ensures answers { IfOk result (λ answered. (p : Position) → engine ≡ p.progress.store.state → end ≡ p.progress.store.end
-        → p.cut ≡ between → Answers answered p (Some line.now)) }
+        → p.division ≡ between → Answers answered p (Some line.now)) }
 {
     let words = line_words(alloc, without_return(line))?;
     if has_block(&words) {
@@ -88,28 +88,28 @@ fn answer_text(alloc: Global, engine: Engine, end: u64, line: &[u8]) -> Result<A
             to_end: false,
             body,
         };
-        return Ok(say_nothing(alloc, engine, Cut::Within(block)));
+        return Ok(say_nothing(alloc, engine, Division::Within(block)));
     }
     let Answered { engine, answer, .. } = answer_words(alloc, engine, end, &words)?;
     Ok(Answered {
         engine,
         answer,
-        cut: cut_after(&words),
+        division: division_after(&words),
     })
 }
 
 /// An accepted `quit` ends the session.
-fn cut_after(words: &Words) -> Cut
-    ensures { IsCut result (if is_quit (Some words.now) then over else between) }
+fn division_after(words: &Words) -> Division
+    ensures { IsDivision result (if is_quit (Some words.now) then over else between) }
 {
     if is_quit(words) {
-        Cut::Over
+        Division::Over
     } else {
-        Cut::Between
+        Division::Between
     }
 }
 
-/// Answers a command whose block is unfinished at the end of the input. What it answers as the cut says nothing.
+/// Answers a command whose block is unfinished at the end of the input. The division that it answers says nothing.
 pub fn answer_end(alloc: Global, engine: Engine, end: u64, block: Block) -> Result<Answered, Mem>
     requires known { (command : Command) × IsBlockOf block command }
     ensures ends { IfOk result (λ answered. (s : Store) (command : Command) → engine ≡ s.state → end ≡ s.end
@@ -131,7 +131,7 @@ fn answer_body(alloc: Global, engine: Engine, end: u64, body: Body) -> Result<An
     requires known { (command : Command) × IsReadFor body command }
     ensures ends { IfOk result (λ answered. (s : Store) (command : Command) → engine ≡ s.state → end ≡ s.end
         → IsReadFor body command → Ends answered s (outcome s (closed_command command))) }
-    ensures cut { IfOk result (λ answered. answered.cut ≡ Between) }
+    ensures division { IfOk result (λ answered. answered.division ≡ Between) }
 {
     match body {
         Body::Refused(refusal) => refuse(alloc, engine, refusal),
@@ -150,7 +150,7 @@ fn import_listing(
     requires known { (lines : List Line) × HasRead listing lines }
     ensures ends { IfOk result (λ answered. (s : Store) (lines : List Line) → engine ≡ s.state → end ≡ s.end
         → HasRead listing lines → Ends answered s (listing_outcome (fault_at_end lines) s lines)) }
-    ensures cut { IfOk result (λ answered. answered.cut ≡ Between) }
+    ensures division { IfOk result (λ answered. answered.division ≡ Between) }
 {
     match listing.finish() {
         Ok(Blocks { keys, kept, passed }) => {
@@ -178,7 +178,7 @@ fn set_entries(
     requires known { (lines : List Line) × (text ≡ reading_of lines) }
     ensures ends { IfOk result (λ answered. (s : Store) (lines : List Line) → engine ≡ s.state → end ≡ s.end
         → text ≡ reading_of lines → Ends answered s (entries_outcome (ownertrust_fault lines) s lines)) }
-    ensures cut { IfOk result (λ answered. answered.cut ≡ Between) }
+    ensures division { IfOk result (λ answered. answered.division ≡ Between) }
 {
     match text.into_entries(alloc) {
         Ok(entries) => {
@@ -199,10 +199,10 @@ fn set_entries(
 /// Answers a command by its words; its block, if it has one, is empty.
 pub fn answer_words(alloc: Global, engine: Engine, end: u64, words: &Words) -> Result<Answered, Mem>
     ensures ends { IfOk result (λ answered. (s : Store) → engine ≡ s.state → end ≡ s.end → Ends answered s (outcome s (begun_command words.now))) }
-    ensures cut { IfOk result (λ answered. answered.cut ≡ Between) }
+    ensures division { IfOk result (λ answered. answered.division ≡ Between) }
 {
     if words.is_empty() {
-        return Ok(say_nothing(alloc, engine, Cut::Between));
+        return Ok(say_nothing(alloc, engine, Division::Between));
     }
     match read_head(words) {
         Ok(Head::Edit(edit)) => {
@@ -220,7 +220,7 @@ pub fn answer_words(alloc: Global, engine: Engine, end: u64, words: &Words) -> R
 /// Takes away the key of a fingerprint.
 fn delete_key(alloc: Global, engine: Engine, end: u64, fpr: &Fpr) -> Result<Answered, Mem>
     ensures ends { IfOk result (λ answered. (s : Store) → engine ≡ s.state → end ≡ s.end → Ends answered s (delete_outcome s fpr.now)) }
-    ensures cut { IfOk result (λ answered. answered.cut ≡ Between) }
+    ensures division { IfOk result (λ answered. answered.division ≡ Between) }
 {
     if !has_key(&engine, fpr) {
         return refuse(alloc, engine, Refusal::NoSuchKey);

@@ -7,10 +7,10 @@ ghost use Rattle.wot_types.specs.Payload.{IsPayload, IsProper, payload};
 ghost use Rattle.wot_types.specs.Store.{Store};
 ghost use Rattle.wot_answer.specs.Answer.{Ends};
 ghost use Rattle.wot_answer.specs.EditReply.{reply_text};
-ghost use Rattle.wot_answer.specs.declared.cut.Cut.TheVariants.{Between};
+ghost use Rattle.wot_answer.specs.declared.division.Division.TheVariants.{Between};
 
 use crate::answer::Answered;
-use crate::cut::Cut;
+use crate::division::Division;
 use crate::edit_reply::EditReply;
 use crate::reply::{Answer, Effect, Reply, refuse};
 use std::alloc::Global;
@@ -31,7 +31,7 @@ pub fn make_edit(
 ) -> Result<Answered, Mem>
     requires proper { IsProper edit }
     ensures ends { IfOk result (λ answered. (s : Store) → engine ≡ s.state → end ≡ s.end → Ends answered s (edit_outcome (reply_text reply (state_after s.state edit)) s edit)) }
-    ensures cut { IfOk result (λ answered. answered.cut ≡ Between) }
+    ensures division { IfOk result (λ answered. answered.division ≡ Between) }
 {
     match refusal(&engine, &edit) {
         Some(refusal) => refuse(alloc, engine, refusal),
@@ -50,7 +50,7 @@ fn make_allowed(
     requires proper { IsProper edit }
     requires allowed { refusal_of engine edit ≡ None }
     ensures ends { IfOk result (λ answered. (s : Store) → engine ≡ s.state → end ≡ s.end → Ends answered s (edit_outcome (reply_text reply (state_after s.state edit)) s edit)) }
-    ensures cut { IfOk result (λ answered. answered.cut ≡ Between) }
+    ensures division { IfOk result (λ answered. answered.division ≡ Between) }
 {
     match build_record(alloc, &edit, end) {
         Ok(built) => {
@@ -63,7 +63,7 @@ fn make_allowed(
                     refused: false,
                     effect: Effect::Append(built),
                 },
-                cut: Cut::Between,
+                division: Division::Between,
             })
         }
         Err(BuildError::JournalFull) => refuse(alloc, engine, Refusal::JournalFull),

@@ -4,7 +4,7 @@
 
 mod answer; // the answers to lines, to blocks at the input's end and to words
 mod block; // a command's block, read as it comes
-mod cut; // where the lines so far leave the cut into commands
+mod division; // how the lines so far are divided into commands
 mod edit; // an edit that is refused or made
 mod edit_reply; // what an accepted edit is answered with
 mod query; // what a query is answered with
@@ -13,6 +13,6 @@ mod words; // the words of a line
 
 pub use answer::{Answered, answer_end, answer_line, answer_words, begin_block};
 pub use block::Block;
-pub use cut::Cut;
+pub use division::Division;
 pub use reply::{Answer, Effect, Reply};
 pub use words::has_block;

@@ -8,7 +8,7 @@ ghost use Rattle.wot_types.specs.WhyText.{why_text};
 ghost use Rattle.wot_types.specs.Store.{Store};
 ghost use Rattle.wot_commands.specs.Heads.{IsProperQuery};
 ghost use Rattle.wot_answer.specs.Answer.{Ends, effect_by, reply_of};
-ghost use Rattle.wot_answer.specs.declared.cut.Cut.TheVariants.{Between};
+ghost use Rattle.wot_answer.specs.declared.division.Division.TheVariants.{Between};
 
 use crate::answer::Answered;
 use crate::reply::{Effect, Reply, answered, refuse};
@@ -18,13 +18,14 @@ use std::sync::ledger::{Blank, Ledger};
 use wot_explain::{cut, explain, recount};
 use wot_live::Engine;
 use wot_print::{export, list, why};
+use wot_table::LentState;
 use wot_types::{Fpr, KeyId, Mem, Query, Refusal, Steps};
 
 /// Answers a query; the engine stays.
 pub fn answer_query(alloc: Global, engine: Engine, query: &Query) -> Result<Answered, Mem>
     requires proper { IsProperQuery query.now }
     ensures ends { IfOk result (λ answered. (s : Store) → engine ≡ s.state → Ends answered s (query_outcome s query.now)) }
-    ensures cut { IfOk result (λ answered. answered.cut ≡ Between) }
+    ensures division { IfOk result (λ answered. answered.division ≡ Between) }
 {
     match query_refusal(&engine, query) {
         Some(refusal) => refuse(alloc, engine, refusal),
@@ -137,15 +138,7 @@ fn explanation_text_by<L: Ledger>(
     let user = place - 1;
     let found = explain(engine, id, user, &mut steps)?;
     let table = cut(engine, &found, id, user, &mut steps)?;
-    let options = engine.options();
-    let letter = recount(
-        &table,
-        engine.trusts(),
-        engine.date(),
-        options,
-        id,
-        user,
-        &mut steps,
-    )?;
+    let state = LentState::of(&table, engine.trusts(), engine.date(), engine.options());
+    let letter = recount(&state, id, user, &mut steps)?;
     why(alloc, id, place, &found, letter)
 }

@@ -3,10 +3,10 @@
 ghost use Rattle.std.specs.Prelude.{◌≡◌, false, IfOk};
 ghost use Rattle.wot_types.specs.Outcome.{refuse, skip};
 ghost use Rattle.wot_answer.specs.Answer.{IsReply};
-ghost use Rattle.wot_answer.specs.declared.cut.Cut.TheVariants.{Between};
+ghost use Rattle.wot_answer.specs.declared.division.Division.TheVariants.{Between};
 
 use crate::answer::Answered;
-use crate::cut::Cut;
+use crate::division::Division;
 use std::alloc::Global;
 use wot_journal::Built;
 use wot_live::Engine;
@@ -43,7 +43,7 @@ pub struct Answer {
 /// A refused command's `err` line; the engine stays.
 pub fn refuse(alloc: Global, engine: Engine, refusal: Refusal) -> Result<Answered, Mem>
     ensures reply { IfOk result (λ answered. IsReply answered engine (refuse refusal)) }
-    ensures cut { IfOk result (λ answered. answered.cut ≡ Between) }
+    ensures division { IfOk result (λ answered. answered.division ≡ Between) }
 {
     Ok(Answered {
         engine,
@@ -52,7 +52,7 @@ pub fn refuse(alloc: Global, engine: Engine, refusal: Refusal) -> Result<Answere
             refused: true,
             effect: Effect::Nothing,
         },
-        cut: Cut::Between,
+        division: Division::Between,
     })
 }
 
@@ -60,7 +60,7 @@ pub fn refuse(alloc: Global, engine: Engine, refusal: Refusal) -> Result<Answere
 pub fn answered(engine: Engine, reply: Reply, effect: Effect) -> Answered
     ensures engine { result.engine ≡ engine }
     ensures answer { result.answer ≡ record { reply = reply; refused = false; effect = effect } }
-    ensures cut { result.cut ≡ Between }
+    ensures division { result.division ≡ Between }
 {
     Answered {
         engine,
@@ -69,14 +69,14 @@ pub fn answered(engine: Engine, reply: Reply, effect: Effect) -> Answered
             refused: false,
             effect,
         },
-        cut: Cut::Between,
+        division: Division::Between,
     }
 }
 
 /// Nothing is told, and nothing is done.
-pub fn say_nothing(alloc: Global, engine: Engine, cut: Cut) -> Answered
+pub fn say_nothing(alloc: Global, engine: Engine, division: Division) -> Answered
     ensures reply { IsReply result engine skip }
-    ensures cut { result.cut ≡ cut }
+    ensures division { result.division ≡ division }
 {
     Answered {
         engine,
@@ -85,6 +85,6 @@ pub fn say_nothing(alloc: Global, engine: Engine, cut: Cut) -> Answered
             refused: false,
             effect: Effect::Nothing,
         },
-        cut,
+        division,
     }
 }

@@ -4,7 +4,7 @@ use Rattle.wot_site.specs.Disk.{disk_of}
 use Rattle.wot_site.specs.Seen.{Seen}
 use Rattle.wot_site.specs.declared.side.Side.{Side}
 use Rattle.wot_journal.specs.Record.{IsClosed, most}
-use Rattle.wot_journal.specs.Next.{HasRecord, IsCut}
+use Rattle.wot_journal.specs.Next.{HasRecord, IsTruncated}
 use Rattle.wot_journal.specs.declared.reading.Step.{Step}
 use Rattle.wot_journal.specs.declared.reading.Step.TheVariants.{Payload, End}
 
@@ -21,6 +21,6 @@ pub record Finds (side : Side) (at : ℕ) (step : Step) (old new : Seen) : Type 
   pub stays : new ≡ old
   pub stands : Stands (disk_of side old.disks).reads at step
 
-pub record IsCutAt (side : Side) (at : ℕ) (old new : Seen) : Type 0 where
+pub record IsTruncatedAt (side : Side) (at : ℕ) (old new : Seen) : Type 0 where
   pub stays : new ≡ old
-  pub cut : IsCut (disk_of side old.disks).reads at
+  pub truncated : IsTruncated (disk_of side old.disks).reads at

@@ -15,6 +15,6 @@ abbrev pub length_at : List ℕ → ℕ → ℕ
 length_at bytes at = from_be_bytes w32 (take 4 (drop (at + 1) bytes))
 
 -- the gate here is open, and its record, with the gate behind it, passes the side or its limit
-pub record IsCut (bytes : List ℕ) (at : ℕ) : Type 0 where
+pub record IsTruncated (bytes : List ℕ) (at : ℕ) : Type 0 where
   pub opened : slice_index bytes at ≡ open_gate
   pub passes : min (length bytes) most < at + length_at bytes at + 6

@@ -5,7 +5,7 @@ ghost use Rattle.std.specs.Int.{from_be_bytes, to_be_bytes, w32};
 ghost use Rattle.wot_site.specs.Disk.{disk_of};
 ghost use Rattle.wot_site.specs.Seen.{Honestly, IfHonest};
 ghost use Rattle.wot_site.specs.Site.{Stays, Rose, NoneFell};
-ghost use Rattle.wot_journal.specs.Found.{Finds, GoesOn, IsCutAt};
+ghost use Rattle.wot_journal.specs.Found.{Finds, GoesOn, IsTruncatedAt};
 ghost use Rattle.wot_journal.specs.Range.{IsRange};
 
 use byteorder::{BigEndian, ByteOrder};
@@ -49,7 +49,7 @@ pub fn next<S: Site>(
     ensures found { IfOk result (λ step. Honestly (S.seen site.old) (S.seen site.new) (Finds side at step)) }
     ensures stays { OnErr result (Honestly (S.seen site.old) (S.seen site.new) Stays) }
     ensures short { (q : _) → IsErrOf result (ReplayError.Short q) → q ≡ at }
-    ensures cut { (q : _) → IsErrOf result (ReplayError.Short q) → Honestly (S.seen site.old) (S.seen site.new) (IsCutAt side at) }
+    ensures truncated { (q : _) → IsErrOf result (ReplayError.Short q) → Honestly (S.seen site.old) (S.seen site.new) (IsTruncatedAt side at) }
     ensures cause { IsErrOf result ReplayError.DiskFault → Rose (S.faults site.old).disk (S.faults site.new).disk }
     ensures counts { NoneFell (S.faults site.old) (S.faults site.new) }
     ensures quiet { (IsErrOf result ReplayError.DiskFault → ⊥) → S.faults site.new ≡ S.faults site.old }

@@ -1,14 +1,14 @@
 use Rattle.std.proofs.Common.{◌≡◌, false, subst}
 use Rattle.std.specs.Option.{option_copied}
 use Rattle.std.proofs.lemmas.Result.{IfOk-weaker}
-use Rattle.wot_answer.specs.Answer.{IsCut, reads_on}
-use Rattle.wot_answer.proofs.Answering.{answers_end, answers_over, if_both, is_between, is_ended, is_over, within_cut}
+use Rattle.wot_answer.specs.Answer.{IsDivision, reads_on}
+use Rattle.wot_answer.proofs.Answering.{answers_end, answers_over, if_both, is_between, is_ended, is_over, within_division}
 use Rattle.wot_answer.proofs.answer.answer_line.Goals as goal
 
 pub answer_body-requires : goal.answer_body-requires
 answer_body-requires c = record {
   known =
-      let known = within_cut c.in-Within.block c.requires.known.0 (subst (λ held. IsCut held c.requires.known.0) c.in-Within.is c.requires.known.1) in
+      let known = within_division c.in-Within.block c.requires.known.0 (subst (λ held. IsDivision held c.requires.known.0) c.in-Within.is c.requires.known.1) in
       (known.0, known.2.read);
 }
 
@@ -16,7 +16,7 @@ pub returns-in-Between : goal.returns-in-Between
 returns-in-Between c = record {
   answers =
       IfOk-weaker c.answer_command.result _ _
-      (λ answered is p same at cut. is p same at (is_between p.cut (subst (λ held. IsCut held p.cut) c.in-Between.is cut)))
+      (λ answered is p same at division. is p same at (is_between p.division (subst (λ held. IsDivision held p.division) c.in-Between.is division)))
       c.answer_command.ensures.answers;
 }
 
@@ -24,16 +24,16 @@ pub returns-in-Within : goal.returns-in-Within
 returns-in-Within c = record {
   answers =
       IfOk-weaker c.answer_body.result _ _
-      (λ answered both p same at cut.
-      let known = within_cut c.in-Within.block p.cut (subst (λ held. IsCut held p.cut) c.in-Within.is cut) in
+      (λ answered both p same at division.
+      let known = within_division c.in-Within.block p.division (subst (λ held. IsDivision held p.division) c.in-Within.is division) in
       let line = option_copied c.args.line in
       let ended = is_ended c.in-Within.block known.0 line known.2 (subst (λ held. reads_on held line ≡ false) c.in-Within.is c.requires.ended) in
       answers_end answered p line known.0 known.1 ended (both.0 p.progress.store known.0 same at known.2.read) both.1)
-      (if_both _ _ c.answer_body.result c.answer_body.ensures.ends c.answer_body.ensures.cut);
+      (if_both _ _ c.answer_body.result c.answer_body.ensures.ends c.answer_body.ensures.division);
 }
 
 pub returns-in-Over : goal.returns-in-Over
 returns-in-Over c = record {
-  answers = λ p same at cut.
-      answers_over c.say_nothing.result p (option_copied c.args.line) c.args.engine same (is_over p.cut (subst (λ held. IsCut held p.cut) c.in-Over.is cut)) c.say_nothing.ensures.reply c.say_nothing.ensures.cut;
+  answers = λ p same at division.
+      answers_over c.say_nothing.result p (option_copied c.args.line) c.args.engine same (is_over p.division (subst (λ held. IsDivision held p.division) c.in-Over.is division)) c.say_nothing.ensures.reply c.say_nothing.ensures.division;
 }

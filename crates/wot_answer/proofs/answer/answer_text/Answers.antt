@@ -1,12 +1,12 @@
 use Rattle.std.proofs.Common.{◌≡◌, Some, [], true, false, if◌then◌else◌, refl, sym, ap, subst, ◌∙◌}
 use Rattle.wot_types.specs.Commands.{begun_command, is_quit, line_words, opened_command}
-use Rattle.wot_types.specs.Commands.Cut.{between, over, within}
+use Rattle.wot_types.specs.Commands.Division.{between, over, within}
 use Rattle.wot_types.specs.Grammar.{command_of, has_block}
 use Rattle.wot_types.specs.Lines.{without_return}
 use Rattle.wot_types.specs.Outcome.{outcome}
-use Rattle.wot_answer.specs.Answer.{Ends, IsCut}
+use Rattle.wot_answer.specs.Answer.{Ends, IsDivision}
 use Rattle.wot_answer.specs.Block.{HasHad, IsBlockOf}
-use Rattle.wot_answer.proofs.Answering.{answers_line, answers_opened, recut}
+use Rattle.wot_answer.proofs.Answering.{answers_line, answers_opened, redivided}
 use Rattle.wot_answer.proofs.answer.answer_text.Goals as goal
 
 pub returns-then-has_block : goal.returns-then-has_block
@@ -21,7 +21,7 @@ returns-then-has_block c =
     record {
       answers = λ p same at here.
           answers_opened c.say_nothing.result p (Some c.args.line.now) c.args.engine same here opens c.say_nothing.ensures.reply
-          (subst (λ cut. IsCut cut (within (opened_command (Some c.args.line.now)))) (sym c.say_nothing.ensures.cut) block);
+          (subst (λ division. IsDivision division (within (opened_command (Some c.args.line.now)))) (sym c.say_nothing.ensures.division) block);
     }
 
 pub returns : goal.returns
@@ -32,7 +32,7 @@ returns c =
     record {
       answers = λ p same at here.
           answers_line _ p (Some c.args.line.now) here single
-          (recut c.in_ok-engine.field-0 c.cut_after.result p.progress.store _
+          (redivided c.in_ok-engine.field-0 c.division_after.result p.progress.store _
           (subst (λ w. Ends c.in_ok-engine.field-0 p.progress.store (outcome p.progress.store (begun_command w))) is (c.in_ok-engine.ensures.ends p.progress.store same at)))
-          (subst (λ w. IsCut c.cut_after.result (if is_quit (Some w) then over else between)) is c.cut_after.ensures);
+          (subst (λ w. IsDivision c.division_after.result (if is_quit (Some w) then over else between)) is c.division_after.ensures);
     }

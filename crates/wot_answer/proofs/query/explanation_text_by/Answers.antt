@@ -12,8 +12,8 @@ returns g c =
     let s = c.args.engine.now in
     let id = c.args.id in
     let user = c.args.place - 1 in
-    let states : ◌≡◌ {A = State} (record { keys = c.in_ok-table.table; trusts = c.trusts.result.now; date = c.date.result; options = c.options-options.result.now }) (cut s (explanation s id user) id) =
-    λ i. record { keys = c.in_ok-table.ensures.keys i; trusts = c.trusts.ensures i; date = c.date.ensures i; options = c.options-options.ensures.options i } in
+    let states : ◌≡◌ {A = State} c.of-state.result (cut s (explanation s id user) id) =
+    c.of-state.ensures ∙ (λ i. record { keys = c.in_ok-table.ensures.keys i; trusts = c.trusts.ensures i; date = c.date.ensures i; options = c.options.ensures.options i }) in
     let recounted = sym (ap (λ o. unwrap_or o Dash) c.in_ok-letter.ensures.letter) ∙ ap (λ t. unwrap_or (letter_at t id user) Dash) states in
     let at : c.args.place ≡ user + 1 = omega (arith, c.requires.from_one) in
     c.why.ensures.explained s user at c.in_ok-found.ensures.explains recounted
