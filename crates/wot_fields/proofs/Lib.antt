@@ -1,9 +1,10 @@
 pub mod Calendar
 pub mod CivilForm
 pub mod ColonLemmas
-pub mod CutLemmas
+pub mod FieldStartLemmas
 pub mod DateExamples
 pub mod DateLemmas
+pub mod HexDigits
 pub mod NumberLemmas
 pub mod QuoteLaws
 pub mod QuoteLemmas

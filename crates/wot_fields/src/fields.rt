@@ -1,4 +1,4 @@
-//! Fields of a line, which colons cut and which are numbered from 1.
+//! Fields of a line, which colons separate and which are numbered from 1.
 
 ghost use Rattle.std.specs.Prelude.{◌≡◌};
 ghost use Rattle.std.specs.Option.{option_copied};
@@ -7,7 +7,7 @@ ghost use Rattle.wot_types.specs.Fields as listing;
 use crate::colons::Colons;
 use std::marker::Model;
 
-/// How many fields are found when a line is cut. A listing's records have no more that are read.
+/// How many fields are found when a line is split. A listing's records have no more that are read.
 const MOST: usize = 12;
 
 /// A line and where its first 12 fields stand. It takes no memory.
@@ -21,13 +21,13 @@ pub struct Fields<'a> {
 
 impl<'a> Model for Fields<'a> {
     ghost use Rattle.std.specs.Prelude.{List, ℕ};
-    ghost use Rattle.wot_fields.specs.Cut.{IsCut};
+    ghost use Rattle.wot_fields.specs.FieldStarts.{AreFieldStarts};
 
     ghost Value = { List ℕ };
 
     ghost view = { λ f. f.line.now };
 
-    ghost invariant = { λ f. IsCut f.line.now f.starts f.count };
+    ghost invariant = { λ f. AreFieldStarts f.line.now f.starts f.count };
 }
 
 impl<'a> Fields<'a> {

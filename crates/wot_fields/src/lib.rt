@@ -3,7 +3,7 @@
 
 mod colons; // where the colons of a line stand
 mod dates; // seconds since 1970, and civil dates
-mod fields; // a line cut at its colons
+mod fields; // a line split at its colons
 mod lines; // lines that say nothing
 mod numbers; // decimal numbers
 mod printed; // numbers and bytes as a field prints them
@@ -15,5 +15,5 @@ pub use fields::{Fields, field};
 pub use lines::{is_blank, is_comment};
 pub use numbers::{long, number, number_or_0};
 pub use printed::{push_hex, push_number};
-pub use quoting::quote;
+pub use quoting::{push_quoted, quote};
 pub use unquoting::{QuoteError, unquote};

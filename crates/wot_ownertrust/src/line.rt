@@ -66,9 +66,9 @@ pub fn write_line(alloc: Global, entry: &Entry) -> Result<Text, Mem>
         disabled: *disabled,
     };
     let mut text = Vec::new(alloc);
-    push_hex(alloc, &mut text, fpr.as_bytes())?;
+    push_hex(&mut text, fpr.as_bytes())?;
     text.push(b':')?;
-    push_number(alloc, &mut text, u64::from(kept.number()))?;
+    push_number(&mut text, u64::from(kept.number()))?;
     text.push(b':')?;
     Ok(Text::from_vec(text))
 }

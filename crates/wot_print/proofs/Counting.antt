@@ -21,7 +21,7 @@ use Rattle.wot_types.specs.State.{State}
 use Rattle.wot_types.specs.Tally.{all_letters, letter_count, same_letter, tally_line}
 use Rattle.wot_types.proofs.Capped.{capped_add}
 use Rattle.wot_types.proofs.MapLemmas.{IsAt, entries_at}
-use Rattle.wot_check.specs.Pieces.{IsByPiece}
+use Rattle.wot_workers.specs.Pieces.{IsByPiece}
 use Rattle.wot_print.specs.declared.counts.LetterCounts.{LetterCounts}
 use Rattle.wot_print.specs.Counts.{count_in, counts_line, counts_of}
 use Rattle.wot_print.specs.KeyLetters.{letters_among, letters_at, letters_if}

@@ -19,11 +19,11 @@ pub fn import_line(alloc: Global, keys: u64, kept: u64, passed: u64) -> Result<V
     ensures { IfOk result (λ text. text.items ≡ import_line keys kept passed) }
 {
     let mut text = Vec::from_slice(alloc, b"ok keys ")?;
-    push_number(alloc, &mut text, keys)?;
+    push_number(&mut text, keys)?;
     text.extend_from_slice(b" kept ")?;
-    push_number(alloc, &mut text, kept)?;
+    push_number(&mut text, kept)?;
     text.extend_from_slice(b" passed ")?;
-    push_number(alloc, &mut text, passed)?;
+    push_number(&mut text, passed)?;
     text.push(b'\n')?;
     Ok(text)
 }
@@ -33,7 +33,7 @@ pub fn keys_line(alloc: Global, keys: u32) -> Result<Vec<u8>, Mem>
     ensures { IfOk result (λ text. text.items ≡ keys_line keys) }
 {
     let mut text = Vec::from_slice(alloc, b"ok keys ")?;
-    push_number(alloc, &mut text, u64::from(keys))?;
+    push_number(&mut text, u64::from(keys))?;
     text.push(b'\n')?;
     Ok(text)
 }
@@ -43,7 +43,7 @@ pub fn entries_line(alloc: Global, entries: u64) -> Result<Vec<u8>, Mem>
     ensures { IfOk result (λ text. text.items ≡ entries_line entries) }
 {
     let mut text = Vec::from_slice(alloc, b"ok entries ")?;
-    push_number(alloc, &mut text, entries)?;
+    push_number(&mut text, entries)?;
     text.push(b'\n')?;
     Ok(text)
 }

@@ -90,8 +90,8 @@ pub fn counts_line(alloc: Global, rows: &Rows, counts: &LetterCounts) -> Result<
     ensures { IfOk result (λ text. text.items ≡ counts_line rows.now counts.now) }
 {
     let mut text = Vec::from_slice(alloc, b"tally:")?;
-    push_count_field(alloc, &mut text, count_rows(rows))?;
-    push_counts(alloc, &mut text, counts)?;
+    push_count_field(&mut text, count_rows(rows))?;
+    push_counts(&mut text, counts)?;
     text.push(b'\n')?;
     Ok(text)
 }
@@ -147,23 +147,22 @@ fn letter_over<L: Ledger>(
     ensures { (spot : Spot) → spot_of keyblock.now.1 user ≡ Some spot
         → result ≡ user_letter engine.now rows.now keyblock.now.0 keyblock.now.1 spot }
 {
-    let options = engine.options();
-    let date = engine.date();
-    let count = verdict_in(keyblock, date, options, rows, user, steps);
+    let state = engine.lent();
+    let count = verdict_in(keyblock, &state, rows, user, steps);
     let head = user_in(keyblock, user).unwrap();
-    letter_by(rows, date, options, keyblock.id(), key, &head, &count)
+    letter_by(&state, rows.get(keyblock.id()), key, &head, &count)
 }
 
 /// The counts in the order `u f m q - r e`.
-fn push_counts(alloc: Global, text: &mut Vec<u8>, counts: &LetterCounts) -> Result<(), Mem>
+fn push_counts(text: &mut Vec<u8>, counts: &LetterCounts) -> Result<(), Mem>
     ensures { OnOk result (text.new.items ≡ text.old.items ++ count_fields counts.now) }
 {
-    push_count_field(alloc, text, counts.ultimate)?;
-    push_count_field(alloc, text, counts.full)?;
-    push_count_field(alloc, text, counts.marginal)?;
-    push_count_field(alloc, text, counts.undefined)?;
-    push_count_field(alloc, text, counts.unknown)?;
-    push_count_field(alloc, text, counts.revoked)?;
-    push_count_field(alloc, text, counts.expired)?;
+    push_count_field(text, counts.ultimate)?;
+    push_count_field(text, counts.full)?;
+    push_count_field(text, counts.marginal)?;
+    push_count_field(text, counts.undefined)?;
+    push_count_field(text, counts.unknown)?;
+    push_count_field(text, counts.revoked)?;
+    push_count_field(text, counts.expired)?;
     Ok(())
 }

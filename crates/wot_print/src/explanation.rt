@@ -22,16 +22,15 @@ pub fn why(alloc: Global, id: KeyId, place: u32, why: &Why, cut: Letter) -> Resu
         → IfOk result (λ text. text.items ≡ why_text s id user) }
 {
     let mut text = Vec::new(alloc);
-    push_why(alloc, &mut text, id, place, why.letter, &why.count)?;
-    push_rows(alloc, &mut text, why.rows.as_slice())?;
-    push_counted(alloc, &mut text, why.counted.as_slice())?;
+    push_why(&mut text, id, place, why.letter, &why.count)?;
+    push_rows(&mut text, why.rows.as_slice())?;
+    push_counted(&mut text, why.counted.as_slice())?;
     push_cut(&mut text, cut)?;
     Ok(text)
 }
 
 /// `why:LETTER:KEYID:PLACE:ULTIMATE:FULL:MARGINAL:OTHER:`
 fn push_why(
-    alloc: Global,
     text: &mut Vec<u8>,
     id: KeyId,
     place: u32,
@@ -42,64 +41,64 @@ fn push_why(
 {
     text.extend_from_slice(b"why:")?;
     push_field(text, letter_text(letter))?;
-    push_key_id_field(alloc, text, id)?;
-    push_number_field(alloc, text, place)?;
-    push_count(alloc, text, count)?;
+    push_key_id_field(text, id)?;
+    push_number_field(text, place)?;
+    push_count(text, count)?;
     text.push(b'\n')?;
     Ok(())
 }
 
 /// The candidates by their trust.
-fn push_count(alloc: Global, text: &mut Vec<u8>, count: &Count) -> Result<(), Mem>
+fn push_count(text: &mut Vec<u8>, count: &Count) -> Result<(), Mem>
     ensures { OnOk result (text.new.items ≡ text.old.items ++ count_fields count.now) }
 {
-    push_number_field(alloc, text, count.ultimate)?;
-    push_number_field(alloc, text, count.full)?;
-    push_number_field(alloc, text, count.marginal)?;
-    push_number_field(alloc, text, count.other)?;
+    push_number_field(text, count.ultimate)?;
+    push_number_field(text, count.full)?;
+    push_number_field(text, count.marginal)?;
+    push_number_field(text, count.other)?;
     Ok(())
 }
 
 /// A line for each introducer of the explanation.
-fn push_rows(alloc: Global, text: &mut Vec<u8>, rows: &[Row]) -> Result<(), Mem>
+fn push_rows(text: &mut Vec<u8>, rows: &[Row]) -> Result<(), Mem>
     ensures { OnOk result (text.new.items ≡ text.old.items ++ flat_map row_line rows.now) }
 {
     for row in rows {
-        push_row(alloc, text, row)?;
+        push_row(text, row)?;
     }
     Ok(())
 }
 
 /// `row:KEYID:LEVEL:TRUST:LEFT:SCOPE:`
-fn push_row(alloc: Global, text: &mut Vec<u8>, row: &Row) -> Result<(), Mem>
+fn push_row(text: &mut Vec<u8>, row: &Row) -> Result<(), Mem>
     ensures { OnOk result (text.new.items ≡ text.old.items ++ row_line row.now) }
 {
     text.extend_from_slice(b"row:")?;
-    push_key_id_field(alloc, text, row.key)?;
-    push_number_field(alloc, text, u32::from(row.level))?;
+    push_key_id_field(text, row.key)?;
+    push_number_field(text, u32::from(row.level))?;
     push_field(text, trust_text(row.trust))?;
-    push_number_field(alloc, text, u32::from(row.left))?;
-    push_scope(alloc, text, &row.scope)?;
+    push_number_field(text, u32::from(row.left))?;
+    push_scope(text, &row.scope)?;
     text.push(b'\n')?;
     Ok(())
 }
 
 /// A line for each candidate.
-fn push_counted(alloc: Global, text: &mut Vec<u8>, counted: &[Counted]) -> Result<(), Mem>
+fn push_counted(text: &mut Vec<u8>, counted: &[Counted]) -> Result<(), Mem>
     ensures { OnOk result (text.new.items ≡ text.old.items ++ flat_map (λ c. by_line (shown_counted c)) counted.now) }
 {
     for candidate in counted {
-        push_by(alloc, text, candidate)?;
+        push_by(text, candidate)?;
     }
     Ok(())
 }
 
 /// `by:KEYID:TRUST:`
-fn push_by(alloc: Global, text: &mut Vec<u8>, candidate: &Counted) -> Result<(), Mem>
+fn push_by(text: &mut Vec<u8>, candidate: &Counted) -> Result<(), Mem>
     ensures { OnOk result (text.new.items ≡ text.old.items ++ by_line (shown_counted candidate.now)) }
 {
     text.extend_from_slice(b"by:")?;
-    push_key_id_field(alloc, text, candidate.key)?;
+    push_key_id_field(text, candidate.key)?;
     push_field(text, trust_text(candidate.trust))?;
     text.push(b'\n')?;
     Ok(())

@@ -5,8 +5,7 @@ ghost use Rattle.hex.specs.Hex.{encode_upper};
 ghost use Rattle.wot_types.specs.Printing.{ended_field, expiry_field, key_id_text, number_field, scope_text};
 ghost use Rattle.wot_types.specs.Quotes.{printed_text};
 
-use std::alloc::Global;
-use wot_fields::{push_hex, push_number, quote};
+use wot_fields::{push_hex, push_number, push_quoted};
 use wot_types::{KeyId, Mem, Scope, Text};
 
 pub fn push_field(text: &mut Vec<u8>, field: &[u8]) -> Result<(), Mem>
@@ -17,68 +16,69 @@ pub fn push_field(text: &mut Vec<u8>, field: &[u8]) -> Result<(), Mem>
     Ok(())
 }
 
-pub fn push_number_field(alloc: Global, text: &mut Vec<u8>, number: u32) -> Result<(), Mem>
+pub fn push_number_field(text: &mut Vec<u8>, number: u32) -> Result<(), Mem>
     ensures { OnOk result (text.new.items ≡ text.old.items ++ number_field number) }
 {
-    push_count_field(alloc, text, u64::from(number))
+    push_count_field(text, u64::from(number))
 }
 
-pub fn push_count_field(alloc: Global, text: &mut Vec<u8>, count: u64) -> Result<(), Mem>
+pub fn push_count_field(text: &mut Vec<u8>, count: u64) -> Result<(), Mem>
     ensures { OnOk result (text.new.items ≡ text.old.items ++ number_field count) }
 {
-    push_number(alloc, text, count)?;
+    push_number(text, count)?;
     text.push(b':')?;
     Ok(())
 }
 
 /// An expiry, or nothing for none.
-pub fn push_expiry(alloc: Global, text: &mut Vec<u8>, expires: u32) -> Result<(), Mem>
+pub fn push_expiry(text: &mut Vec<u8>, expires: u32) -> Result<(), Mem>
     ensures { OnOk result (text.new.items ≡ text.old.items ++ expiry_field expires) }
 {
     if expires == 0 {
         push_field(text, b"")
     } else {
-        push_number_field(alloc, text, expires)
+        push_number_field(text, expires)
     }
 }
 
 /// Bytes in hexadecimal.
-pub fn push_hex_field(alloc: Global, text: &mut Vec<u8>, bytes: &[u8]) -> Result<(), Mem>
+pub fn push_hex_field(text: &mut Vec<u8>, bytes: &[u8]) -> Result<(), Mem>
     ensures { OnOk result (text.new.items ≡ text.old.items ++ ended_field (encode_upper bytes.now)) }
 {
-    push_hex(alloc, text, bytes)?;
+    push_hex(text, bytes)?;
     text.push(b':')?;
     Ok(())
 }
 
-pub fn push_key_id_field(alloc: Global, text: &mut Vec<u8>, id: KeyId) -> Result<(), Mem>
+pub fn push_key_id_field(text: &mut Vec<u8>, id: KeyId) -> Result<(), Mem>
     ensures { OnOk result (text.new.items ≡ text.old.items ++ ended_field (key_id_text id)) }
 {
-    push_key_id(alloc, text, id)?;
+    push_key_id(text, id)?;
     text.push(b':')?;
     Ok(())
 }
 
 /// A key ID alone, as 16 digits in upper case.
-pub fn push_key_id(alloc: Global, text: &mut Vec<u8>, id: KeyId) -> Result<(), Mem>
+pub fn push_key_id(text: &mut Vec<u8>, id: KeyId) -> Result<(), Mem>
     ensures { OnOk result (text.new.items ≡ text.old.items ++ key_id_text id) }
 {
-    push_hex(alloc, text, id.0.to_be_bytes().as_slice())
+    push_hex(text, id.0.to_be_bytes().as_slice())
 }
 
-pub fn push_quoted_field(alloc: Global, text: &mut Vec<u8>, field: &Text) -> Result<(), Mem>
+pub fn push_quoted_field(text: &mut Vec<u8>, field: &Text) -> Result<(), Mem>
     ensures { OnOk result (text.new.items ≡ text.old.items ++ ended_field (printed_text field.now)) }
 {
-    let quoted = quote(alloc, field)?;
-    push_field(text, quoted.as_bytes())
+    push_quoted(text, field.as_bytes())?;
+    text.push(b':')?;
+    Ok(())
 }
 
 /// A regular expression, or nothing for none.
-pub fn push_scope(alloc: Global, text: &mut Vec<u8>, scope: &Option<Scope>) -> Result<(), Mem>
+pub fn push_scope(text: &mut Vec<u8>, scope: &Option<Scope>) -> Result<(), Mem>
     ensures { OnOk result (text.new.items ≡ text.old.items ++ ended_field (scope_text scope.now)) }
 {
     match scope {
-        Some(scope) => push_quoted_field(alloc, text, scope.as_text()),
+        Some(scope) => push_quoted_field(text, scope.as_text()),
         None => push_field(text, b""),
     }
 }

@@ -11,7 +11,7 @@ mod names; // the words that stand for values
 mod ownertrust; // the ownertrust export
 mod records; // the lines of a listing
 mod refusals; // the line of a refused command
-mod workers; // the same counts by several threads
+mod workers; // the same counts by several workers
 
 pub use answers::{entries_line, import_line, keys_line, ok_line};
 pub use counts::tally;

@@ -53,20 +53,18 @@ fn listing_by<L: Ledger>(
     let mut steps = Steps::<L>::open(blank);
     let mut text = Vec::new(alloc);
     push_tru(
-        alloc,
         &mut text,
         engine.options(),
         engine.date(),
         engine.next_check(),
     )?;
-    push_listed(alloc, &mut text, engine, only, sigs, &mut steps)?;
+    push_listed(&mut text, engine, only, sigs, &mut steps)?;
     state_fits(engine);
     Ok(text)
 }
 
 /// The lines of all keys, or of the one that `only` names.
 fn push_listed<L: Ledger>(
-    alloc: Global,
     text: &mut Vec<u8>,
     engine: &Engine,
     only: Option<KeyId>,
@@ -77,14 +75,13 @@ fn push_listed<L: Ledger>(
     ensures fits { only ≡ None → IsTrue sigs → OnOk result (All (λ e. FitsKey e.1) (map.entries engine.now.keys)) }
 {
     match only {
-        Some(id) => push_key(alloc, text, engine, id, sigs, steps),
-        None => push_keys(alloc, text, engine, sigs, steps),
+        Some(id) => push_key(text, engine, id, sigs, steps),
+        None => push_keys(text, engine, sigs, steps),
     }
 }
 
 /// The lines of all keys.
 fn push_keys<L: Ledger>(
-    alloc: Global,
     text: &mut Vec<u8>,
     engine: &Engine,
     sigs: bool,
@@ -94,14 +91,13 @@ fn push_keys<L: Ledger>(
     ensures fits { IsTrue sigs → OnOk result (All (λ e. FitsKey e.1) (map.entries engine.now.keys)) }
 {
     for keyblock in engine.table().walk() {
-        push_keyblock(alloc, text, engine, &keyblock, sigs, steps)?;
+        push_keyblock(text, engine, &keyblock, sigs, steps)?;
     }
     Ok(())
 }
 
 /// The lines of the key of a key ID, if it is there.
 fn push_key<L: Ledger>(
-    alloc: Global,
     text: &mut Vec<u8>,
     engine: &Engine,
     id: KeyId,
@@ -111,14 +107,13 @@ fn push_key<L: Ledger>(
     ensures { OnOk result (text.new.items ≡ text.old.items ++ flat_map (key_lines engine.now (rows_of engine.now) sigs) (listed_keyblocks engine.now (Some id))) }
 {
     match engine.table().keyblock(id) {
-        Some(keyblock) => push_keyblock(alloc, text, engine, &keyblock, sigs, steps),
+        Some(keyblock) => push_keyblock(text, engine, &keyblock, sigs, steps),
         None => Ok(()),
     }
 }
 
 /// The lines of a key of the engine's table.
 fn push_keyblock<L: Ledger>(
-    alloc: Global,
     text: &mut Vec<u8>,
     engine: &Engine,
     keyblock: &Keyblock<'_>,
@@ -131,11 +126,11 @@ fn push_keyblock<L: Ledger>(
 {
     let id = keyblock.id();
     let head = keyblock.key();
-    let letter = engine.key_letter(id).unwrap();
+    let letter = engine.key_letter_in(keyblock);
     let kept = ownertrust_of(engine.trusts(), head.fpr);
-    push_pub(alloc, text, letter, kept, id, &head)?;
-    push_fpr(alloc, text, head.fpr)?;
-    push_users(alloc, text, engine, keyblock, head.users, sigs, steps)?;
+    push_pub(text, letter, kept, id, &head)?;
+    push_fpr(text, head.fpr)?;
+    push_users(text, engine, keyblock, head.users, sigs, steps)?;
     key_fits(&head);
     Ok(())
 }
@@ -152,7 +147,6 @@ fn ownertrust_of(trusts: &Trusts, fpr: &Fpr) -> Ownertrust
 
 /// The lines of a key's user IDs, of which there are so many.
 fn push_users<L: Ledger>(
-    alloc: Global,
     text: &mut Vec<u8>,
     engine: &Engine,
     keyblock: &Keyblock<'_>,
@@ -166,14 +160,13 @@ fn push_users<L: Ledger>(
     ensures fits { IsTrue sigs → OnOk result (All FitsUser keyblock.now.1.users) }
 {
     for user in 0..users {
-        push_user_at(alloc, text, engine, keyblock, user, sigs, steps)?;
+        push_user_at(text, engine, keyblock, user, sigs, steps)?;
     }
     Ok(())
 }
 
 /// The lines of a user ID, numbered from 0.
 fn push_user_at<L: Ledger>(
-    alloc: Global,
     text: &mut Vec<u8>,
     engine: &Engine,
     keyblock: &Keyblock<'_>,
@@ -189,10 +182,10 @@ fn push_user_at<L: Ledger>(
         → IsTrue sigs → OnOk result (FitsUser spot.user) }
 {
     let head = user_in(keyblock, user).unwrap();
-    let letter = engine.letter(keyblock.id(), user).unwrap();
-    push_user(alloc, text, letter, &head)?;
+    let letter = engine.letter_in(keyblock, user).unwrap();
+    push_user(text, letter, &head)?;
     if sigs {
-        push_certs(alloc, text, keyblock, user, steps)?;
+        push_certs(text, keyblock, user, steps)?;
     }
     user_fits(&head);
     Ok(())
@@ -200,7 +193,6 @@ fn push_user_at<L: Ledger>(
 
 /// The lines of the certifications on a user ID, in the block's order.
 fn push_certs<L: Ledger>(
-    alloc: Global,
     text: &mut Vec<u8>,
     keyblock: &Keyblock<'_>,
     user: u32,
@@ -215,7 +207,7 @@ fn push_certs<L: Ledger>(
     let certs = keyblock.certs_in_order(user, steps)?;
     for placed in certs.iter() {
         cert_fits(&placed.cert);
-        push_cert(alloc, text, &placed.cert)?;
+        push_cert(text, &placed.cert)?;
     }
     Ok(())
 }

@@ -14,18 +14,18 @@ pub fn export(alloc: Global, engine: &Engine) -> Result<Vec<u8>, Mem>
 {
     let mut text = Vec::new(alloc);
     for (fpr, kept) in engine.trusts().iter() {
-        push_entry(alloc, &mut text, fpr, *kept)?;
+        push_entry(&mut text, fpr, *kept)?;
     }
     Ok(text)
 }
 
 /// `FINGERPRINT:NUMBER:`
-fn push_entry(alloc: Global, text: &mut Vec<u8>, fpr: &Fpr, kept: Ownertrust) -> Result<(), Mem>
+fn push_entry(text: &mut Vec<u8>, fpr: &Fpr, kept: Ownertrust) -> Result<(), Mem>
     ensures { OnOk result (text.new.items ≡ text.old.items ++ ownertrust_line (fpr.now, kept)) }
 {
-    push_hex(alloc, text, fpr.as_bytes())?;
+    push_hex(text, fpr.as_bytes())?;
     text.push(b':')?;
-    push_number(alloc, text, u64::from(kept.number()))?;
+    push_number(text, u64::from(kept.number()))?;
     text.extend_from_slice(b":\n")?;
     Ok(())
 }

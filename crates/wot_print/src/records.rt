@@ -9,35 +9,27 @@ use crate::fields::{
     push_quoted_field, push_scope,
 };
 use crate::names::{cert_name, kind_text, letter_text, model_text, trust_text};
-use std::alloc::Global;
 use wot_fields::push_number;
 use wot_table::{KeyHead, UserHead};
 use wot_types::{Cert, Fpr, KeyId, Letter, Mem, Options, Ownertrust, Text};
 
 /// `tru::MODEL:DATE:NEXT:MARGINALS:COMPLETES:DEPTH`
-pub fn push_tru(
-    alloc: Global,
-    text: &mut Vec<u8>,
-    options: &Options,
-    date: u32,
-    next: u32,
-) -> Result<(), Mem>
+pub fn push_tru(text: &mut Vec<u8>, options: &Options, date: u32, next: u32) -> Result<(), Mem>
     ensures { OnOk result (text.new.items ≡ text.old.items ++ tru_line options.now date next) }
 {
     text.extend_from_slice(b"tru::")?;
     push_field(text, model_text(options))?;
-    push_number_field(alloc, text, date)?;
-    push_number_field(alloc, text, next)?;
-    push_number_field(alloc, text, options.marginals)?;
-    push_number_field(alloc, text, options.completes)?;
-    push_number(alloc, text, u64::from(options.depth))?;
+    push_number_field(text, date)?;
+    push_number_field(text, next)?;
+    push_number_field(text, options.marginals)?;
+    push_number_field(text, options.completes)?;
+    push_number(text, u64::from(options.depth))?;
     text.push(b'\n')?;
     Ok(())
 }
 
 /// `pub:LETTER:BITS:ALGO:KEYID:MADE:EXP::OWNERTRUST:::CAPS:`
 pub fn push_pub(
-    alloc: Global,
     text: &mut Vec<u8>,
     letter: Letter,
     kept: Ownertrust,
@@ -48,11 +40,11 @@ pub fn push_pub(
 {
     text.extend_from_slice(b"pub:")?;
     push_field(text, letter_text(letter))?;
-    push_number_field(alloc, text, key.bits)?;
-    push_number_field(alloc, text, key.algo)?;
-    push_key_id_field(alloc, text, id)?;
-    push_number_field(alloc, text, key.made)?;
-    push_expiry(alloc, text, key.expires)?;
+    push_number_field(text, key.bits)?;
+    push_number_field(text, key.algo)?;
+    push_key_id_field(text, id)?;
+    push_number_field(text, key.made)?;
+    push_expiry(text, key.expires)?;
     text.push(b':')?;
     push_field(text, trust_text(kept.trust))?;
     text.extend_from_slice(b"::")?;
@@ -74,72 +66,68 @@ fn push_capabilities(text: &mut Vec<u8>, caps: &Text, disabled: bool) -> Result<
 }
 
 /// `fpr:::::::::FINGERPRINT:`
-pub fn push_fpr(alloc: Global, text: &mut Vec<u8>, fpr: &Fpr) -> Result<(), Mem>
+pub fn push_fpr(text: &mut Vec<u8>, fpr: &Fpr) -> Result<(), Mem>
     ensures { OnOk result (text.new.items ≡ text.old.items ++ fpr_line fpr.now) }
 {
     text.extend_from_slice(b"fpr:::::::::")?;
-    push_hex_field(alloc, text, fpr.as_bytes())?;
+    push_hex_field(text, fpr.as_bytes())?;
     text.push(b'\n')?;
     Ok(())
 }
 
 /// `uid:LETTER::::MADE:EXP:HASH::TEXT:`
-pub fn push_user(
-    alloc: Global,
-    text: &mut Vec<u8>,
-    letter: Letter,
-    user: &UserHead<'_>,
-) -> Result<(), Mem>
+pub fn push_user(text: &mut Vec<u8>, letter: Letter, user: &UserHead<'_>) -> Result<(), Mem>
     ensures { OnOk result (text.new.items ≡ text.old.items ++ user_line letter (shown_user user.now)) }
 {
     push_field(text, kind_text(user.kind))?;
     push_field(text, letter_text(letter))?;
     text.extend_from_slice(b":::")?;
-    push_number_field(alloc, text, user.made)?;
-    push_expiry(alloc, text, user.expires)?;
+    push_number_field(text, user.made)?;
+    push_expiry(text, user.expires)?;
     push_field(text, user.hash.as_bytes())?;
     text.push(b':')?;
-    push_quoted_field(alloc, text, user.text)?;
+    push_quoted_field(text, user.text)?;
     text.push(b'\n')?;
     Ok(())
 }
 
 /// `sig:!:::ISSUER:MADE:EXP:TRUST:SCOPE::CLASS:`
-pub fn push_cert(alloc: Global, text: &mut Vec<u8>, cert: &Cert) -> Result<(), Mem>
+pub fn push_cert(text: &mut Vec<u8>, cert: &Cert) -> Result<(), Mem>
     ensures { OnOk result (text.new.items ≡ text.old.items ++ cert_line cert.now) }
 {
     push_field(text, cert_name(cert))?;
     text.extend_from_slice(b"!:::")?;
-    push_key_id_field(alloc, text, cert.issuer)?;
-    push_number_field(alloc, text, cert.made)?;
-    push_expiry(alloc, text, cert.expires)?;
-    push_depth(alloc, text, cert)?;
-    push_scope(alloc, text, &cert.scope)?;
+    push_key_id_field(text, cert.issuer)?;
+    push_number_field(text, cert.made)?;
+    push_expiry(text, cert.expires)?;
+    push_depth(text, cert)?;
+    push_scope(text, &cert.scope)?;
     text.push(b':')?;
-    push_class(alloc, text, cert)?;
+    push_class(text, cert)?;
     text.push(b'\n')?;
     Ok(())
 }
 
 /// The depth and the amount of a trust signature, or nothing where both are 0.
-fn push_depth(alloc: Global, text: &mut Vec<u8>, cert: &Cert) -> Result<(), Mem>
+fn push_depth(text: &mut Vec<u8>, cert: &Cert) -> Result<(), Mem>
     ensures { OnOk result (text.new.items ≡ text.old.items ++ ended_field (depth_text cert.now)) }
 {
     if cert.depth != 0 || cert.amount != 0 {
-        push_number(alloc, text, u64::from(cert.depth))?;
+        push_number(text, u64::from(cert.depth))?;
         text.push(b' ')?;
-        push_number(alloc, text, u64::from(cert.amount))?;
+        push_number(text, u64::from(cert.amount))?;
     }
     text.push(b':')?;
     Ok(())
 }
 
 /// The class in two digits, and `l` where the certification is local, else `x`.
-fn push_class(alloc: Global, text: &mut Vec<u8>, cert: &Cert) -> Result<(), Mem>
+fn push_class(text: &mut Vec<u8>, cert: &Cert) -> Result<(), Mem>
     ensures { OnOk result (text.new.items ≡ text.old.items ++ ended_field (class_text cert.now)) }
 {
-    let digits = hex::encode(alloc, &[cert.class])?;
-    text.extend_from_slice(digits.as_bytes())?;
+    let mut digits = [0; 2];
+    hex::encode_to_slice(&[cert.class], &mut digits).unwrap();
+    text.extend_from_slice(&digits)?;
     text.push(if cert.local { b'l' } else { b'x' })?;
     text.push(b':')?;
     Ok(())

@@ -39,7 +39,7 @@ fn bad_argument(alloc: Global, number: u32) -> Result<Vec<u8>, Mem>
     ensures { IfOk result (λ text. text.items ≡ refusal_text (Refusal.BadArgument number)) }
 {
     let mut text = Vec::from_slice(alloc, b"err bad-argument ")?;
-    push_number(alloc, &mut text, u64::from(number))?;
+    push_number(&mut text, u64::from(number))?;
     Ok(text)
 }
 
@@ -47,7 +47,7 @@ fn bad_listing(alloc: Global, fault: ListingFault) -> Result<Vec<u8>, Mem>
     ensures { IfOk result (λ text. text.items ≡ refusal_text (Refusal.Listing fault)) }
 {
     let mut text = Vec::from_slice(alloc, b"err listing ")?;
-    push_number(alloc, &mut text, fault.line)?;
+    push_number(&mut text, fault.line)?;
     text.push(b' ')?;
     text.extend_from_slice(fault_name(fault.what).as_bytes())?;
     Ok(text)
@@ -57,7 +57,7 @@ fn bad_ownertrust(alloc: Global, line: u64, what: OwnertrustFault) -> Result<Vec
     ensures { IfOk result (λ text. text.items ≡ refusal_text (Refusal.Ownertrust line what)) }
 {
     let mut text = Vec::from_slice(alloc, b"err ownertrust ")?;
-    push_number(alloc, &mut text, line)?;
+    push_number(&mut text, line)?;
     text.push(b' ')?;
     text.extend_from_slice(ownertrust_fault_name(what).as_bytes())?;
     Ok(text)
@@ -75,7 +75,7 @@ fn taken(alloc: Global, id: KeyId) -> Result<Vec<u8>, Mem>
     ensures { IfOk result (λ text. text.items ≡ refusal_text (Refusal.KeyIdTaken id)) }
 {
     let mut text = Vec::from_slice(alloc, b"err key-id-taken ")?;
-    push_key_id(alloc, &mut text, id)?;
+    push_key_id(&mut text, id)?;
     Ok(text)
 }
 

@@ -1,11 +1,10 @@
 //! How many user IDs have which letter, counted by several threads.
 
 ghost use Rattle.std.specs.Prelude.{◌≡◌, ◌≤◌, ◌<◌, ◌++◌, ℕ, IfOk, List};
-ghost use Rattle.std.specs.Int.{div_ceil};
 ghost use Rattle.std.specs.List.{flat_map};
 ghost use Rattle.wot_types.specs.declared.letter.Letter.{Letter};
 ghost use Rattle.wot_types.specs.Tally.{all_letters, tally_line};
-ghost use Rattle.wot_check.specs.Pieces.{IsByPiece};
+ghost use Rattle.wot_workers.specs.Pieces.{IsByPiece};
 ghost use Rattle.wot_print.specs.Counts.{counts_of};
 ghost use Rattle.wot_print.specs.KeyLetters.{letters_among, letters_at};
 
@@ -16,15 +15,7 @@ use std::sync::ledger::{Blank, Ledger};
 use std::thread::{Threads, map_chunks};
 use wot_live::Engine;
 use wot_types::{KeyId, Mem, Rows, Steps};
-
-/// A size of pieces, at least 1, that makes no more of them than there are workers.
-fn piece_size(len: usize, workers: u32) -> usize
-    requires some { 1 ≤ workers }
-    ensures positive { 1 ≤ result }
-    ensures few { div_ceil len result ≤ workers }
-{
-    len.div_ceil(workers as usize).max(1)
-}
+use wot_workers::{Gate, Workers, piece_size};
 
 /// The letters of a key's user IDs.
 fn count_key<L: Ledger>(
@@ -96,34 +87,30 @@ fn count_of_pieces(found: &[LetterCounts]) -> LetterCounts
     all
 }
 
-/// The letters of all user IDs, counted by so many workers.
-fn count_letters_by<R: Threads + Sync>(
-    rt: &R,
+/// The letters of all user IDs, counted by these workers.
+fn count_letters_by<R: Threads + Sync, G: Gate + Sync>(
+    workers: &Workers<'_, R, G>,
     alloc: Global,
     engine: &Engine,
     rows: &Rows,
-    workers: u32,
 ) -> Result<LetterCounts, Mem>
-    requires some { 1 ≤ workers }
     ensures { IfOk result (λ counts. counts ≡ counts_of (all_letters engine.now rows.now)) }
 {
     let ids = engine.table().ids()?;
-    let size = piece_size(ids.len(), workers);
-    let found = count_pieces(rt, alloc, engine, rows, &ids, size)?;
+    let size = piece_size(ids.len(), workers.count);
+    let found = count_pieces(workers.rt, alloc, engine, rows, &ids, size)?;
     Ok(count_of_pieces(&found))
 }
 
-/// The same line as `tally` makes, the letters counted by so many workers.
-pub fn tally_by<R: Threads + Sync>(
-    rt: &R,
+/// The same line as `tally` makes, the letters counted by these workers.
+pub fn tally_by<R: Threads + Sync, G: Gate + Sync>(
+    workers: &Workers<'_, R, G>,
     alloc: Global,
     engine: &Engine,
     rows: &Rows,
-    workers: u32,
 ) -> Result<Vec<u8>, Mem>
-    requires workers { (1 ≤ workers) × (workers ≤ 64) }
     ensures { IfOk result (λ text. text.items ≡ tally_line engine.now rows.now) }
 {
-    let counts = count_letters_by(rt, alloc, engine, rows, workers)?;
+    let counts = count_letters_by(workers, alloc, engine, rows)?;
     counts_line(alloc, rows, &counts)
 }

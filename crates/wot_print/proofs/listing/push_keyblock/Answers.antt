@@ -1,6 +1,6 @@
-use Rattle.std.proofs.Common.{◌≡◌, ◌++◌, is_some, option_map, sym, ap, ◌∙◌}
+use Rattle.std.proofs.Common.{◌≡◌, ◌++◌, sym, ap, ◌∙◌}
 use Rattle.std.specs.List.{flat_map}
-use Rattle.wot_types.specs.Letters.{key_letter, key_letter_at}
+use Rattle.wot_types.specs.Letters.{key_letter}
 use Rattle.wot_types.specs.Levels.{rows_of}
 use Rattle.wot_types.specs.Ownertrust.{ownertrust_of}
 use Rattle.wot_types.specs.Printing.{fpr_line, pub_line, user_lines}
@@ -9,12 +9,6 @@ use Rattle.wot_print.specs.Shown.{shown_key}
 use Rattle.wot_print.proofs.Pieces.{key_letter_found, three_parts}
 use Rattle.wot_print.proofs.Shown.{pub_shown}
 use Rattle.wot_print.proofs.listing.push_keyblock.Goals as goal
-
-pub unwrap-letter-requires : goal.unwrap-letter-requires
-unwrap-letter-requires g c =
-    let s = c.args.engine.now in
-    let id = c.args.keyblock.now.0 in
-    ap is_some (c.key_letter.ensures ∙ ap (key_letter_at s) c.id-id.ensures ∙ ap (option_map (key_letter s (rows_of s) id)) c.requires.there)
 
 pub returns-clause-lines : goal.returns-clause-lines
 returns-clause-lines g c =
@@ -27,7 +21,7 @@ returns-clause-lines g c =
     let kept = ownertrust_of s.trusts key.fpr in
     let users = flat_map (user_lines s (rows_of s) c.args.sigs id key) (spots_from 0 key.users) in
     let head = c.key-head.ensures in
-    let found = key_letter_found s id key c.unwrap-letter.result c.requires.there (sym (ap (key_letter_at s) c.id-id.ensures) ∙ sym c.key_letter.ensures ∙ c.unwrap-letter.ensures) in
+    let found = key_letter_found s id key c.key_letter_in-letter.result c.requires.there (sym c.key_letter_in-letter.ensures) in
     let first : c.push_pub.new.text.items ≡ old ++ pub_line letter kept id key =
     c.in_ok-push_pub.ensures ∙ ap (λ l. old ++ pub_line l c.ownertrust_of-kept.result c.id-id.result shown) found
     ∙ ap (λ n. old ++ pub_line letter c.ownertrust_of-kept.result n shown) c.id-id.ensures

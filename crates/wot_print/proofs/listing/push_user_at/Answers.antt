@@ -3,7 +3,7 @@ use Rattle.std.specs.List.{flat_map}
 use Rattle.wot_types.specs.declared.key.Key.{Key}
 use Rattle.wot_types.specs.declared.placed.Placed.{Placed}
 use Rattle.wot_types.specs.Arrangement.{spot_of}
-use Rattle.wot_types.specs.Letters.{letter_at, user_letter}
+use Rattle.wot_types.specs.Letters.{user_letter}
 use Rattle.wot_types.specs.Levels.{rows_of}
 use Rattle.wot_types.specs.Printing.{cert_line, user_line}
 use Rattle.wot_types.specs.Selection.{Spot}
@@ -25,7 +25,7 @@ unwrap-letter-requires g c =
     let id = c.args.keyblock.now.0 in
     let user = c.args.user in
     let spot = there_is (spot_of c.args.keyblock.now.1 user) c.requires.there in
-    ap is_some (c.letter.ensures ∙ ap (λ n. letter_at s n user) c.id.ensures
+    ap is_some (c.letter_in.ensures
     ∙ ap (option_and_then (λ (k : Key). option_map (user_letter s (rows_of s) id k) (spot_of k user))) c.requires.key
     ∙ ap (option_map (user_letter s (rows_of s) id c.args.keyblock.now.1)) spot.1)
 
@@ -39,7 +39,7 @@ returns-clause-lines g c = λ spot at.
     let letter = user_letter s (rows_of s) id key spot in
     let Tells = λ (head : UserHead). (spot : Spot) → spot_of key user ≡ Some spot → IsUserHead spot.user head in
     let head = if_there Tells c.user_in.result c.user_in.ensures.head c.unwrap-head.result c.unwrap-head.ensures spot at in
-    let found = letter_found s id user key spot c.unwrap-letter.result c.requires.key at (sym (ap (λ n. letter_at s n user) c.id.ensures) ∙ sym c.letter.ensures ∙ c.unwrap-letter.ensures) in
+    let found = letter_found s id user key spot c.unwrap-letter.result c.requires.key at (sym c.letter_in.ensures ∙ c.unwrap-letter.ensures) in
     let line : c.push_user.new.text.items ≡ old ++ user_line letter spot.user =
     c.in_ok-push_user.ensures ∙ ap (λ l. old ++ user_line l (shown_user c.unwrap-head.result)) found ∙ ap (λ l. old ++ l) (user_shown letter spot.user c.unwrap-head.result head) in
     let placed = placed_at 0 key.users user spot at in

@@ -1,6 +1,6 @@
 use Rattle.std.proofs.Common.{◌<◌, List, subst, sym, ap, ◌∙◌, arith}
 use Rattle.std.specs.FinMap as finmap
-use Rattle.wot_check.specs.Pieces.{IsByPiece}
+use Rattle.wot_workers.specs.Pieces.{IsByPiece}
 use Rattle.wot_print.specs.declared.counts.LetterCounts.{LetterCounts}
 use Rattle.wot_print.specs.Counts.{counts_of}
 use Rattle.wot_print.specs.KeyLetters.{letters_among, letters_at}

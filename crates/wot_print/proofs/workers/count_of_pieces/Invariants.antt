@@ -1,7 +1,7 @@
 use Rattle.std.proofs.Common.{◌≡◌, ◌<◌, ◌*◌, ℕ, List, take}
 use Rattle.std.specs.List.{flat_map}
 use Rattle.wot_types.specs.declared.letter.Letter.{Letter}
-use Rattle.wot_check.specs.Pieces.{IsByPiece}
+use Rattle.wot_workers.specs.Pieces.{IsByPiece}
 use Rattle.wot_print.specs.Counts.{counts_of}
 use Rattle.wot_print.proofs.workers.count_of_pieces.Given as goal
 

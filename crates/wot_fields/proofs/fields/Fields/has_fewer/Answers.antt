@@ -1,7 +1,7 @@
 use Rattle.std.proofs.Common.{◌≤◌, sym, ap, ◌∙◌, arith}
 use Rattle.std.proofs.lemmas.Bool.{le-ltb}
 use Rattle.wot_types.specs.Fields.{has_fewer}
-use Rattle.wot_fields.proofs.CutLemmas.{no_fewer}
+use Rattle.wot_fields.proofs.FieldStartLemmas.{no_fewer}
 use Rattle.wot_fields.proofs.fields.Fields.has_fewer.Goals as goal
 
 pub returns-else-n-gt-MOST : goal.returns-else-n-gt-MOST

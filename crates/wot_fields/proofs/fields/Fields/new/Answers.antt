@@ -1,7 +1,7 @@
 use Rattle.std.proofs.Common.{◌+◌, ◌<◌, length, get_or, subst, sym, arith}
 use Rattle.std.proofs.lemmas.List.{get_or-set_same}
 use Rattle.wot_fields.specs.Colons.{IsAhead}
-use Rattle.wot_fields.proofs.CutLemmas.{cutting_more, cut_last}
+use Rattle.wot_fields.proofs.FieldStartLemmas.{starts_more, starts_last}
 use Rattle.wot_fields.proofs.fields.Fields.new.Goals as goal
 
 pub next-end-requires : goal.next-end-requires
@@ -17,7 +17,7 @@ invariant_of-result c =
     let start = get_or c.loop-count.starts c.loop-count.count 0 in
     let h = c.loop-count.invariant.0 in
     let first = c.next-end.ensures.first start h.start c.loop-count.invariant.2 in
-    cut_last c.args.line.now c.loop-count.starts c.loop-count.count c.next-end.result.0 h (omega arith) first c.if-end-line.true
+    starts_last c.args.line.now c.loop-count.starts c.loop-count.count c.next-end.result.0 h (omega arith) first c.if-end-line.true
 
 pub loop-count-preserved : goal.loop-count-preserved
 loop-count-preserved c =
@@ -28,7 +28,7 @@ loop-count-preserved c =
     let first = c.next-end.ensures.first start h.start ahead in
     let less : c.next-end.result.0 < length c.args.line.now = omega (arith, c.next-end.ensures.within start ahead, c.if-end-line.false) in
     let next = get_or-set_same c.loop-count.starts (c.loop-count.count + 1) (end + 1) 0 (omega (arith, h.front.size)) in (
-      cutting_more c.args.line.now c.loop-count.starts c.loop-count.count end h (omega arith) first c.if-end-line.false,
+      starts_more c.args.line.now c.loop-count.starts c.loop-count.count end h (omega arith) first c.if-end-line.false,
       c.next-end.ensures.inside,
       subst (λ from. IsAhead c.args.line.now c.next-end.result.1.block c.next-end.result.1.bits from) (sym next) (c.next-end.ensures.ahead start less ahead),
     )
