@@ -15,10 +15,10 @@ use std::io::{ErrorKind, writer};
 use std::process::ExitCode;
 use std::thread::Threads;
 use std::{env, io};
-use wot_check::NoGate;
 use wot_file::FileSite;
 use wot_session::{Status, run};
 use wot_site::Site;
+use wot_workers::NoGate;
 
 /// The exit code where the system does not give the program its words; no status has it.
 const NO_WORDS: u8 = 9;

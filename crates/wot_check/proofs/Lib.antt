@@ -5,7 +5,6 @@ pub mod Founds
 pub mod SameRows
 pub mod Walked
 pub mod Seams
-pub mod PieceSizes
 pub mod Firsts
 pub mod FaultLaws
 pub mod LevelRows

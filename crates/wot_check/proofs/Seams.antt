@@ -7,7 +7,7 @@ use Rattle.std.specs.List.{slice_get}
 use Rattle.std.proofs.lemmas.Grind.{div_ceil_times}
 use Rattle.std.proofs.lemmas.List.{drop_all, drop-drop, take-append-drop}
 use Rattle.std.proofs.lemmas.List.Folds.{find-append}
-use Rattle.wot_check.specs.Pieces.{IsByPiece, first_some}
+use Rattle.wot_workers.specs.Pieces.{IsByPiece, first_some}
 
 module _ {X : Type 0} (size : ℕ) (some : 0 < size) (xs : List X) where
   -- behind the last piece nothing is left

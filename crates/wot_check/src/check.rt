@@ -4,39 +4,34 @@ ghost use Rattle.std.specs.Prelude.{◌≡◌, ◌≤◌, ◌<◌, ◌/◌, ◌�
 ghost use Rattle.std.specs.Int.{div_ceil};
 ghost use Rattle.wot_types.specs.Levels.{rows_of};
 ghost use Rattle.wot_types.specs.Payload.{IsInRange};
-ghost use Rattle.wot_levels.specs.Given.{state_of};
+ghost use Rattle.wot_workers.specs.Pieces.{IsByPiece};
 ghost use Rattle.wot_check.specs.Comparison.{first_fallen};
 ghost use Rattle.wot_check.specs.FirstFault.{first_fault};
-ghost use Rattle.wot_check.specs.Pieces.{IsByPiece};
 ghost use Rattle.wot_check.specs.Stored.{IsFaultAt, IsFirstFault};
 
 use crate::counted::fault_at;
 use crate::fault::RowFault;
-use crate::gate::Gate;
 use crate::keys::checked_keys;
-use crate::pieces::{first_some, piece_number, piece_size};
 use crate::standing::row_stands;
 use std::alloc::{AllocError, Global};
 use std::marker::Brand;
 use std::sync::ledger::{Blank, Ledger};
 use std::thread::{Threads, map_chunks};
-use wot_table::Table;
-use wot_types::{KeyId, Mem, Options, Rows, Steps, Trusts};
+use wot_table::LentState;
+use wot_types::{KeyId, Mem, Rows, Steps};
+use wot_workers::{Gate, Workers, first_some, piece_number, piece_size};
 
 /// The first of these keys whose row doesn't stand.
 fn first_fallen<L: Ledger>(
-    table: &Table,
-    trusts: &Trusts,
-    now: u32,
-    options: &Options,
+    state: &LentState<'_>,
     rows: &Rows,
     ids: &[KeyId],
     steps: &mut Steps<L>,
 ) -> Option<KeyId>
-    ensures { result ≡ first_fallen (state_of table.now trusts.now now options.now) rows.now ids.now }
+    ensures { result ≡ first_fallen state.now rows.now ids.now }
 {
     for id in ids {
-        if !row_stands(table, trusts, now, options, rows, *id, steps) {
+        if !row_stands(state, rows, *id, steps) {
             return Some(*id);
         }
     }
@@ -45,133 +40,95 @@ fn first_fallen<L: Ledger>(
 
 /// The same, by a counter of its own.
 fn first_fallen_by<L: Ledger>(
-    table: &Table,
-    trusts: &Trusts,
-    now: u32,
-    options: &Options,
+    state: &LentState<'_>,
     rows: &Rows,
     ids: &[KeyId],
     blank: Blank,
 ) -> Option<KeyId>
     requires own { (blank.name ≡ L.name) × (blank.parts ≡ L.parts) × (0 < L.parts) }
-    ensures { result ≡ first_fallen (state_of table.now trusts.now now options.now) rows.now ids.now }
+    ensures { result ≡ first_fallen state.now rows.now ids.now }
 {
     let mut steps = Steps::<L>::open(blank);
-    first_fallen(table, trusts, now, options, rows, ids, &mut steps)
+    first_fallen(state, rows, ids, &mut steps)
 }
 
 /// What a worker finds in its piece.
 fn check_piece<G: Gate>(
-    table: &Table,
-    trusts: &Trusts,
-    now: u32,
-    options: &Options,
+    state: &LentState<'_>,
     rows: &Rows,
     ids: &[KeyId],
     piece: u32,
     gate: &G,
 ) -> Option<KeyId>
-    ensures { result ≡ first_fallen (state_of table.now trusts.now now options.now) rows.now ids.now }
+    ensures { result ≡ first_fallen state.now rows.now ids.now }
 {
     gate.enter(piece);
-    first_fallen_by::<Brand>(table, trusts, now, options, rows, ids, Blank::new(1))
+    first_fallen_by::<Brand>(state, rows, ids, Blank::new(1))
 }
 
 /// What the workers find, piece by piece.
 fn check_pieces<R: Threads + Sync, G: Gate + Sync>(
-    rt: &R,
+    workers: &Workers<'_, R, G>,
     alloc: Global,
-    table: &Table,
-    trusts: &Trusts,
-    now: u32,
-    options: &Options,
+    state: &LentState<'_>,
     rows: &Rows,
     ids: &[KeyId],
     size: usize,
-    gate: &G,
 ) -> Result<Vec<Option<KeyId>>, AllocError>
     requires size { 1 ≤ size }
     requires few { div_ceil (length ids.now) size ≤ 64 }
-    ensures { IfOk result (λ found. IsByPiece (first_fallen (state_of table.now trusts.now now options.now) rows.now) size ids.now found.items) }
+    ensures { IfOk result (λ found. IsByPiece (first_fallen state.now rows.now) size ids.now found.items) }
 {
+    let gate = workers.gate;
     map_chunks(
-        rt,
+        workers.rt,
         alloc,
         ids,
         size,
         &|start: usize, piece: &[KeyId]| -> Option<KeyId>
             requires { (1 ≤ size) × (start / size < 64) }
-            ensures { result ≡ first_fallen (state_of table.entry.now trusts.entry.now now options.entry.now) rows.entry.now piece.entry.now }
-        {
-            check_piece(
-                table,
-                trusts,
-                now,
-                options,
-                rows,
-                piece,
-                piece_number(start, size),
-                gate,
-            )
-        },
+            ensures { result ≡ first_fallen state.entry.now rows.entry.now piece.entry.now }
+        { check_piece(state, rows, piece, piece_number(start, size), gate) },
     )
 }
 
 /// The least key, of the keyring or of the rows, whose row isn't what the rows of the others give it; None where the rows are those of the state.
 pub fn check_all<R: Threads + Sync, G: Gate + Sync>(
-    rt: &R,
+    workers: &Workers<'_, R, G>,
     alloc: Global,
-    table: &Table,
-    trusts: &Trusts,
-    now: u32,
-    options: &Options,
+    state: &LentState<'_>,
     rows: &Rows,
-    workers: u32,
-    gate: &G,
 ) -> Result<Option<RowFault>, Mem>
-    requires ranges { IsInRange options.now }
-    requires workers { (1 ≤ workers) × (workers ≤ 64) }
-    ensures fault { IfOk result (IsFirstFault (state_of table.now trusts.now now options.now) rows.now) }
-    ensures first { IfOk result (λ fault. fault ≡ first_fault (state_of table.now trusts.now now options.now) rows.now) }
-    ensures whole { IfOk result (λ fault. (fault ≡ None) ↔ (rows.now ≡ rows_of (state_of table.now trusts.now now options.now))) }
+    requires ranges { IsInRange state.now.options }
+    ensures fault { IfOk result (IsFirstFault state.now rows.now) }
+    ensures first { IfOk result (λ fault. fault ≡ first_fault state.now rows.now) }
+    ensures whole { IfOk result (λ fault. (fault ≡ None) ↔ (rows.now ≡ rows_of state.now)) }
 {
-    let ids = checked_keys(alloc, table, rows)?;
-    let size = piece_size(ids.len(), workers);
-    let found = check_pieces(
-        rt, alloc, table, trusts, now, options, rows, &ids, size, gate,
-    )?;
+    let ids = checked_keys(alloc, state.table(), rows)?;
+    let size = piece_size(ids.len(), workers.count);
+    let found = check_pieces(workers, alloc, state, rows, &ids, size)?;
     match first_some(&found) {
-        Some(id) => Ok(Some(fault_of(table, trusts, now, options, rows, id)?)),
+        Some(id) => Ok(Some(fault_of(state, rows, id)?)),
         None => Ok(None),
     }
 }
 
 /// Both rows of a key, by a counter of its own.
-fn fault_of(
-    table: &Table,
-    trusts: &Trusts,
-    now: u32,
-    options: &Options,
-    rows: &Rows,
-    id: KeyId,
-) -> Result<RowFault, Mem>
-    ensures { IfOk result (IsFaultAt (state_of table.now trusts.now now options.now) rows.now id) }
+fn fault_of(state: &LentState<'_>, rows: &Rows, id: KeyId) -> Result<RowFault, Mem>
+    ensures { IfOk result (IsFaultAt state.now rows.now id) }
 {
-    fault_by::<Brand>(table, trusts, now, options, rows, id, Blank::new(1))
+    fault_by::<Brand>(state, rows, id, Blank::new(1))
 }
 
 fn fault_by<L: Ledger>(
-    table: &Table,
-    trusts: &Trusts,
-    now: u32,
-    options: &Options,
+    state: &LentState<'_>,
     rows: &Rows,
     id: KeyId,
     blank: Blank,
 ) -> Result<RowFault, Mem>
     requires own { (blank.name ≡ L.name) × (blank.parts ≡ L.parts) × (0 < L.parts) }
-    ensures { IfOk result (IsFaultAt (state_of table.now trusts.now now options.now) rows.now id) }
+    ensures { IfOk result (IsFaultAt state.now rows.now id) }
 {
     let mut steps = Steps::<L>::open(blank);
-    fault_at(table, trusts, now, options, rows, id, &mut steps)
+    fault_at(state, rows, id, &mut steps)
 }

@@ -2,46 +2,40 @@
 
 ghost use Rattle.std.specs.Prelude.{◌≡◌, ◌≤◌, IfOk};
 ghost use Rattle.std.specs.FinMap as map;
-ghost use Rattle.wot_levels.specs.Given.{given_row, state_of};
+ghost use Rattle.wot_levels.specs.Given.{given_row};
 ghost use Rattle.wot_check.specs.Stored.{IsFaultAt, counted_row};
 
 use crate::fault::RowFault;
 use std::sync::ledger::Ledger;
 use wot_levels::{given, row_if};
-use wot_table::Table;
-use wot_types::{KeyId, Mem, Options, Row, Rows, Steps, Trusts};
+use wot_table::LentState;
+use wot_types::{KeyId, Mem, Row, Rows, Steps};
 
 /// The row that the stored rows give a key at a level.
 pub fn given_row<L: Ledger>(
-    table: &Table,
-    trusts: &Trusts,
-    now: u32,
-    options: &Options,
+    state: &LentState<'_>,
     rows: &Rows,
     id: KeyId,
     level: u8,
     steps: &mut Steps<L>,
 ) -> Result<Option<Row>, Mem>
-    ensures { IfOk result (λ row. row ≡ given_row (state_of table.now trusts.now now options.now) rows.now level id) }
+    ensures { IfOk result (λ row. row ≡ given_row state.now rows.now level id) }
 {
-    let standing = given(table, trusts, now, options, rows, id, level, steps);
+    let standing = given(state, rows, id, level, steps);
     row_if(id, level, &standing)
 }
 
 /// The row that the stored rows give a key, level by level.
 pub fn counted_row<L: Ledger>(
-    table: &Table,
-    trusts: &Trusts,
-    now: u32,
-    options: &Options,
+    state: &LentState<'_>,
     rows: &Rows,
     id: KeyId,
     steps: &mut Steps<L>,
 ) -> Result<Option<Row>, Mem>
-    ensures { IfOk result (λ row. row ≡ counted_row (state_of table.now trusts.now now options.now) rows.now id) }
+    ensures { IfOk result (λ row. row ≡ counted_row state.now rows.now id) }
 {
-    for level in 0..options.depth {
-        let row = given_row(table, trusts, now, options, rows, id, level, steps)?;
+    for level in 0..state.options().depth {
+        let row = given_row(state, rows, id, level, steps)?;
         if row.is_some() {
             return Ok(row);
         }
@@ -60,19 +54,16 @@ fn stored_row(rows: &Rows, id: KeyId) -> Result<Option<Row>, Mem>
 
 /// Both rows of a key.
 pub fn fault_at<L: Ledger>(
-    table: &Table,
-    trusts: &Trusts,
-    now: u32,
-    options: &Options,
+    state: &LentState<'_>,
     rows: &Rows,
     id: KeyId,
     steps: &mut Steps<L>,
 ) -> Result<RowFault, Mem>
-    ensures { IfOk result (IsFaultAt (state_of table.now trusts.now now options.now) rows.now id) }
+    ensures { IfOk result (IsFaultAt state.now rows.now id) }
 {
     Ok(RowFault {
         key: id,
         stored: stored_row(rows, id)?,
-        counted: counted_row(table, trusts, now, options, rows, id, steps)?,
+        counted: counted_row(state, rows, id, steps)?,
     })
 }

@@ -7,37 +7,33 @@ ghost use Rattle.std.specs.Option.{option_or};
 ghost use Rattle.wot_types.specs.declared.row.Row.{Row};
 ghost use Rattle.wot_types.specs.Levels.{kept_or, rows_of};
 ghost use Rattle.wot_types.specs.Payload.{IsInRange};
-ghost use Rattle.wot_levels.specs.Given.{given_row, state_of};
+ghost use Rattle.wot_levels.specs.Given.{given_row};
 ghost use Rattle.wot_check.specs.KeyWalk.{IsWalk};
 ghost use Rattle.wot_check.specs.Recount.{IsFoundByPiece, IsSpread, fresh_row, fresh_rows, row_among};
 
 use crate::counted::given_row;
-use crate::gate::Gate;
 use crate::keys::keyring_keys;
-use crate::pieces::{piece_number, piece_size};
 use std::alloc::{AllocError, Global};
 use std::marker::Brand;
 use std::sync::ledger::{Blank, Ledger};
 use std::thread::{Threads, map_chunks};
-use wot_table::Table;
-use wot_types::{KeyId, List, Mem, Options, Row, Rows, Steps, Trusts};
+use wot_table::LentState;
+use wot_types::{KeyId, List, Mem, Row, Rows, Steps};
+use wot_workers::{Gate, Workers, piece_number, piece_size};
 
 /// What a level gives a key that has no row yet.
 fn fresh_row<L: Ledger>(
-    table: &Table,
-    trusts: &Trusts,
-    now: u32,
-    options: &Options,
+    state: &LentState<'_>,
     rows: &Rows,
     id: KeyId,
     level: u8,
     steps: &mut Steps<L>,
 ) -> Result<Option<Row>, Mem>
-    ensures { IfOk result (λ row. row ≡ fresh_row (state_of table.now trusts.now now options.now) rows.now level id) }
+    ensures { IfOk result (λ row. row ≡ fresh_row state.now rows.now level id) }
 {
     match rows.get(id) {
         Some(_) => Ok(None),
-        None => given_row(table, trusts, now, options, rows, id, level, steps),
+        None => given_row(state, rows, id, level, steps),
     }
 }
 
@@ -52,20 +48,17 @@ fn push_found(found: &mut List<Row>, row: Option<Row>) -> Result<(), Mem>
 
 /// The rows that a level gives some keys.
 fn fresh_rows<L: Ledger>(
-    table: &Table,
-    trusts: &Trusts,
-    now: u32,
-    options: &Options,
+    state: &LentState<'_>,
     rows: &Rows,
     ids: &[KeyId],
     level: u8,
     steps: &mut Steps<L>,
 ) -> Result<List<Row>, Mem>
-    ensures { IfOk result (λ found. found ≡ fresh_rows (state_of table.now trusts.now now options.now) rows.now level ids.now) }
+    ensures { IfOk result (λ found. found ≡ fresh_rows state.now rows.now level ids.now) }
 {
-    let mut found = List::new(table.alloc());
+    let mut found = List::new(state.table().alloc());
     for id in ids {
-        let row = fresh_row(table, trusts, now, options, rows, *id, level, steps)?;
+        let row = fresh_row(state, rows, *id, level, steps)?;
         push_found(&mut found, row)?;
     }
     Ok(found)
@@ -73,79 +66,57 @@ fn fresh_rows<L: Ledger>(
 
 /// The same, by a counter of its own.
 fn fresh_rows_by<L: Ledger>(
-    table: &Table,
-    trusts: &Trusts,
-    now: u32,
-    options: &Options,
+    state: &LentState<'_>,
     rows: &Rows,
     ids: &[KeyId],
     level: u8,
     blank: Blank,
 ) -> Result<List<Row>, Mem>
     requires own { (blank.name ≡ L.name) × (blank.parts ≡ L.parts) × (0 < L.parts) }
-    ensures { IfOk result (λ found. found ≡ fresh_rows (state_of table.now trusts.now now options.now) rows.now level ids.now) }
+    ensures { IfOk result (λ found. found ≡ fresh_rows state.now rows.now level ids.now) }
 {
     let mut steps = Steps::<L>::open(blank);
-    fresh_rows(table, trusts, now, options, rows, ids, level, &mut steps)
+    fresh_rows(state, rows, ids, level, &mut steps)
 }
 
 /// What a worker finds for its piece.
 fn count_piece<G: Gate>(
-    table: &Table,
-    trusts: &Trusts,
-    now: u32,
-    options: &Options,
+    state: &LentState<'_>,
     rows: &Rows,
     ids: &[KeyId],
     level: u8,
     piece: u32,
     gate: &G,
 ) -> Result<List<Row>, Mem>
-    ensures { IfOk result (λ found. found ≡ fresh_rows (state_of table.now trusts.now now options.now) rows.now level ids.now) }
+    ensures { IfOk result (λ found. found ≡ fresh_rows state.now rows.now level ids.now) }
 {
     gate.enter(piece);
-    fresh_rows_by::<Brand>(table, trusts, now, options, rows, ids, level, Blank::new(1))
+    fresh_rows_by::<Brand>(state, rows, ids, level, Blank::new(1))
 }
 
 /// What the workers find, piece by piece.
 fn count_pieces<R: Threads + Sync, G: Gate + Sync>(
-    rt: &R,
-    alloc: Global,
-    table: &Table,
-    trusts: &Trusts,
-    now: u32,
-    options: &Options,
+    workers: &Workers<'_, R, G>,
+    state: &LentState<'_>,
     rows: &Rows,
     ids: &[KeyId],
     level: u8,
     size: usize,
-    gate: &G,
 ) -> Result<Vec<Result<List<Row>, Mem>>, AllocError>
     requires size { 1 ≤ size }
     requires few { div_ceil (length ids.now) size ≤ 64 }
-    ensures { IfOk result (λ found. IsFoundByPiece (fresh_rows (state_of table.now trusts.now now options.now) rows.now level) size ids.now found.items) }
+    ensures { IfOk result (λ found. IsFoundByPiece (fresh_rows state.now rows.now level) size ids.now found.items) }
 {
+    let gate = workers.gate;
     map_chunks(
-        rt,
-        alloc,
+        workers.rt,
+        state.table().alloc(),
         ids,
         size,
         &|start: usize, piece: &[KeyId]| -> Result<List<Row>, Mem>
             requires { (1 ≤ size) × (start / size < 64) }
-            ensures { IfOk result (λ found. found ≡ fresh_rows (state_of table.entry.now trusts.entry.now now options.entry.now) rows.entry.now level piece.entry.now) }
-        {
-            count_piece(
-                table,
-                trusts,
-                now,
-                options,
-                rows,
-                piece,
-                level,
-                piece_number(start, size),
-                gate,
-            )
-        },
+            ensures { IfOk result (λ found. found ≡ fresh_rows state.entry.now rows.entry.now level piece.entry.now) }
+        { count_piece(state, rows, piece, level, piece_number(start, size), gate) },
     )
 }
 
@@ -176,55 +147,38 @@ fn with_pieces(rows: Rows, pieces: Vec<Result<List<Row>, Mem>>) -> Result<Rows, 
 
 /// The rows, and those that a level gives, whose lower levels they are.
 fn with_level<R: Threads + Sync, G: Gate + Sync>(
-    rt: &R,
-    alloc: Global,
-    table: &Table,
-    trusts: &Trusts,
-    now: u32,
-    options: &Options,
+    workers: &Workers<'_, R, G>,
+    state: &LentState<'_>,
     rows: Rows,
     ids: &[KeyId],
     level: u8,
     size: usize,
-    gate: &G,
 ) -> Result<Rows, Mem>
     requires size { 1 ≤ size }
     requires few { div_ceil (length ids.now) size ≤ 64 }
-    requires walk { IsWalk (λ id. map.contains_key table.now id) None ids.now }
-    ensures { IfOk result (λ next. (id : ℕ) → map.get next id ≡ kept_or (map.get rows id) (given_row (state_of table.now trusts.now now options.now) rows level id)) }
+    requires walk { IsWalk (λ id. map.contains_key state.now.keys id) None ids.now }
+    ensures { IfOk result (λ next. (id : ℕ) → map.get next id ≡ kept_or (map.get rows id) (given_row state.now rows level id)) }
 {
-    let pieces = count_pieces(
-        rt, alloc, table, trusts, now, options, &rows, ids, level, size, gate,
-    )?;
+    let pieces = count_pieces(workers, state, &rows, ids, level, size)?;
     with_pieces(rows, pieces)
 }
 
 /// The rows of all levels, as one thread counts them.
 pub fn rows_by<R: Threads + Sync, G: Gate + Sync>(
-    rt: &R,
+    workers: &Workers<'_, R, G>,
     alloc: Global,
-    table: &Table,
-    trusts: &Trusts,
-    now: u32,
-    options: &Options,
-    workers: u32,
-    gate: &G,
+    state: &LentState<'_>,
 ) -> Result<Rows, Mem>
-    requires ranges { IsInRange options.now }
-    requires workers { (1 ≤ workers) × (workers ≤ 64) }
-    ensures { IfOk result (λ rows. rows ≡ rows_of (state_of table.now trusts.now now options.now)) }
+    requires ranges { IsInRange state.now.options }
+    ensures { IfOk result (λ rows. rows ≡ rows_of state.now) }
 {
-    let ids = keyring_keys(alloc, table)?;
-    let size = piece_size(ids.len(), workers);
+    let ids = keyring_keys(alloc, state.table())?;
+    let size = piece_size(ids.len(), workers.count);
     let none = Rows::new(alloc)?;
-    let mut rows = with_level(
-        rt, alloc, table, trusts, now, options, none, &ids, 0, size, gate,
-    )?;
-    for level in 1..options.depth {
+    let mut rows = with_level(workers, state, none, &ids, 0, size)?;
+    for level in 1..state.options().depth {
         let before = rows.len();
-        rows = with_level(
-            rt, alloc, table, trusts, now, options, rows, &ids, level, size, gate,
-        )?;
+        rows = with_level(workers, state, rows, &ids, level, size)?;
         // A level that adds no key is the last: no later one would add any.
         if rows.len() == before {
             return Ok(rows);

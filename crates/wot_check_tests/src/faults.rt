@@ -6,9 +6,11 @@ use crate::samples::{NOW, Sample, filled_sample, options, sample_rows};
 use std::alloc::Global;
 use std::test::Fail;
 use std::thread::Threads;
-use wot_check::{NoGate, check_all};
+use wot_check::check_all;
 use wot_gen::key_id;
+use wot_table::LentState;
 use wot_types::{KeyId, Mem, Row, Rows, Trust};
+use wot_workers::{NoGate, Workers};
 
 /// What the check says: the key, and the level and the trust number of the stored row and of the counted one.
 type Said = Option<(KeyId, Option<(u8, u8)>, Option<(u8, u8)>)>;
@@ -18,21 +20,18 @@ fn said<R: Threads + Sync>(
     alloc: Global,
     of: &Sample,
     rows: &Rows,
-    workers: u32,
+    count: u32,
 ) -> Result<Said, Mem>
-    requires { (1 ≤ workers) × (workers ≤ 64) }
+    requires { (1 ≤ count) × (count ≤ 64) }
 {
-    let fault = check_all(
+    let options = options();
+    let state = LentState::of(&of.table, &of.trusts, NOW, &options);
+    let workers = Workers {
         rt,
-        alloc,
-        &of.table,
-        &of.trusts,
-        NOW,
-        &options(),
-        rows,
-        workers,
-        &NoGate,
-    )?;
+        count,
+        gate: &NoGate,
+    };
+    let fault = check_all(&workers, alloc, &state, rows)?;
     match fault {
         Some(fault) => Ok(Some((fault.key, told(&fault.stored), told(&fault.counted)))),
         None => Ok(None),

@@ -1,14 +1,19 @@
 -- One level of rows, made of those below it by a look at some keys.
-use Rattle.std.specs.Prelude.{◌≡◌, ◌⊎◌, ℕ, suc, true, List, sum_by, Option}
+use Rattle.std.specs.Prelude.{◌≡◌, ◌⊎◌, ℕ, suc, true, ◌==◌, List, sum_by, Option}
 use Rattle.std.specs.FinMap as map
-use Rattle.std.specs.List.{Contains}
+use Rattle.std.specs.List.{Contains, list_any}
 use Rattle.wot_types.specs.declared.row.Row.{Row}
 use Rattle.wot_types.specs.State.{State}
 use Rattle.wot_types.specs.Candidates.{RowMap}
+use Rattle.wot_types.specs.Explanation.{KeySet}
 use Rattle.wot_types.specs.Indexes.{has_cert_by}
 use Rattle.wot_types.specs.Keyring.{Keyring, certs_at}
 use Rattle.wot_types.specs.Levels.{kept_or, rows_upto}
 use Rattle.wot_levels.specs.Given.{given_row}
+
+-- the keys of a list
+abbrev pub among : List ℕ → KeySet
+among ids y = list_any (λ id. id == y) ids
 
 -- the certifications on some keys
 abbrev pub weight : Keyring → List ℕ → ℕ

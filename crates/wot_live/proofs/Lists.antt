@@ -1,6 +1,6 @@
 -- A list of keys that grows, each there once.
 use Rattle.std.proofs.Common.{◌≡◌, ◌<◌, ◌==◌, ◌&&◌, ◌||◌, ◌⊎◌, inl, inr, ℕ, Bool, true, false, cond, nat_eq, nat_le, List, [], ◌∷◌, ◌++◌, Option, Some, None, refl, sym, ap, subst, ◌∙◌, append_assoc, append-nil, arith}
-use Rattle.std.specs.List.{AllByRecursion, IsDistinct, dedup, dedup_from}
+use Rattle.std.specs.List.{AllByRecursion, IsDistinct}
 use Rattle.std.proofs.lemmas.Bool.{false≢true, true≢false}
 use Rattle.std.proofs.lemmas.Bool.Decides.{nat_tests}
 use Rattle.std.proofs.lemmas.List.Folds.{list_any-append}
@@ -161,20 +161,3 @@ passed_all set after ids next is x = is x ∙ elim (is_done after x) as (λ d. i
   | true ↦ λ _. refl
   | false ↦ λ ahead. sym (next x (is_after after x ahead))
 ] refl
-
--- ---- each key once
-
-twice : (a b : Bool) → (a || b) ≡ (a || (a || b))
-twice true b = refl
-twice false b = refl
-
-among_dedup_from : (y : ℕ) (ys : List ℕ) (x : ℕ) → among (dedup_from nat_eq y ys) x ≡ ((y == x) || among ys x)
-among_dedup_from y [] x = refl
-among_dedup_from y (z ∷ ys) x = elim (nat_eq z y) as (λ b. nat_eq z y ≡ b → among (cond b (dedup_from nat_eq y ys) (y ∷ dedup_from nat_eq z ys)) x ≡ ((y == x) || ((z == x) || among ys x))) [
-  | true ↦ λ same. among_dedup_from y ys x ∙ twice (y == x) (among ys x) ∙ ap (λ k. (y == x) || ((k == x) || among ys x)) (sym (is_key z y same))
-  | false ↦ λ _. ap (λ b. (y == x) || b) (among_dedup_from z ys x)
-] refl
-
-pub among_dedup : (ids : List ℕ) (x : ℕ) → among (dedup nat_eq ids) x ≡ among ids x
-among_dedup [] x = refl
-among_dedup (y ∷ ys) x = among_dedup_from y ys x

@@ -1,5 +1,5 @@
 -- The recount of several keys at one level, key after key.
-use Rattle.std.proofs.Common.{◌≡◌, ◌≢◌, ◌≤◌, ◌==◌, ◌||◌, ◌⊎◌, inl, inr, ℕ, zero, suc, Bool, true, false, cond, nat_eq, nat_lt, List, [], ◌∷◌, ◌++◌, take, Option, Some, None, option_and_then, IfSome, refl, sym, ap, subst, ◌∙◌, append_assoc, append-nil, arith}
+use Rattle.std.proofs.Common.{◌≡◌, ◌≢◌, ◌≤◌, ◌<◌, ◌==◌, ◌||◌, ◌⊎◌, inl, inr, ℕ, zero, suc, Bool, true, false, cond, nat_eq, nat_lt, List, [], ◌∷◌, ◌++◌, take, length, get_or, Option, Some, None, option_and_then, IfSome, refl, sym, ap, subst, ◌∙◌, append_assoc, append-nil, arith}
 use Rattle.std.specs.FinMap as map
 use Rattle.std.specs.FinMap.{nat_cmp-IsAntisymmetric, same_map}
 use Rattle.std.specs.Cmp.{nat_cmp_total}
@@ -192,6 +192,11 @@ unfolding IsDistinct
 fresh_at [] i x h its = absurd (false≢true its)
 fresh_at (y ∷ ys) zero x h its = refl
 fresh_at (y ∷ ys) (suc i) x h its = ap (λ b. b || among (take i ys) x) (at_end y x ys i h.0 its) ∙ fresh_at ys i x h.1 its
+
+pub only_at : (ids : List ℕ) (i x : ℕ) → i < length ids → x ≡ get_or ids i x → ids_at ids i ≡ x ∷ []
+only_at [] i x inside is = absurd (omega (arith, inside))
+only_at (y ∷ ys) zero x inside is = ap (λ z. z ∷ []) (sym is)
+only_at (y ∷ ys) (suc i) x inside is = only_at ys i x (omega (arith, inside)) is
 
 pub take_at : (ids : List ℕ) (i : ℕ) → take (suc i) ids ≡ take i ids ++ ids_at ids i
 take_at [] zero = refl

@@ -54,20 +54,6 @@ module _ (old new : AgendaMap) (n id : ℕ) (is : (m : ℕ) → due_at new m ≡
         | inr same ↦ inr (ap (λ b. b || false) same)
       ]
 
--- ---- no key, and one after the other
-
-pub more_none : (ids : List ℕ) (agenda : AgendaMap) → HasMoreOf ids agenda agenda
-more_none ids agenda = record { kept = λ m x its. its; only = λ m x its. inl its }
-
-pub more_both : (ids : List ℕ) (a b c : AgendaMap) → HasMoreOf ids a b → HasMoreOf ids b c → HasMoreOf ids a c
-more_both ids a b c first second = record {
-  kept = λ m x its. second.kept m x (first.kept m x its);
-  only = λ m x its. elim (second.only m x its) as (λ _. (is_due a m x ≡ true) ⊎ (among ids x ≡ true)) [
-    | inl there ↦ first.only m x there
-    | inr new ↦ inr new
-  ];
-}
-
 -- ---- the levels at which a key is due
 
 module _ (keys : Keyring) (rows : RowMap) (n id : ℕ) (levels : List ℕ) (agenda : AgendaMap) (zeroth : n ≤ 0 → is_due agenda 0 id ≡ true) (first : n ≤ 1 → is_due agenda 1 id ≡ true)

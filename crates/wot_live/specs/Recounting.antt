@@ -1,7 +1,7 @@
 -- How the rows of a state become those of the state after an edit: level by level, and only of the keys that may have changed.
 use Rattle.std.specs.Prelude.{◌≡◌, ◌≢◌, ◌⊎◌, ℕ, zero, suc, Bool, true, false, ◌==◌, nat_lt, List, [], ◌∷◌, ◌++◌, slice_get, option_to_list, if◌then◌else◌, Option, Some, None, option_and_then}
 use Rattle.std.specs.FinMap as map
-use Rattle.std.specs.List.{AllByRecursion, list_any}
+use Rattle.std.specs.List.{AllByRecursion}
 use Rattle.wot_types.specs.declared.key.Key.{Key}
 use Rattle.wot_types.specs.declared.row.Row.{Row}
 use Rattle.wot_types.specs.State.{State}
@@ -13,10 +13,8 @@ use Rattle.wot_types.specs.NextCheck.{key_expiries}
 use Rattle.wot_types.specs.Indexes.{has_cert_by}
 use Rattle.wot_types.specs.Keyring.{Keyring}
 use Rattle.wot_types.specs.Touched.{is_touched}
+pub use Rattle.wot_levels.specs.Frontier.{among}
 use Rattle.wot_levels.specs.Given.{given_row, if_below}
-
-abbrev pub among : List ℕ → KeySet
-among ids y = list_any (λ id. id == y) ids
 
 -- the rows of the levels below this one
 abbrev pub rows_before : State → ℕ → RowMap

@@ -1,8 +1,7 @@
 //! When each of the listed keys is to be looked at.
 
-ghost use Rattle.std.specs.Prelude.{◌≡◌, ◌≤◌, ◌+◌, ◌∷◌, ◌++◌, [], ℕ, true, nat_eq, IfOk};
+ghost use Rattle.std.specs.Prelude.{◌≡◌, ◌≤◌, ◌+◌, ◌∷◌, ◌++◌, [], ℕ, true, IfOk};
 ghost use Rattle.std.specs.FinMap as finmap;
-ghost use Rattle.std.specs.List.{IsDistinct};
 ghost use Rattle.wot_levels.specs.Certifiers.{is_level_of};
 ghost use Rattle.wot_live.specs.Agenda.{HasMoreOf, IsPutOff, due_at, is_due, with_due};
 ghost use Rattle.wot_live.specs.Recounting.{among};
@@ -123,15 +122,4 @@ fn with_all(ids: List<KeyId>, more: &[KeyId]) -> Result<List<KeyId>, Mem>
     let mut ids = ids.into_vec();
     ids.extend_from_slice(more)?;
     Ok(List::from_vec(ids))
-}
-
-/// The keys of a list, each once.
-pub fn each_once(ids: List<KeyId>) -> List<KeyId>
-    ensures same { (x : ℕ) → among result x ≡ among ids x }
-    ensures distinct { IsDistinct nat_eq result }
-{
-    let mut ids = ids.into_vec();
-    ids.sort_unstable();
-    ids.dedup();
-    List::from_vec(ids)
 }

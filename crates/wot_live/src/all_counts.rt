@@ -8,24 +8,22 @@ use crate::counts::Counts;
 use crate::key_counts::{counts_in, recount_key};
 use std::sync::ledger::Ledger;
 use wot_levels::certified;
-use wot_table::Table;
-use wot_types::{Mem, Options, Rows, Steps};
+use wot_table::LentState;
+use wot_types::{Mem, Rows, Steps};
 
 /// Key by key in rising order, without look-ups.
 fn counts_by_walk<L: Ledger>(
-    table: &Table,
-    now: u32,
-    options: &Options,
+    state: &LentState<'_>,
     rows: &Rows,
     steps: &mut Steps<L>,
 ) -> Result<Counts, Mem>
-    ensures counts { IfOk result (λ counts. counts ≡ counts_over table.now options.now now rows.now) }
-    ensures ticks { steps.new ≤ steps.old + cert_total table.now }
+    ensures counts { IfOk result (λ counts. counts ≡ counts_over state.now.keys state.now.options state.now.date rows.now) }
+    ensures ticks { steps.new ≤ steps.old + cert_total state.now.keys }
 {
-    let alloc = table.alloc();
-    let mut counts = Counts::new(alloc);
+    let table = state.table();
+    let mut counts = Counts::new(table.alloc());
     for keyblock in table.walk() {
-        let list = counts_in(alloc, &keyblock, now, options, rows, steps)?;
+        let list = counts_in(&keyblock, state, rows, steps)?;
         counts.set(keyblock.id(), list)?;
     }
     Ok(counts)
@@ -33,37 +31,34 @@ fn counts_by_walk<L: Ledger>(
 
 /// Those of the keys that introducers certified: no other key has a candidate.
 fn counts_by_introducers<L: Ledger>(
-    table: &Table,
-    now: u32,
-    options: &Options,
+    state: &LentState<'_>,
     rows: &Rows,
     steps: &mut Steps<L>,
 ) -> Result<Counts, Mem>
-    ensures counts { IfOk result (λ counts. counts ≡ counts_over table.now options.now now rows.now) }
-    ensures ticks { steps.new ≤ steps.old + cert_total table.now }
+    ensures counts { IfOk result (λ counts. counts ≡ counts_over state.now.keys state.now.options state.now.date rows.now) }
+    ensures ticks { steps.new ≤ steps.old + cert_total state.now.keys }
 {
+    let table = state.table();
     let ids = certified(table, rows)?;
     let mut counts = Counts::new(table.alloc());
     for id in ids.as_slice() {
-        counts = recount_key(table, now, options, rows, counts, *id, steps)?;
+        counts = recount_key(state, rows, counts, *id, steps)?;
     }
     Ok(counts)
 }
 
 /// The counts of all keys, by the introducers where these are few.
 pub fn all_counts<L: Ledger>(
-    table: &Table,
-    now: u32,
-    options: &Options,
+    state: &LentState<'_>,
     rows: &Rows,
     steps: &mut Steps<L>,
 ) -> Result<Counts, Mem>
-    ensures counts { IfOk result (λ counts. counts ≡ counts_over table.now options.now now rows.now) }
-    ensures ticks { steps.new ≤ steps.old + cert_total table.now }
+    ensures counts { IfOk result (λ counts. counts ≡ counts_over state.now.keys state.now.options state.now.date rows.now) }
+    ensures ticks { steps.new ≤ steps.old + cert_total state.now.keys }
 {
-    if (rows.len() as u64) < table.totals().keys / 8 {
-        counts_by_introducers(table, now, options, rows, steps)
+    if (rows.len() as u64) < state.table().totals().keys / 8 {
+        counts_by_introducers(state, rows, steps)
     } else {
-        counts_by_walk(table, now, options, rows, steps)
+        counts_by_walk(state, rows, steps)
     }
 }

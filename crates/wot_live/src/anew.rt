@@ -8,7 +8,7 @@ ghost use Rattle.wot_levels.specs.Given.{state_of};
 use crate::engine::Engine;
 use std::sync::ledger::Ledger;
 use wot_levels::rows;
-use wot_table::Table;
+use wot_table::{LentState, Table};
 use wot_types::{Mem, Options, Steps, Trusts};
 
 /// The engine of a state of which nothing is counted: the rows of all levels first, then the candidates.
@@ -23,6 +23,7 @@ pub fn count_anew<L: Ledger>(
     ensures state { IfOk result (λ new. new ≡ state_of table trusts date options) }
     ensures ticks { steps.new ≤ steps.old + (options.depth + 1) * cert_total table }
 {
-    let rows = rows(&table, &trusts, date, &options, steps)?;
+    let state = LentState::of(&table, &trusts, date, &options);
+    let rows = rows(&state, steps)?;
     Engine::from_parts(table, trusts, date, options, rows, steps)
 }

@@ -6,14 +6,21 @@ ghost use Rattle.std.specs.Option.{option_copied};
 ghost use Rattle.wot_types.specs.Keyring.{certs_at};
 ghost use Rattle.wot_levels.specs.Frontier.{weight};
 ghost use Rattle.wot_live.specs.Agenda.{AreDue, HasMoreOf, IsWithin, is_due};
-ghost use Rattle.wot_live.specs.Recounting.{ids_at};
 
 use crate::agenda::Agenda;
 use crate::worklist::Worklist;
 use std::sync::ledger::Ledger;
 use wot_levels::certifier_levels;
-use wot_table::Table;
+use wot_table::{LentState, Table};
 use wot_types::{KeyId, Mem, Row, Rows, Steps};
+
+/// Rows while they are recounted, the keys to be recounted, which only grow, and the levels at which these are due.
+#[derive(Drop)]
+pub struct Course {
+    pub rows: Rows,
+    pub todo: Worklist,
+    pub agenda: Agenda,
+}
 
 /// Puts a key on the agenda at the level of its own row, which has to be given anew, unless that level is past.
 fn add_own(
@@ -35,17 +42,18 @@ fn add_own(
 /// Puts a key on the agenda at the first two levels, at that of its own row and at those behind the levels of its certifiers, as far as
 /// they are still to come: only there may its row change, while the rows stand as they do.
 fn plan_key<L: Ledger>(
-    table: &Table,
+    state: &LentState<'_>,
     rows: &Rows,
     agenda: Agenda,
     id: KeyId,
     level: u8,
     steps: &mut Steps<L>,
 ) -> Result<Agenda, Mem>
-    ensures due { IfOk result (AreDue table.now rows.now level (id ∷ [])) }
+    ensures due { IfOk result (AreDue state.now.keys rows.now level (id ∷ [])) }
     ensures more { IfOk result (HasMoreOf (id ∷ []) agenda) }
-    ensures ticks { steps.new ≤ steps.old + certs_at table.now id }
+    ensures ticks { steps.new ≤ steps.old + certs_at state.now.keys id }
 {
+    let table = state.table();
     let alloc = table.alloc();
     let first = level as u16;
     let levels = certifier_levels(table, rows, id, steps)?;
@@ -55,47 +63,31 @@ fn plan_key<L: Ledger>(
     agenda.add_behind(alloc, first, levels.as_slice(), id)
 }
 
-/// Plans the key at this place of the list.
-fn plan_place<L: Ledger>(
-    table: &Table,
-    rows: &Rows,
-    todo: &Worklist,
-    agenda: Agenda,
-    i: usize,
-    level: u8,
-    steps: &mut Steps<L>,
-) -> Result<Agenda, Mem>
-    ensures due { IfOk result (AreDue table.now rows.now level (ids_at todo.now i)) }
-    ensures more { IfOk result (HasMoreOf (ids_at todo.now i) agenda) }
-    ensures ticks { steps.new ≤ steps.old + weight table.now (ids_at todo.now i) }
-{
-    match todo.get(i) {
-        Some(id) => plan_key(table, rows, agenda, id, level, steps),
-        None => Ok(agenda),
-    }
-}
-
-/// Plans the keys of a list, of which so many are planned already.
+/// Plans the listed keys, of which so many are planned already.
 pub fn plan<L: Ledger>(
-    table: &Table,
-    rows: &Rows,
-    todo: &Worklist,
-    agenda: Agenda,
+    state: &LentState<'_>,
+    course: Course,
     planned: usize,
     level: u8,
     steps: &mut Steps<L>,
-) -> Result<Agenda, Mem>
-    requires due { AreDue table.now rows.now level (take planned todo.now) agenda }
-    requires within { IsWithin todo.now agenda }
-    ensures due { IfOk result (AreDue table.now rows.now level todo.now) }
-    ensures within { IfOk result (IsWithin todo.now) }
-    ensures distinct { IsDistinct nat_eq todo.now }
-    ensures ticks { steps.new + weight table.now (take planned todo.now) ≤ steps.old + weight table.now todo.now }
+) -> Result<Course, Mem>
+    requires due { AreDue state.now.keys course.rows level (take planned course.todo) course.agenda }
+    requires within { IsWithin course.todo course.agenda }
+    ensures rows { IfOk result (λ new. new.rows ≡ course.rows) }
+    ensures todo { IfOk result (λ new. new.todo ≡ course.todo) }
+    ensures due { IfOk result (λ new. AreDue state.now.keys new.rows level new.todo new.agenda) }
+    ensures within { IfOk result (λ new. IsWithin new.todo new.agenda) }
+    ensures distinct { IsDistinct nat_eq course.todo }
+    ensures ticks { steps.new + weight state.now.keys (take planned course.todo) ≤ steps.old + weight state.now.keys course.todo }
 {
-    let mut agenda = agenda;
+    let Course {
+        rows,
+        todo,
+        mut agenda,
+    } = course;
     let count = todo.len();
     for i in planned..count {
-        agenda = plan_place(table, rows, todo, agenda, i, level, steps)?;
+        agenda = plan_key(state, &rows, agenda, todo.id(i), level, steps)?;
     }
-    Ok(agenda)
+    Ok(Course { rows, todo, agenda })
 }

@@ -1,9 +1,9 @@
 //! The keys that are to be recounted.
 
-ghost use Rattle.std.specs.Prelude.{◌≡◌, ℕ, [], nat_eq, slice_get, length, IfOk};
+ghost use Rattle.std.specs.Prelude.{◌≡◌, ◌<◌, ◌∷◌, ℕ, [], nat_eq, length, IfOk};
 ghost use Rattle.std.specs.List.{IsDistinct};
 ghost use Rattle.wot_types.specs.Indexes.{has_cert_by};
-ghost use Rattle.wot_live.specs.Recounting.{IsGrownBy, IsWhole, among, with_id};
+ghost use Rattle.wot_live.specs.Recounting.{IsGrownBy, IsWhole, among, ids_at, with_id};
 
 use std::alloc::Global;
 use std::collections::BTreeSet;
@@ -52,10 +52,11 @@ impl Worklist {
     }
 
     /// A key by its place, from 0.
-    pub fn get(&self, i: usize) -> Option<KeyId>
-        ensures { result ≡ slice_get self.now i }
+    pub fn id(&self, i: usize) -> KeyId
+        requires inside { i < length self.now }
+        ensures { ids_at self.now i ≡ result ∷ [] }
     {
-        self.ids.get(i).copied()
+        self.ids[i]
     }
 
     /// Adds a key, unless it is there.

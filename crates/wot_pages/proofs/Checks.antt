@@ -13,7 +13,7 @@ use Rattle.std.proofs.lemmas.Option.{none-some}
 use Rattle.wot_pages.specs.Page.{seal}
 use Rattle.wot_pages.specs.Pages.{content_in, content_at, seal_at, seals_of, is_sealed, seal_fault}
 use Rattle.wot_pages.specs.Checking.{first_wrong}
-use Rattle.wot_pages.specs.Pieces.{IsByPiece, first_some}
+use Rattle.wot_workers.specs.Pieces.{IsByPlace, first_some}
 use Rattle.wot_pages.proofs.Runs.{find_suc}
 
 -- a content as it is cut out
@@ -120,7 +120,7 @@ module _ (epoch : ℕ) (contents : List ℕ) where
         next n k = omega arith
 
     -- the first that a piece tells is the first of all
-    pub first_of_pieces : (made : List (Option ℕ)) → IsByPiece (λ from piece. first_wrong epoch from contents piece) size seals made
+    pub first_of_pieces : (made : List (Option ℕ)) → IsByPlace (λ from piece. first_wrong epoch from contents piece) size seals made
         → first_some made ≡ first_wrong epoch 0 contents seals
     first_of_pieces made by =
         let all : length made + 0 ≡ div_ceil (length seals) size = omega (arith, by.count) in

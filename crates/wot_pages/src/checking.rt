@@ -4,12 +4,12 @@ ghost use Rattle.std.specs.Prelude.{◌≡◌, ◌+◌, ◌*◌, ◌≤◌, leng
 ghost use Rattle.std.specs.Int.{div_ceil};
 ghost use Rattle.wot_types.specs.PagePlaces.{content_size};
 ghost use Rattle.wot_pages.specs.Checking.{first_wrong};
-ghost use Rattle.wot_pages.specs.Pieces.{IsByPiece};
+ghost use Rattle.wot_workers.specs.Pieces.{IsByPlace};
 
 use crate::page::{CONTENT, seal};
-use crate::pieces::{first_some, piece_size};
 use std::alloc::{AllocError, Global};
 use std::thread::{Threads, map_chunks};
+use wot_workers::{Gate, Workers, first_some, piece_size};
 
 // The first of these pages, from the one with that number on, whose seal isn't that of its content.
 fn first_wrong(epoch: u64, from: u64, contents: &[u8], seals: &[[u8; 32]]) -> Option<u64>
@@ -37,7 +37,7 @@ fn check_pieces<R: Threads + Sync>(
 ) -> Result<Vec<Option<u64>>, AllocError>
     requires size { 1 ≤ size }
     requires there { content_size * length seals.now ≤ length contents.now }
-    ensures { IfOk result (λ told. IsByPiece (λ from piece. first_wrong epoch from contents.now piece) size seals.now told.items) }
+    ensures { IfOk result (λ told. IsByPlace (λ from piece. first_wrong epoch from contents.now piece) size seals.now told.items) }
 {
     map_chunks(
         rt,
@@ -51,20 +51,18 @@ fn check_pieces<R: Threads + Sync>(
     )
 }
 
-/// The first of the pages with these contents and seals whose seal isn't that of its content, by so many workers.
-pub fn check_seals<R: Threads + Sync>(
-    rt: &R,
+/// The first of the pages with these contents and seals whose seal isn't that of its content. The workers call no gate.
+pub fn check_seals<R: Threads + Sync, G: Gate + Sync>(
+    workers: &Workers<'_, R, G>,
     alloc: Global,
     epoch: u64,
     contents: &[u8],
     seals: &[[u8; 32]],
-    workers: u32,
 ) -> Result<Option<u64>, AllocError>
-    requires workers { 1 ≤ workers }
     requires there { content_size * length seals.now ≤ length contents.now }
     ensures { IfOk result (λ fault. fault ≡ first_wrong epoch 0 contents.now seals.now) }
 {
-    let size = piece_size(seals.len(), workers);
-    let told = check_pieces(rt, alloc, epoch, contents, seals, size)?;
+    let size = piece_size(seals.len(), workers.count);
+    let told = check_pieces(workers.rt, alloc, epoch, contents, seals, size)?;
     Ok(first_some(&told))
 }

@@ -13,6 +13,7 @@ use std::alloc::{AllocError, Global};
 use std::thread::Threads;
 use thiserror::Error;
 use wot_site::{Side, Site};
+use wot_workers::{Gate, Workers};
 
 /// Why pages were not read.
 #[derive(Clone, Copy, Debug, PartialEq, Eq, Drop, Error)]
@@ -26,18 +27,16 @@ pub enum PagesError {
     Memory,
 }
 
-/// Reads so many pages of a side, and answers their contents in order. One thread reads; so many workers check the seals
+/// Reads so many pages of a side, and answers their contents in order. One thread reads; the workers check the seals
 /// of what was read, each those of a piece of the pages.
-pub fn read_pages<R: Threads + Sync, S: Site>(
-    rt: &R,
+pub fn read_pages<R: Threads + Sync, S: Site, G: Gate + Sync>(
+    workers: &Workers<'_, R, G>,
     alloc: Global,
     site: &mut S,
     side: Side,
     epoch: u64,
     pages: u64,
-    workers: u32,
 ) -> Result<Vec<u8>, PagesError>
-    requires workers { (1 ≤ workers) × (workers ≤ 64) }
     requires fits { page_place pages ≤ 2 ^ 32 - 1 }
     requires within { IfHonest (S.seen site.old) (λ s. page_place pages ≤ length (disk_of side s.disks).reads) }
     ensures long { IfOk result (λ contents. length contents.items ≡ content_size * pages) }
@@ -54,7 +53,7 @@ pub fn read_pages<R: Threads + Sync, S: Site>(
         Err(e) => return Err(e),
     };
     let count = read.seals.len() as u64;
-    match check_seals(rt, alloc, epoch, &read.contents, &read.seals, workers) {
+    match check_seals(workers, alloc, epoch, &read.contents, &read.seals) {
         Ok(Some(k)) => Err(PagesError::Seal(k)),
         Ok(None) => {
             if count < pages {

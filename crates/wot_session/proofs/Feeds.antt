@@ -3,15 +3,15 @@ use Rattle.std.proofs.Common.{◌≡◌, ℕ, List, [], ◌∷◌, ◌++◌, Opt
 use Rattle.std.proofs.lemmas.List.{append-nil}
 use Rattle.std.specs.List.{slice_split}
 use Rattle.wot_types.specs.Lines.{is_newline}
-use Rattle.wot_types.specs.Commands.{ReadLine, cut_after, made_by, whole_commands}
-use Rattle.wot_types.specs.Commands.Cut.{over}
+use Rattle.wot_types.specs.Commands.{ReadLine, division_after, made_by, whole_commands}
+use Rattle.wot_types.specs.Commands.Division.{over}
 use Rattle.wot_types.specs.LineByLine.{Position, after_line, after_lines, commands_in}
 use Rattle.wot_types.specs.Session.{after_all}
-use Rattle.wot_types.proofs.Cuts.{after_one, lines_append, none_over, one_line, stays_over, whole_append}
-use Rattle.wot_answer.specs.Answer.{IsCut}
+use Rattle.wot_types.proofs.Divisions.{after_one, lines_append, none_over, one_line, stays_over, whole_append}
+use Rattle.wot_answer.specs.Answer.{IsDivision}
 use Rattle.wot_answer.proofs.Answering as answering
-use Rattle.wot_answer.specs.declared.cut.Cut.{Cut}
-use Rattle.wot_answer.specs.declared.cut.Cut.TheVariants.{Between, Over, Within}
+use Rattle.wot_answer.specs.declared.division.Division.{Division}
+use Rattle.wot_answer.specs.declared.division.Division.TheVariants.{Between, Over, Within}
 use Rattle.wot_site.specs.Seen.{Seen, Honestly, IfHonest}
 use Rattle.wot_site.proofs.Honest.{honest_then, honest_weaker}
 use Rattle.wot_types.specs.Store.{Store}
@@ -26,32 +26,32 @@ use Rattle.wot_session.proofs.Parts.{whole_at, open_at, whole_none, open_none}
 use Rattle.wot_session.proofs.Sayings.{said_none, said_prefix, said_prefix_more, said_then, said_then_prefix}
 
 -- a session that is over stands behind `quit`
-pub is_over : (session : Session) (p : Position) → IsAt session p → IsOver session → p.cut ≡ over
-is_over session p at ended = answering.is_over p.cut (subst (λ cut. IsCut cut p.cut) ended at.cut)
+pub is_over : (session : Session) (p : Position) → IsAt session p → IsOver session → p.division ≡ over
+is_over session p at ended = answering.is_over p.division (subst (λ division. IsDivision division p.division) ended at.division)
 
-over_cut : (cut : Cut) → IsCut cut over → cut ≡ Over
-over_cut Between is = absurd is
-over_cut (Within block) is = absurd is
-over_cut Over is = refl
+over_division : (division : Division) → IsDivision division over → division ≡ Over
+over_division Between is = absurd is
+over_division (Within block) is = absurd is
+over_division Over is = refl
 
-pub not_over : (session : Session) (p : Position) → IsAt session p → (IsOver session → ⊥) → p.cut ≡ over → ⊥
-not_over session p at goes is = goes (over_cut session.cut (subst (IsCut session.cut) is at.cut))
+pub not_over : (session : Session) (p : Position) → IsAt session p → (IsOver session → ⊥) → p.division ≡ over → ⊥
+not_over session p at goes is = goes (over_division session.division (subst (IsDivision session.division) is at.division))
 
 -- behind `quit` lines change nothing
-pub over_commands : (p : Position) (lines : List ReadLine) → p.cut ≡ over → commands_in p lines ≡ []
-over_commands p lines is = ap (λ cut. whole_commands cut lines) is ∙ none_over lines
+pub over_commands : (p : Position) (lines : List ReadLine) → p.division ≡ over → commands_in p lines ≡ []
+over_commands p lines is = ap (λ division. whole_commands division lines) is ∙ none_over lines
 
-pub over_lines : (p : Position) (lines : List ReadLine) → p.cut ≡ over → after_lines p lines ≡ p
+pub over_lines : (p : Position) (lines : List ReadLine) → p.division ≡ over → after_lines p lines ≡ p
 over_lines p lines is =
-    ap (λ commands. record { progress = after_all p.progress commands; cut = cut_after p.cut lines }) (over_commands p lines is)
-    ∙ ap (λ cut. record { progress = p.progress; cut = cut }) (ap (λ cut. cut_after cut lines) is ∙ stays_over lines ∙ sym is)
+    ap (λ commands. record { progress = after_all p.progress commands; division = division_after p.division lines }) (over_commands p lines is)
+    ∙ ap (λ division. record { progress = p.progress; division = division }) (ap (λ division. division_after division lines) is ∙ stays_over lines ∙ sym is)
 
 -- one line more
 pub after_push : (p : Position) (xs : List ReadLine) (line : ReadLine) → after_lines p (xs ++ line ∷ []) ≡ after_line (after_lines p xs) line
 after_push p xs line = lines_append p xs (line ∷ []) ∙ after_one (after_lines p xs) line
 
-pub commands_push : (p : Position) (xs : List ReadLine) (line : ReadLine) → commands_in p (xs ++ line ∷ []) ≡ commands_in p xs ++ made_by (after_lines p xs).cut line
-commands_push p xs line = whole_append p.cut xs (line ∷ []) ∙ ap (λ last. commands_in p xs ++ last) (one_line (after_lines p xs).cut line)
+pub commands_push : (p : Position) (xs : List ReadLine) (line : ReadLine) → commands_in p (xs ++ line ∷ []) ≡ commands_in p xs ++ made_by (after_lines p xs).division line
+commands_push p xs line = whole_append p.division xs (line ∷ []) ∙ ap (λ last. commands_in p xs ++ last) (one_line (after_lines p xs).division line)
 
 -- a session at the place at which the store is open
 pub holds_at : {place other : Place} (seen : Option Seen) (store : Store) → other ≡ place → Holds place seen store → Holds other seen store
@@ -90,7 +90,7 @@ said_known P K (Some x) (Some y) step known = (step, known)
 
 module _ {first now : Option Seen} {start session : Session} {bytes rest : List ℕ} (feeding : Feeding first now start session bytes rest) where
   all_commands : (p : Position) → commands_in p (whole_from start.line bytes) ≡ commands_in p feeding.done ++ commands_in (after_lines p feeding.done) (whole_from session.line rest)
-  all_commands p = ap (commands_in p) (sym feeding.whole) ∙ whole_append p.cut feeding.done (whole_from session.line rest)
+  all_commands p = ap (commands_in p) (sym feeding.whole) ∙ whole_append p.division feeding.done (whole_from session.line rest)
 
   -- no memory for the next line
   pub feeding_stop : (p : Position) → IsHere start first p → Honestly first now (SaidPrefix p.progress (commands_in p (whole_from start.line bytes)) Memory)
@@ -129,32 +129,32 @@ module _ {first now : Option Seen} {start session : Session} {bytes rest : List 
     pub feeding_more : (next : Option Seen) (answered : Session)
         → ((p : Position) → IsHere held now p → IsHere answered next (after_line p held.line))
         → answered.line ≡ Some []
-        → ((p : Position) → IsHere held now p → Honestly now next (Said p.progress (made_by p.cut held.line)))
+        → ((p : Position) → IsHere held now p → Honestly now next (Said p.progress (made_by p.division held.line)))
         → Feeding first next start answered bytes after
     feeding_more next answered at clear said = record {
       done = feeding.done ++ held.line ∷ [];
       at = λ p here. subst (IsHere answered next) (sym (after_push p feeding.done held.line)) (at (after_lines p feeding.done) (held_here p here));
       said = λ p here. honest_then _ _ _ first now next (feeding.said p here) (said (after_lines p feeding.done) (held_here p here))
           (λ x y z before after. subst (λ commands. Said p.progress commands x z) (sym (commands_push p feeding.done held.line))
-          (said_then p.progress (commands_in p feeding.done) (made_by (after_lines p feeding.done).cut held.line) x y z before after));
+          (said_then p.progress (commands_in p feeding.done) (made_by (after_lines p feeding.done).division held.line) x y z before after));
       whole = ap (λ line. feeding.done ++ held.line ∷ [] ++ whole_from line after) clear ∙ next_whole;
       line = ap (λ line. open_from line after) clear ∙ sym (open_at session.line rest part after split) ∙ feeding.line;
     }
 
     -- it stopped there
-    pub feeding_cut : (next : Option Seen) (stop : Stop)
-        → ((p : Position) → IsHere held now p → Honestly now next (SaidPrefix p.progress (made_by p.cut held.line) stop))
+    pub feeding_broken : (next : Option Seen) (stop : Stop)
+        → ((p : Position) → IsHere held now p → Honestly now next (SaidPrefix p.progress (made_by p.division held.line) stop))
         → (p : Position) → IsHere start first p → Honestly first next (SaidPrefix p.progress (commands_in p (whole_from start.line bytes)) stop)
-    feeding_cut next stop prefix p here =
-        let line = made_by (after_lines p feeding.done).cut held.line in
+    feeding_broken next stop prefix p here =
+        let line = made_by (after_lines p feeding.done).division held.line in
         let others = commands_in (after_lines p (feeding.done ++ held.line ∷ [])) (whole_from (Some []) after) in
         let split : commands_in p (whole_from start.line bytes) ≡ (commands_in p feeding.done ++ line) ++ others =
-        ap (commands_in p) (sym next_whole) ∙ whole_append p.cut (feeding.done ++ held.line ∷ []) (whole_from (Some []) after)
+        ap (commands_in p) (sym next_whole) ∙ whole_append p.division (feeding.done ++ held.line ∷ []) (whole_from (Some []) after)
         ∙ ap (λ front. front ++ others) (commands_push p feeding.done held.line) in
         honest_then _ _ _ first now next (feeding.said p here) (prefix (after_lines p feeding.done) (held_here p here))
-        (λ x y z before cut. subst (λ commands. SaidPrefix p.progress commands stop x z) (sym split)
+        (λ x y z before broken. subst (λ commands. SaidPrefix p.progress commands stop x z) (sym split)
         (said_prefix_more p.progress (commands_in p feeding.done ++ line) others x z stop
-        (said_then_prefix p.progress (commands_in p feeding.done) line x y stop z before cut)))
+        (said_then_prefix p.progress (commands_in p feeding.done) line x y stop z before broken)))
 
   -- no line ends in the rest
   module _ (unended : slice_split is_newline rest ≡ rest ∷ []) where

@@ -307,7 +307,7 @@ module _ (session : Session) (engine : State) (answer : Answer) (s : Store) (aft
       sound = does_sound answer.effect s after.progress.store due.sound due.does;
       place = at;
       refused = due.refused;
-      cut = due.cut;
+      division = due.division;
     };
     holds = holds;
   }

@@ -10,7 +10,7 @@ use Rattle.wot_store.specs.declared.place.Place.{Place}
 use Rattle.wot_store.proofs.Unwritten.{settled_images}
 use Rattle.wot_types.specs.Commands.{Command}
 use Rattle.wot_types.specs.Session.{Progress, after_command, after_all, replies, reply_to}
-use Rattle.wot_types.proofs.Cuts.{after_commands_append, commands_append}
+use Rattle.wot_types.proofs.Divisions.{after_commands_append, commands_append}
 use Rattle.wot_session.specs.Kept.{AllShow, IsWhole, Kept}
 use Rattle.wot_session.specs.Open.{IsOpen}
 

@@ -1,6 +1,6 @@
 -- The loop of a run, over what its site tells.
 use Rattle.std.proofs.Common.{◌≡◌, ◌⊎◌, inl, inr, ℕ, ◌+◌, ◌-◌, ◌≤◌, Bool, List, [], ◌++◌, length, Option, Some, None, sym, ap, ◌∙◌, length-append, arith}
-use Rattle.wot_types.specs.Commands.Cut.{over}
+use Rattle.wot_types.specs.Commands.Division.{over}
 use Rattle.wot_types.specs.LineByLine.{Position, after_lines}
 use Rattle.wot_site.specs.Seen.{Seen, Honestly}
 use Rattle.wot_site.proofs.Honest.{honest_then}
@@ -11,8 +11,8 @@ use Rattle.wot_session.specs.AtEnd.{at_end, last_commands}
 use Rattle.wot_session.specs.Fed.{whole_from, open_from}
 use Rattle.wot_session.specs.Here.{Holds, IsAt, IsHere, IsOver}
 use Rattle.wot_session.specs.Told.{IsAnswering, Said, SaidPrefix}
-use Rattle.wot_session.specs.Turn.{StoppedTurn, TookAll, Turned, cut_fed}
-use Rattle.wot_session.specs.Input.{Ended, Stopped}
+use Rattle.wot_session.specs.Turn.{StoppedTurn, TookAll, Turned, division_fed}
+use Rattle.wot_session.specs.Input.{SessionEnded, SessionStopped}
 use Rattle.wot_session.proofs.Feeds.{is_over, not_over, said_known}
 use Rattle.wot_session.proofs.Parts.{open_append}
 use Rattle.wot_session.proofs.Inputs.{position_after, position_append}
@@ -34,7 +34,7 @@ pub record Ending (s : Position) (first now : Option Seen) (session : Session) (
   pub bound : length fed ≤ most
   pub reached : Honestly first now (ReachedEnd s fed)
 
-start_reached : (place : Place) (s : Position) (a : Option Seen) → Holds place a s.progress.store → (s.cut ≡ over → ⊥) → Honestly a a (Reached s [])
+start_reached : (place : Place) (s : Position) (a : Option Seen) → Holds place a s.progress.store → (s.division ≡ over → ⊥) → Honestly a a (Reached s [])
 start_reached place s None holds goes = tt
 start_reached place s (Some x) holds goes = reached_start s x holds goes
 
@@ -51,7 +51,7 @@ running_start s a session most at line goes = record {
 module _ {s : Position} {first now : Option Seen} {session : Session} {most room : ℕ} (running : Running s first now session most room) where
   -- the turn stopped
   pub running_stop : (next : Option Seen) (stop : Stop)
-      → ((p : Position) → IsHere session now p → Honestly now next (StoppedTurn p session.line room stop)) → Honestly first next (Stopped s most stop)
+      → ((p : Position) → IsHere session now p → Honestly now next (StoppedTurn p session.line room stop)) → Honestly first next (SessionStopped s most stop)
   running_stop next stop stopped =
       honest_then _ _ _ first now next running.reached (rw running.line at (stopped (position_after s running.fed) running.at))
       (λ x y z. stop_turn s most room stop running.fed x y z running.bound)
@@ -70,7 +70,7 @@ module _ {s : Position} {first now : Option Seen} {session : Session} {most room
 
     -- `quit` came
     pub running_over : (n : ℕ) (refused : Bool) → length piece ≡ n → n ≤ room → IsOver turned
-        → ((p : Position) → IsAt turned p → refused ≡ p.progress.refused) → Honestly first next (Ended s most refused)
+        → ((p : Position) → IsAt turned p → refused ≡ p.progress.refused) → Honestly first next (SessionEnded s most refused)
     running_over n refused size within ended refusals =
         honest_then _ _ _ first now next running.reached (said_known _ _ now next turned_here turned_at.holds)
         (λ x y z reached both. over_run s most refused (running.fed ++ piece) x z (omega (arith, fed_size n size, within, running.bound))
@@ -87,11 +87,11 @@ module _ {s : Position} {first now : Option Seen} {session : Session} {most room
       took : (y z : Seen) → Turned (position_after s running.fed) (open_from (Some []) running.fed) piece y z → TookAll piece y z
       took y z turned_there = cases turned_there.took
         where
-          cases : TookAll piece y z ⊎ (cut_fed (position_after s running.fed) (open_from (Some []) running.fed) piece ≡ over) → TookAll piece y z
+          cases : TookAll piece y z ⊎ (division_fed (position_after s running.fed) (open_from (Some []) running.fed) piece ≡ over) → TookAll piece y z
           cases (inl all) = all
-          cases (inr ended) = absurd (not_over turned _ turned_at.at goes (ap (λ (p : Position). p.cut) (position_append s running.fed piece) ∙ ended))
+          cases (inr ended) = absurd (not_over turned _ turned_at.at goes (ap (λ (p : Position). p.division) (position_append s running.fed piece) ∙ ended))
 
-      still : (position_after s (running.fed ++ piece)).cut ≡ over → ⊥
+      still : (position_after s (running.fed ++ piece)).division ≡ over → ⊥
       still = not_over turned _ turned_at.at goes
 
       -- a piece came
@@ -120,7 +120,7 @@ module _ {s : Position} {first now : Option Seen} {session : Session} {most : �
       → ((p : Position) → IsHere session now p → IsHere ended next (at_end p session.line))
       → ((p : Position) → IsHere session now p → Honestly now next (Said p.progress (last_commands p session.line)))
       → ((p : Position) → IsAt ended p → refused ≡ p.progress.refused)
-      → Honestly first next (Ended s most refused)
+      → Honestly first next (SessionEnded s most refused)
   ending_ok next ended refused at said refusals =
       let here = rw ending.line at (at (position_after s ending.fed) ending.at) in
       honest_then _ _ _ first now next ending.reached (said_known _ _ now next (rw ending.line at (said (position_after s ending.fed) ending.at)) here.holds)
@@ -128,7 +128,7 @@ module _ {s : Position} {first now : Option Seen} {session : Session} {most : �
 
   pub ending_stop : (next : Option Seen) (stop : Stop) → IsAnswering stop
       → ((p : Position) → IsHere session now p → Honestly now next (SaidPrefix p.progress (last_commands p session.line) stop))
-      → Honestly first next (Stopped s most stop)
+      → Honestly first next (SessionStopped s most stop)
   ending_stop next stop kind said =
       honest_then _ _ _ first now next ending.reached (rw ending.line at (said (position_after s ending.fed) ending.at))
       (λ x y z. stop_end s most stop ending.fed x y z kind)

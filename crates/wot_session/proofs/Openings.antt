@@ -5,7 +5,7 @@ use Rattle.std.proofs.lemmas.List.Elements.{All-append, All-nil, All-weaker}
 use Rattle.wot_types.specs.Grammar.{has_block}
 use Rattle.wot_types.specs.Lines.{lines, read_line}
 use Rattle.wot_types.specs.Store.{Store}
-use Rattle.wot_types.specs.Commands.{Command, begun_command, commands_from, first_cut, takes_input}
+use Rattle.wot_types.specs.Commands.{Command, begun_command, commands_from, first_division, takes_input}
 use Rattle.wot_types.specs.LineByLine.{at_first}
 use Rattle.wot_types.specs.Session.{Progress, after_all, at_start, commands_of, output_of, replies}
 use Rattle.wot_site.specs.Disk.{Disks, Image, reads_of}
@@ -20,16 +20,16 @@ use Rattle.wot_store.specs.Shows.{IsStored, Shows, ShowsAs}
 use Rattle.wot_store.proofs.Unwritten.{unwritten_settled}
 use Rattle.wot_store.proofs.Unique.{shows_once}
 use Rattle.std.proofs.lemmas.Bool.{eqb-true}
-use Rattle.wot_answer.specs.Answer.{IsCut}
+use Rattle.wot_answer.specs.Answer.{IsDivision}
 use Rattle.wot_answer.specs.Block.{IsBlockOf}
-use Rattle.wot_answer.specs.declared.cut.Cut.TheVariants.{Within}
+use Rattle.wot_answer.specs.declared.division.Division.TheVariants.{Within}
 use Rattle.wot_answer.specs.declared.block.Block.{Block}
 use Rattle.wot_session.specs.Here.{Holds}
 use Rattle.wot_session.specs.Input as input
 use Rattle.wot_session.specs.Input.{HasQuit, IsOnTime, IsPunctual, IsRead, commands_at}
 use Rattle.wot_session.specs.Kept.{IsPrefixOf, IsSafe, IsWhole, Kept}
 use Rattle.wot_session.specs.Open.{IsOpen}
-use Rattle.wot_session.specs.Run.{Ended, IsCrashSafe, IsUntouched, IsWritten, Ran, Stopped, Unopened, WritesForChanges}
+use Rattle.wot_session.specs.Run.{RunEnded, IsCrashSafe, IsUntouched, IsWritten, Ran, RunStopped, Unopened, WritesForChanges}
 use Rattle.wot_session.specs.Stop.{status_of}
 use Rattle.wot_session.specs.Told.{IsAnswering, Said, SaidPrefix}
 use Rattle.wot_session.specs.Words.{IsUnread, Read, WordsEnded, WordsStopped}
@@ -156,7 +156,7 @@ module _ {place : Place} (store : Store) (words : List (List ℕ)) (x y : Seen) 
   untouched_later z written there none = untouched_then (at_start store) (commands_of words x.left) x y z none (untouched_opening x y there wrote) written
 
   -- the run came to its end
-  pub opened_ended : (most : ℕ) (refused : Bool) (z : Seen) → WordsEnded store words most refused y z → Ended words most refused x z
+  pub opened_ended : (most : ℕ) (refused : Bool) (z : Seen) → WordsEnded store words most refused y z → RunEnded words most refused x z
   opened_ended most refused z ended =
       record {
         store = store;
@@ -182,7 +182,7 @@ module _ {place : Place} (store : Store) (words : List (List ℕ)) (x y : Seen) 
       })
       read_later opening false unread = unread_later opening unread
 
-  pub opened_stopped : (most : ℕ) (stop : Stop) (z : Seen) → WordsStopped store words most stop y z → Stopped words most stop x z
+  pub opened_stopped : (most : ℕ) (stop : Stop) (z : Seen) → WordsStopped store words most stop y z → RunStopped words most stop x z
   opened_stopped most stop z stopped =
       let told = stopped.told ∙ ap (λ told. told ++ stopped.text) opening.told in
       let here = subst (λ t. Kept (at_start store) (commands_of words x.left) t (moment_of z)) opening.told (subst (λ left. Kept (at_start store) (commands_of words left) y.told (moment_of z)) opening.left stopped.here) in
@@ -207,9 +207,9 @@ module _ {place : Place} (store : Store) (words : List (List ℕ)) (x y : Seen) 
 -- a run over its input is a run of these words
 module _ (store : Store) (words : List (List ℕ)) (takes : takes_input words ≡ true) (y z : Seen) where
   same_input : (bytes : List ℕ) → commands_at (at_first store words) bytes ≡ commands_of words bytes
-  same_input bytes = ap (λ b. commands_from (first_cut words) (if b then map read_line (lines bytes) else [])) (sym takes)
+  same_input bytes = ap (λ b. commands_from (first_division words) (if b then map read_line (lines bytes) else [])) (sym takes)
 
-  pub input_ended : (most : ℕ) (refused : Bool) → input.Ended (at_first store words) most refused y z → WordsEnded store words most refused y z
+  pub input_ended : (most : ℕ) (refused : Bool) → input.SessionEnded (at_first store words) most refused y z → WordsEnded store words most refused y z
   input_ended most refused ended = record {
     told = ended.told ∙ ap (λ commands. y.told ++ replies (at_start store) commands) (same_input y.left);
     refusals = ended.refusals ∙ ap (λ commands. (after_all (at_start store) commands).refused) (same_input y.left);
@@ -220,7 +220,7 @@ module _ (store : Store) (words : List (List ℕ)) (takes : takes_input words �
     written = subst (λ commands. Written (at_start store) commands y z) (same_input y.left) ended.written;
   }
 
-  pub input_stopped : (most : ℕ) (stop : Stop) → input.Stopped (at_first store words) most stop y z → WordsStopped store words most stop y z
+  pub input_stopped : (most : ℕ) (stop : Stop) → input.SessionStopped (at_first store words) most stop y z → WordsStopped store words most stop y z
   input_stopped most stop stopped = record {
     text = stopped.text;
     told = stopped.told;
@@ -238,7 +238,7 @@ module _ (store : Store) (words : List (List ℕ)) (takes : takes_input words �
 -- a run of one command without a block
 same_one : (words : List (List ℕ)) (bytes : List ℕ) → (words ≡ [] → ⊥) → has_block words ≡ false → commands_of words bytes ≡ begun_command words ∷ []
 same_one [] bytes some none = absurd (some refl)
-same_one (name ∷ words) bytes some none = ap (λ b. commands_from (first_cut (name ∷ words)) (if b then map read_line (lines bytes) else [])) none
+same_one (name ∷ words) bytes some none = ap (λ b. commands_from (first_division (name ∷ words)) (if b then map read_line (lines bytes) else [])) none
 
 takes_one : (words : List (List ℕ)) → (words ≡ [] → ⊥) → has_block words ≡ false → takes_input words ≡ false
 takes_one [] some none = absurd (some refl)
@@ -310,7 +310,7 @@ opens_holds place store None (Some y) opens = absurd opens
 opens_holds place store (Some x) None opens = absurd opens
 opens_holds place store (Some x) (Some y) opens = opens.stored
 
-pub stopped_ran : (words : List (List ℕ)) (most : ℕ) (stop : Stop) (x z : Seen) → Stopped words most stop x z → Ran words most (status_of stop) x z
+pub stopped_ran : (words : List (List ℕ)) (most : ℕ) (stop : Stop) (x z : Seen) → RunStopped words most stop x z → Ran words most (status_of stop) x z
 stopped_ran words most ReadFault x z stopped = stopped
 stopped_ran words most TellFault x z stopped = stopped
 stopped_ran words most DiskFault x z stopped = inr stopped
@@ -329,7 +329,7 @@ some_length [] some = absurd (some refl)
 some_length (name ∷ words) some = omega arith
 
 -- the block of the one command
-pub first_block : (block : Block) (words : List (List ℕ)) → (words ≡ [] → ⊥) → IsBlockOf block (begun_command words) → IsCut (Within block) (first_cut words)
+pub first_block : (block : Block) (words : List (List ℕ)) → (words ≡ [] → ⊥) → IsBlockOf block (begun_command words) → IsDivision (Within block) (first_division words)
 first_block block [] some is = absurd (some refl)
 first_block block (name ∷ words) some is = is
 

@@ -5,7 +5,7 @@ use Rattle.std.proofs.lemmas.List.{append-nil}
 use Rattle.std.proofs.lemmas.List.Elements.{All-nil, All-push, All-weaker}
 use Rattle.std.proofs.Math.Seq.{take-append_seam, take-append-add}
 use Rattle.wot_types.specs.Commands.{Command}
-use Rattle.wot_types.specs.Commands.Cut.{over}
+use Rattle.wot_types.specs.Commands.Division.{over}
 use Rattle.wot_types.specs.LineByLine.{Position}
 use Rattle.wot_types.specs.Session.{Progress, after_all, replies}
 use Rattle.wot_site.specs.Seen.{Moment, Seen}
@@ -23,8 +23,8 @@ use Rattle.wot_session.specs.Open.{IsOpen}
 use Rattle.wot_session.specs.Told.{IsAnswering, Said, SaidPrefix}
 use Rattle.wot_session.specs.Turn.{StoppedTurn, TookAll, Turned, commands_fed}
 use Rattle.wot_session.specs.Written.{Written}
-use Rattle.wot_session.specs.Input.{Ended, IsOnTime, IsPunctual, Stopped, commands_at, cut_at, end_at, so_far_at, whole_at}
-use Rattle.wot_session.proofs.Inputs.{commands_end, commands_more, commands_over, cut_more, end_is, fed_cut, output_is, position_after, progress_after, so_far_append, so_far_prefix, whole_more}
+use Rattle.wot_session.specs.Input.{SessionEnded, IsOnTime, IsPunctual, SessionStopped, commands_at, division_at, end_at, so_far_at, whole_at}
+use Rattle.wot_session.proofs.Inputs.{commands_end, commands_more, commands_over, division_more, end_is, fed_division, output_is, position_after, progress_after, so_far_append, so_far_prefix, whole_more}
 use Rattle.wot_session.proofs.Keeping.{kept_more, kept_then, stored_shows, whole_then, whole_more as whole_before}
 use Rattle.wot_session.proofs.Trails.{written_more, written_start, written_then}
 use Rattle.wot_session.proofs.Turns.{is_memory, no_long, no_read}
@@ -37,7 +37,7 @@ pub record OnTime (s : Position) (first now : Seen) (ask : Asked) : Type 0 where
   pub taken : ask.taken ≡ first.taken + length fed
   pub told : ask.told ≡ length (first.told ++ so_far_at s fed)
   pub is_prefix : IsPrefixOf (first.told ++ so_far_at s fed) now.told
-  pub goes : (position_after s fed).cut ≡ over → ⊥
+  pub goes : (position_after s fed).division ≡ over → ⊥
 
 -- each call of `take` came on time
 pub record Timely (s : Position) (first now : Seen) : Type 0 where
@@ -59,14 +59,14 @@ pub record Reached (s : Position) (fed : List ℕ) (first now : Seen) : Type 0 w
   pub heard : Heard s fed first now
   pub left : first.left ≡ fed ++ now.left
   pub taken : now.taken ≡ first.taken + length fed
-  pub goes : (position_after s fed).cut ≡ over → ⊥
+  pub goes : (position_after s fed).division ≡ over → ⊥
 
 -- and nothing is left
 pub record ReachedEnd (s : Position) (fed : List ℕ) (first now : Seen) : Type 0 where
   pub reached : Reached s fed first now
   pub all : now.left ≡ []
 
-pub reached_start : {place : Place} (s : Position) (x : Seen) → IsStored place s.progress.store x.disks → (s.cut ≡ over → ⊥) → Reached s [] x x
+pub reached_start : {place : Place} (s : Position) (x : Seen) → IsStored place s.progress.store x.disks → (s.division ≡ over → ⊥) → Reached s [] x x
 reached_start s x stored goes = record {
   heard = record {
     input = (x.left, refl);
@@ -136,7 +136,7 @@ module _ (s : Position) where
       let fed = fed_is on_time.fed on_time.rest first.left (ask.taken - first.taken) on_time.input (omega (arith, on_time.taken)) in
       record {
         told = told ∙ ap (λ bytes. first.told ++ so_far_at s bytes) (sym fed);
-        goes = λ is. on_time.goes (sym (fed_cut s on_time.fed) ∙ ap (cut_at s) (sym fed) ∙ is);
+        goes = λ is. on_time.goes (sym (fed_division s on_time.fed) ∙ ap (division_at s) (sym fed) ∙ is);
       }
 
   punctual : (first now : Seen) → Timely s first now → IsPunctual s first now
@@ -191,7 +191,7 @@ module _ (s : Position) where
   }
 
   pub reached_more : (fed piece : List ℕ) (first now next : Seen) → Reached s fed first now
-      → Turned (position_after s fed) (open_from (Some []) fed) piece now next → TookAll piece now next → ((position_after s (fed ++ piece)).cut ≡ over → ⊥)
+      → Turned (position_after s fed) (open_from (Some []) fed) piece now next → TookAll piece now next → ((position_after s (fed ++ piece)).division ≡ over → ⊥)
       → Reached s (fed ++ piece) first next
   reached_more fed piece first now next reached turned took goes = record {
     heard = heard_more fed piece first now next reached turned;
@@ -201,7 +201,7 @@ module _ (s : Position) where
   }
 
   pub reached_end : (fed piece : List ℕ) (first now next : Seen) → piece ≡ [] → Reached s fed first now
-      → Turned (position_after s fed) (open_from (Some []) fed) piece now next → TookAll piece now next → ((position_after s (fed ++ piece)).cut ≡ over → ⊥)
+      → Turned (position_after s fed) (open_from (Some []) fed) piece now next → TookAll piece now next → ((position_after s (fed ++ piece)).division ≡ over → ⊥)
       → ReachedEnd s (fed ++ piece) first next
   reached_end fed piece first now next none reached turned took goes = record {
     reached = reached_more fed piece first now next reached turned took goes;
@@ -209,8 +209,8 @@ module _ (s : Position) where
   }
 
   -- `quit` came
-  pub over_run : {place : Place} (most : ℕ) (refused : Bool) (fed : List ℕ) (first next : Seen) → length fed ≤ most → (position_after s fed).cut ≡ over
-      → refused ≡ (position_after s fed).progress.refused → Heard s fed first next → IsStored place (position_after s fed).progress.store next.disks → Ended s most refused first next
+  pub over_run : {place : Place} (most : ℕ) (refused : Bool) (fed : List ℕ) (first next : Seen) → length fed ≤ most → (position_after s fed).division ≡ over
+      → refused ≡ (position_after s fed).progress.refused → Heard s fed first next → IsStored place (position_after s fed).progress.store next.disks → SessionEnded s most refused first next
   over_run most refused fed first next bound ended refusals heard stored =
       let all : commands_at s first.left ≡ whole_at s fed = ap (commands_at s) (sym heard.input.1) ∙ commands_over s fed heard.input.0 ended in
       let end : (position_after s fed).progress ≡ end_at s first.left = progress_after s fed ∙ ap (after_all s.progress) (sym all) in
@@ -221,7 +221,7 @@ module _ (s : Position) where
           is_prefix = heard.input;
           within = bound;
           taken = omega (arith, heard.taken);
-          quits = fed_cut s fed ∙ ended;
+          quits = fed_division s fed ∙ ended;
         });
         refusals = refusals ∙ ap (λ (p : Progress). p.refused) end;
         stored = subst (λ (p : Progress). IsOpen p.store next.disks) end (record { place = _; stored = stored });
@@ -232,7 +232,7 @@ module _ (s : Position) where
 
   -- the turn stopped
   pub stop_turn : (most room : ℕ) (stop : Stop) (fed : List ℕ) (first now next : Seen) → length fed + room ≡ most → Reached s fed first now
-      → StoppedTurn (position_after s fed) (open_from (Some []) fed) room stop now next → Stopped s most stop first next
+      → StoppedTurn (position_after s fed) (open_from (Some []) fed) room stop now next → SessionStopped s most stop first next
   stop_turn most room stop fed first now next bound reached stopped =
       let heard = reached.heard in
       record {
@@ -253,7 +253,7 @@ module _ (s : Position) where
               omega (arith, long.1, bound, reached.taken),
               joined fed _ first now next heard.told long.2 ∙ ap (λ text. first.told ++ text) (sym (so_far_append s fed (take room now.left)))
                   ∙ ap (λ bytes. first.told ++ so_far_at s bytes) (sym first_bytes),
-              λ ended. long.3 (sym (cut_more s fed (take room now.left)) ∙ ap (cut_at s) (sym first_bytes) ∙ ended),
+              λ ended. long.3 (sym (division_more s fed (take room now.left)) ∙ ap (division_at s) (sym first_bytes) ∙ ended),
             );
         since = subst (λ commands. Since (Kept s.progress commands first.told) first next) (sym all)
             (since_behind fed (piece_commands ++ others) first now next heard (since_weaker _ _ now next (λ m. kept_more (position_after s fed).progress piece_commands others now.told m) stopped.since));
@@ -301,7 +301,7 @@ module _ (s : Position) where
   pub end_run : {place : Place} (most : ℕ) (refused : Bool) (fed : List ℕ) (first now next : Seen) → length fed ≤ most
       → refused ≡ (at_end (position_after s fed) (open_from (Some []) fed)).progress.refused
       → ReachedEnd s fed first now → Said (position_after s fed).progress (last_commands (position_after s fed) (open_from (Some []) fed)) now next
-      → IsStored place (at_end (position_after s fed) (open_from (Some []) fed)).progress.store next.disks → Ended s most refused first next
+      → IsStored place (at_end (position_after s fed) (open_from (Some []) fed)).progress.store next.disks → SessionEnded s most refused first next
   end_run most refused fed first now next bound refusals end said stored =
       let input = all_fed fed first now end in
       let heard = end.reached.heard in
@@ -319,7 +319,7 @@ module _ (s : Position) where
       }
 
   pub stop_end : (most : ℕ) (stop : Stop) (fed : List ℕ) (first now next : Seen) → IsAnswering stop
-      → ReachedEnd s fed first now → SaidPrefix (position_after s fed).progress (last_commands (position_after s fed) (open_from (Some []) fed)) stop now next → Stopped s most stop first next
+      → ReachedEnd s fed first now → SaidPrefix (position_after s fed).progress (last_commands (position_after s fed) (open_from (Some []) fed)) stop now next → SessionStopped s most stop first next
   stop_end most stop fed first now next kind end said =
       let input = all_fed fed first now end in
       let heard = end.reached.heard in

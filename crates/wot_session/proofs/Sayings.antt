@@ -8,11 +8,11 @@ use Rattle.wot_site.specs.Work.{Since, moment_of}
 use Rattle.wot_site.proofs.Works.{since_start, since_then, since_weaker}
 use Rattle.wot_store.specs.Shows.{IsStored}
 use Rattle.wot_store.specs.declared.place.Place.{Place}
-use Rattle.wot_types.specs.Commands.{Command, Cut, ReadLine, closed_command, ends, made_by, of_line, opens_block, unfinished_commands}
-use Rattle.wot_types.specs.Commands.Cut.{between, over, within}
+use Rattle.wot_types.specs.Commands.{Command, Division, ReadLine, closed_command, ends, made_by, of_line, opens_block, unfinished_commands}
+use Rattle.wot_types.specs.Commands.Division.{between, over, within}
 use Rattle.wot_types.specs.Session.{Progress, after_command, after_all, replies, reply_to}
 use Rattle.wot_types.specs.LineByLine.{Position, after_line, after_lines, commands_in}
-use Rattle.wot_types.proofs.Cuts.{after_one, commands_append, one_line}
+use Rattle.wot_types.proofs.Divisions.{after_one, commands_append, one_line}
 use Rattle.wot_session.specs.Fed.{last_lines}
 use Rattle.wot_session.specs.Here.{Holds}
 use Rattle.wot_session.specs.Kept.{IsAround, IsWhole, Kept}
@@ -69,7 +69,7 @@ around_written p (command ∷ []) x y one since last =
 around_written p (command ∷ other ∷ commands) x y one since last = absurd (no_more command other commands one)
 
 -- a line makes at most one command whole, and the input's end one more
-pub one_made : (cut : Cut) (line : ReadLine) → AtMostOne (made_by cut line)
+pub one_made : (division : Division) (line : ReadLine) → AtMostOne (made_by division line)
 one_made over line = record { cases = inl refl }
 one_made between line = elim (opens_block line) as (λ b. AtMostOne (if b then [] else of_line line ∷ [])) [
   | true ↦ record { cases = inl refl }
@@ -80,7 +80,7 @@ one_made (within command) line = elim (ends command line) as (λ b. AtMostOne (i
   | false ↦ record { cases = inl refl }
 ]
 
-pub one_unfinished : (cut : Cut) → AtMostOne (unfinished_commands cut)
+pub one_unfinished : (division : Division) → AtMostOne (unfinished_commands division)
 one_unfinished between = record { cases = inl refl }
 one_unfinished (within command) = record { cases = inr (command, refl) }
 one_unfinished over = record { cases = inl refl }
@@ -176,8 +176,8 @@ last_line (Some (b ∷ bytes)) some = ap (λ t. if t then [] else Some (b ∷ by
 pub last_after : (p : Position) (line : Option (List ℕ)) → (line ≡ Some [] → ⊥) → after_lines p (last_lines line) ≡ after_line p line
 last_after p line some = ap (after_lines p) (last_line line some) ∙ after_one p line
 
-pub last_made : (p : Position) (line : Option (List ℕ)) → (line ≡ Some [] → ⊥) → commands_in p (last_lines line) ≡ made_by p.cut line
-last_made p line some = ap (commands_in p) (last_line line some) ∙ one_line p.cut line
+pub last_made : (p : Position) (line : Option (List ℕ)) → (line ≡ Some [] → ⊥) → commands_in p (last_lines line) ≡ made_by p.division line
+last_made p line some = ap (commands_in p) (last_line line some) ∙ one_line p.division line
 
 pub last_none : (p : Position) (line : Option (List ℕ)) → line ≡ Some [] → commands_in p (last_lines line) ≡ []
 last_none p line is = ap (λ line. commands_in p (last_lines line)) is

@@ -4,7 +4,7 @@ use Rattle.std.specs.Prelude.{min}
 use Rattle.std.proofs.Math.Nat.{min-le_left, min-le_right}
 use Rattle.std.proofs.lemmas.List.{append-nil, take-take, take-append-drop, length-take-le}
 use Rattle.wot_types.specs.Store.{Store}
-use Rattle.wot_types.specs.Commands.Cut.{over}
+use Rattle.wot_types.specs.Commands.Division.{over}
 use Rattle.wot_types.specs.LineByLine.{Position}
 use Rattle.wot_types.specs.Session.{after_all, replies}
 use Rattle.wot_site.specs.Seen.{Honestly, Seen}
@@ -22,7 +22,7 @@ use Rattle.wot_session.specs.Here.{Holds, IsHere}
 use Rattle.wot_session.specs.Kept.{IsWhole, Kept}
 use Rattle.wot_session.specs.Written.{Written}
 use Rattle.wot_session.specs.Told.{IsAnswering, Said, SaidPrefix}
-use Rattle.wot_session.specs.Turn.{IsBetween, StoppedTurn, TookAll, Turned, commands_fed, cut_fed}
+use Rattle.wot_session.specs.Turn.{IsBetween, StoppedTurn, TookAll, Turned, commands_fed, division_fed}
 use Rattle.wot_session.proofs.Keeping.{kept_here, stored_shows, whole_all, whole_here, whole_kept}
 use Rattle.wot_session.proofs.Trails.{written_later, written_still}
 
@@ -121,7 +121,7 @@ module _ (n : ℕ) (buf : List ℕ) {x y : Seen} (takes : Takes n buf x y) where
 
   module _ (m : ℕ) (within : m ≤ n) (p : Position) (line : Option (List ℕ)) where
     -- the lines of the first bytes that came were answered: of all, or up to `quit`
-    pub turn_read : (z : Seen) → 0 < length buf → n ≤ length buf → (n ≡ m) ⊎ (cut_fed p line (take m buf) ≡ over)
+    pub turn_read : (z : Seen) → 0 < length buf → n ≤ length buf → (n ≡ m) ⊎ (division_fed p line (take m buf) ≡ over)
         → Said p.progress (commands_fed p line (take m buf)) y z → Turned p line (take m buf) x z
     turn_read z some fits all said =
         let size : length (take m buf) ≡ m = length-take-le m buf (omega (arith, within, fits)) in
@@ -137,8 +137,8 @@ module _ (n : ℕ) (buf : List ℕ) {x y : Seen} (takes : Takes n buf x y) where
           written = written_before p (commands_fed p line (take m buf)) z said.written;
         }
       where
-        took_all : length (take m buf) ≡ m → z.left ≡ drop n x.left → z.taken ≡ x.taken + n → (n ≡ m) ⊎ (cut_fed p line (take m buf) ≡ over)
-            → TookAll (take m buf) x z ⊎ (cut_fed p line (take m buf) ≡ over)
+        took_all : length (take m buf) ≡ m → z.left ≡ drop n x.left → z.taken ≡ x.taken + n → (n ≡ m) ⊎ (division_fed p line (take m buf) ≡ over)
+            → TookAll (take m buf) x z ⊎ (division_fed p line (take m buf) ≡ over)
         took_all size left taken (inl same) = inl (record {
           input = sym (piece_rest m within) ∙ ap (λ k. take m buf ++ drop k x.left) (sym same) ∙ ap (λ left. take m buf ++ left) (sym left);
           taken = omega (arith, taken, same, size);
@@ -147,9 +147,9 @@ module _ (n : ℕ) (buf : List ℕ) {x y : Seen} (takes : Takes n buf x y) where
         took_all size left taken (inr ended) = inr ended
 
     -- it stopped while it answered them
-    pub turn_cut : (room : ℕ) (stop : Stop) (z : Seen) → IsAnswering stop
+    pub turn_broken : (room : ℕ) (stop : Stop) (z : Seen) → IsAnswering stop
         → SaidPrefix p.progress (commands_fed p line (take m buf)) stop y z → StoppedTurn p line room stop x z
-    turn_cut room stop z kind said = record {
+    turn_broken room stop z kind said = record {
       piece = take m buf;
       input = (drop m x.left, piece_rest m within);
       text = said.told.prefix;
@@ -165,7 +165,7 @@ module _ (n : ℕ) (buf : List ℕ) {x y : Seen} (takes : Takes n buf x y) where
     }
 
     -- more bytes came than there is room for, and no `quit` among those that there is room for
-    pub turn_long : {place : Place} (z : Seen) → m < n → (cut_fed p line (take m buf) ≡ over → ⊥)
+    pub turn_long : {place : Place} (z : Seen) → m < n → (division_fed p line (take m buf) ≡ over → ⊥)
         → IsStored place (after_all p.progress (commands_fed p line (take m buf))).store z.disks
         → Said p.progress (commands_fed p line (take m buf)) y z → StoppedTurn p line m TooLong x z
     turn_long z less goes stored said =
@@ -184,7 +184,7 @@ module _ (n : ℕ) (buf : List ℕ) {x y : Seen} (takes : Takes n buf x y) where
             omega (arith, takes.within, less),
             omega (arith, said.told.taken, ap (λ (s : Seen). s.taken) takes.after, less),
             told ∙ ap (λ piece. x.told ++ replies p.progress (commands_fed p line piece)) (piece_is m within),
-            λ ended. goes (ap (cut_fed p line) (piece_is m within) ∙ ended),
+            λ ended. goes (ap (division_fed p line) (piece_is m within) ∙ ended),
           );
           since = from_before p commands z said.since;
           here = whole_kept p.progress commands x.told z whole;

@@ -4,9 +4,9 @@ use Rattle.wot_types.specs.Store.{Store}
 use Rattle.wot_types.specs.LineByLine.{Position}
 use Rattle.wot_types.specs.State.{State}
 use Rattle.wot_types.specs.WellFormedState.{IsWellFormedState}
-use Rattle.wot_answer.specs.Answer.{Does, IsCut, reply_of}
+use Rattle.wot_answer.specs.Answer.{Does, IsDivision, reply_of}
 use Rattle.wot_answer.specs.declared.reply.Answer.{Answer}
-use Rattle.wot_answer.specs.declared.cut.Cut.TheVariants.{Over}
+use Rattle.wot_answer.specs.declared.division.Division.TheVariants.{Over}
 use Rattle.wot_answer.specs.declared.reply.Effect.{Effect}
 use Rattle.wot_site.specs.Seen.{IfHonest, Seen}
 use Rattle.wot_store.specs.Shows.{IsStored}
@@ -25,7 +25,7 @@ pub record IsAt (session : Session) (p : Position) : Type 0 where
   pub sound : IsWellFormedState p.progress.store.state
   pub place : IsPlace session.place p.progress.store
   pub refused : session.refused ≡ p.progress.refused
-  pub cut : IsCut session.cut p.cut
+  pub division : IsDivision session.division p.division
 
 -- the site, if it tells, has this store open at this place
 abbrev pub Holds : Place → Option Seen → Store → Type 0
@@ -42,7 +42,7 @@ IsSomewhere session seen = (p : Position) × IsHere session seen p
 
 -- `quit` was answered
 abbrev pub IsOver : Session → Type 0
-IsOver session = session.cut ≡ Over
+IsOver session = session.division ≡ Over
 
 -- a command was answered with this reply: all but the store has come so far, and the answer leads the store there
 pub record IsDue (session : Session) (answer : Answer) (s : Store) (after : Position) (reply : List ℕ) : Type 0 where
@@ -51,7 +51,7 @@ pub record IsDue (session : Session) (answer : Answer) (s : Store) (after : Posi
   pub sound : IsWellFormedState s.state
   pub place : IsPlace session.place s
   pub refused : session.refused ≡ after.progress.refused
-  pub cut : IsCut session.cut after.cut
+  pub division : IsDivision session.division after.division
   pub does : Does answer.effect s after.progress.store
 
 -- to perform the effect leads the store at this place from the one to the other, whose state the engine has

@@ -2,7 +2,7 @@
 use Rattle.std.specs.Prelude.{ℕ, Bool, true, false, ◌≡◌, ◌⊎◌, ◌-◌, ◌^◌, ◌<◌, ◌≤◌, List, ◌++◌, length, take, All}
 use Rattle.wot_types.specs.Store.{Store}
 use Rattle.wot_types.specs.Commands.{Command, takes_input}
-use Rattle.wot_types.specs.Commands.Cut.{over}
+use Rattle.wot_types.specs.Commands.Division.{over}
 use Rattle.wot_types.specs.LineByLine.{at_first}
 use Rattle.wot_types.specs.Session.{acknowledged_count, at_start, commands_of, end_of, output_of}
 use Rattle.wot_site.specs.Disk.{Disks, Leaves, reads_of}
@@ -11,7 +11,7 @@ use Rattle.wot_site.specs.Site.{NoneFell, Stays}
 use Rattle.wot_site.specs.Work.{Quiet, Since, Works, moment_of}
 use Rattle.wot_store.specs.Opening.{AreBlank, AreUnwritten, FindsBad, IsSettled, Opening, WritesOnlyBlank}
 use Rattle.wot_store.specs.Shows.{Shows, all_settled}
-use Rattle.wot_session.specs.Input.{IsPunctual, cut_at, so_far_at}
+use Rattle.wot_session.specs.Input.{IsPunctual, division_at, so_far_at}
 use Rattle.wot_session.specs.Kept.{IsPrefixOf, IsSafe, ShowsState}
 use Rattle.wot_session.specs.Open.{IsOpen}
 use Rattle.wot_session.specs.Stop.{Causes}
@@ -66,7 +66,7 @@ abbrev pub WritesForChanges : Store → List Command → Seen → Seen → Type 
 WritesForChanges store commands old new = (AreBlank old.disks → ⊥) → change_count (at_start store) commands ≡ 0 → IsUntouched old new
 
 -- the run came to its end: the whole output was told, and every image shows the last store, with its journal's end and epoch
-pub record Ended (words : List (List ℕ)) (most : ℕ) (refused : Bool) (old new : Seen) : Type 0 where
+pub record RunEnded (words : List (List ℕ)) (most : ℕ) (refused : Bool) (old new : Seen) : Type 0 where
   pub store : Store
   pub shows : Shows (reads_of old.disks) store
   pub told : new.told ≡ old.told ++ output_of store words old.left
@@ -81,7 +81,7 @@ pub record Ended (words : List (List ℕ)) (most : ℕ) (refused : Bool) (old ne
 -- the run stopped: a prefix of the output was told, and every image shows a state of the crash clause. Where reading failed,
 -- the input is too long or memory was wanted, it is the state after exactly the edits acknowledged. An input is too long only
 -- where more bytes than the bound were taken, and a run of one command without a block took nothing
-pub record Stopped (words : List (List ℕ)) (most : ℕ) (stop : Stop) (old new : Seen) : Type 0 where
+pub record RunStopped (words : List (List ℕ)) (most : ℕ) (stop : Stop) (old new : Seen) : Type 0 where
   pub store : Store
   pub shows : Shows (reads_of old.disks) store
   pub text : List ℕ
@@ -91,7 +91,7 @@ pub record Stopped (words : List (List ℕ)) (most : ℕ) (stop : Stop) (old new
   pub read_fault : stop ≡ ReadFault → (new.taken - old.taken ≤ most) × (new.told ≡ old.told ++ so_far_at (at_first store words) (take (new.taken - old.taken) old.left))
   pub too_long : stop ≡ TooLong → (most < length old.left) × (most < new.taken - old.taken)
       × (new.told ≡ old.told ++ so_far_at (at_first store words) (take most old.left))
-      × (cut_at (at_first store words) (take most old.left) ≡ over → ⊥)
+      × (division_at (at_first store words) (take most old.left) ≡ over → ⊥)
   pub punctual : IsPunctual (at_first store words) old new
   pub safe : IsCrashSafe store (commands_of words old.left) old new
   pub written : IsWritten store (commands_of words old.left) old new
@@ -111,15 +111,15 @@ pub record Unopened (words : List (List ℕ)) (old new : Seen) : Type 0 where
 
 -- what a run with these words and this bound did, by the status that it answers; words of the grammar are no wrong usage
 abbrev pub Ran : List (List ℕ) → ℕ → Status → Seen → Seen → Type 0
-Ran words most status.Done = Ended words most false
-Ran words most status.Refused = Ended words most true
+Ran words most status.Done = RunEnded words most false
+Ran words most status.Refused = RunEnded words most true
 Ran words most status.Usage = λ old new. ⊥
-Ran words most status.ReadFault = Stopped words most ReadFault
-Ran words most status.TellFault = Stopped words most TellFault
-Ran words most status.DiskFault = λ old new. Unopened words old new ⊎ Stopped words most DiskFault old new
+Ran words most status.ReadFault = RunStopped words most ReadFault
+Ran words most status.TellFault = RunStopped words most TellFault
+Ran words most status.DiskFault = λ old new. Unopened words old new ⊎ RunStopped words most DiskFault old new
 Ran words most (status.BadStore bad) = λ old new. Unopened words old new × FindsBad bad old new
-Ran words most status.Memory = λ old new. Stays old new ⊎ (Unopened words old new × IsSettled old new) ⊎ Stopped words most Memory old new
-Ran words most status.TooLong = Stopped words most TooLong
+Ran words most status.Memory = λ old new. Stays old new ⊎ (Unopened words old new × IsSettled old new) ⊎ RunStopped words most Memory old new
+Ran words most status.TooLong = RunStopped words most TooLong
 
 -- no count fell, and the status has its cause
 pub record HasCauses (old new : Faults) (status : Status) : Type 0 where

@@ -1,7 +1,7 @@
 -- One call of `take`, and the lines that its bytes end.
 use Rattle.std.specs.Prelude.{ℕ, ◌≡◌, ◌⊎◌, ◌+◌, ◌-◌, ◌<◌, ◌≤◌, List, [], ◌∷◌, ◌++◌, length, take, Option}
-use Rattle.wot_types.specs.Commands.{Command, Cut, cut_after}
-use Rattle.wot_types.specs.Commands.Cut.{over}
+use Rattle.wot_types.specs.Commands.{Command, Division, division_after}
+use Rattle.wot_types.specs.Commands.Division.{over}
 use Rattle.wot_types.specs.LineByLine.{Position, commands_in}
 use Rattle.wot_types.specs.Session.{replies}
 use Rattle.wot_site.specs.Seen.{Seen}
@@ -17,8 +17,8 @@ use Rattle.wot_session.specs.declared.stop.Stop.TheVariants.{Memory, ReadFault, 
 abbrev pub commands_fed : Position → Option (List ℕ) → List ℕ → List Command
 commands_fed p line bytes = commands_in p (whole_from line bytes)
 
-abbrev pub cut_fed : Position → Option (List ℕ) → List ℕ → Cut
-cut_fed p line bytes = cut_after p.cut (whole_from line bytes)
+abbrev pub division_fed : Position → Option (List ℕ) → List ℕ → Division
+division_fed p line bytes = division_after p.division (whole_from line bytes)
 
 -- stops that leave no command half answered
 abbrev pub IsBetween : Stop → Type 0
@@ -34,7 +34,7 @@ pub record TookAll (piece : List ℕ) (old new : Seen) : Type 0 where
 pub record Turned (p : Position) (line : Option (List ℕ)) (piece : List ℕ) (old new : Seen) : Type 0 where
   pub input : IsPrefixOf piece old.left
   pub taken : old.taken + length piece ≤ new.taken
-  pub took : TookAll piece old new ⊎ (cut_fed p line piece ≡ over)
+  pub took : TookAll piece old new ⊎ (division_fed p line piece ≡ over)
   pub told : new.told ≡ old.told ++ replies p.progress (commands_fed p line piece)
   pub asks : new.asks ≡ old.asks ++ asked_at old ∷ []
   pub since : Since (Kept p.progress (commands_fed p line piece) old.told) old new
@@ -51,7 +51,7 @@ pub record StoppedTurn (p : Position) (line : Option (List ℕ)) (room : ℕ) (s
   pub read_fault : stop ≡ ReadFault → (new.taken ≡ old.taken) × (new.told ≡ old.told)
   pub too_long : stop ≡ TooLong → (room < length old.left) × (room < new.taken - old.taken)
       × (new.told ≡ old.told ++ replies p.progress (commands_fed p line (take room old.left)))
-      × (cut_fed p line (take room old.left) ≡ over → ⊥)
+      × (division_fed p line (take room old.left) ≡ over → ⊥)
   pub since : Since (Kept p.progress (commands_fed p line piece) old.told) old new
   pub here : Kept p.progress (commands_fed p line piece) old.told (moment_of new)
   pub whole : IsBetween stop → IsWhole p.progress (commands_fed p line piece) old.told new

@@ -2,12 +2,12 @@
 use Rattle.std.specs.Prelude.{ℕ, Bool, true, false, ◌≡◌, ◌⊎◌, ◌-◌, ◌<◌, ◌≤◌, List, ◌++◌, length, take}
 use Rattle.wot_types.specs.Store.{Store}
 use Rattle.wot_types.specs.Commands.{takes_input}
-use Rattle.wot_types.specs.Commands.Cut.{over}
+use Rattle.wot_types.specs.Commands.Division.{over}
 use Rattle.wot_types.specs.LineByLine.{Position, at_first}
 use Rattle.wot_types.specs.Session.{at_start, commands_of, end_of, output_of}
 use Rattle.wot_site.specs.Seen.{Seen}
 use Rattle.wot_site.specs.Work.{Since, moment_of}
-use Rattle.wot_session.specs.Input.{HasQuit, IsPunctual, IsRead, cut_at, so_far_at}
+use Rattle.wot_session.specs.Input.{HasQuit, IsPunctual, IsRead, division_at, so_far_at}
 use Rattle.wot_session.specs.Kept.{IsPrefixOf, IsWhole, Kept}
 use Rattle.wot_session.specs.Open.{IsOpen}
 use Rattle.wot_session.specs.Written.{Written}
@@ -45,7 +45,7 @@ pub record WordsStopped (store : Store) (words : List (List ℕ)) (most : ℕ) (
   pub read_fault : stop ≡ ReadFault → (new.taken - old.taken ≤ most) × (new.told ≡ old.told ++ so_far_at (at_first store words) (take (new.taken - old.taken) old.left))
   pub too_long : stop ≡ TooLong → (most < length old.left) × (most < new.taken - old.taken)
       × (new.told ≡ old.told ++ so_far_at (at_first store words) (take most old.left))
-      × (cut_at (at_first store words) (take most old.left) ≡ over → ⊥)
+      × (division_at (at_first store words) (take most old.left) ≡ over → ⊥)
   pub punctual : IsPunctual (at_first store words) old new
   pub since : Since (Kept (at_start store) (commands_of words old.left) old.told) old new
   pub here : Kept (at_start store) (commands_of words old.left) old.told (moment_of new)

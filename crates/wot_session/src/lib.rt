@@ -18,18 +18,17 @@ mod session; // what was read and not answered yet, and what the answered lines 
 mod status; // how a run ended
 mod stop; // why it stopped before its input was answered
 mod tell; // a whole text is told
-mod workers; // how many threads count rows anew
 
 use crate::opened::run_opened;
 pub use status::Status;
 use std::alloc::Global;
 use std::thread::Threads;
 pub use stop::Stop;
-use wot_check::Gate;
 use wot_site::Site;
 use wot_store::{StoreError, open_store};
 use wot_types::Words;
 use wot_words::{WordsError, program_words};
+use wot_workers::{Gate, Workers};
 
 /// The longest input of the program, in bytes.
 const LONGEST_INPUT: u64 = 1 << 36;
@@ -76,7 +75,14 @@ pub fn run_within<R: Threads + Sync, S: Site, G: Gate + Sync>(
     ensures causes { HasCauses (S.faults site.old) (S.faults site.new) result }
 {
     match program_words(alloc, words) {
-        Ok(asked) => run_words(rt, alloc, &asked.command, site, asked.workers, gate, most),
+        Ok(asked) => {
+            let workers = Workers {
+                rt,
+                count: asked.workers,
+                gate,
+            };
+            run_words(&workers, alloc, &asked.command, site, most)
+        }
         Err(WordsError::Usage) => Status::Usage,
         Err(WordsError::Memory) => Status::Memory,
     }
@@ -84,26 +90,23 @@ pub fn run_within<R: Threads + Sync, S: Site, G: Gate + Sync>(
 
 // The same, over the words of the command.
 fn run_words<R: Threads + Sync, S: Site, G: Gate + Sync>(
-    rt: &R,
+    workers: &Workers<'_, R, G>,
     alloc: Global,
     words: &Words,
     site: &mut S,
-    workers: u32,
-    gate: &G,
     most: u64,
 ) -> Status
-    requires workers { (1 ≤ workers) × (workers ≤ 64) }
     ensures usage { result ≡ Status.Usage → ⊥ }
     ensures ran { Honestly (S.seen site.old) (S.seen site.new) (Ran words.now most result) }
     ensures causes { HasCauses (S.faults site.old) (S.faults site.new) result }
 {
-    let opened = match open_store(rt, alloc, site, workers, gate) {
+    let opened = match open_store(workers, alloc, site) {
         Ok(opened) => opened,
         Err(StoreError::Bad(bad)) => return Status::BadStore(bad),
         Err(StoreError::DiskFault) => return Status::DiskFault,
         Err(StoreError::Memory) => return Status::Memory,
     };
-    match run_opened(rt, alloc, words, opened, site, workers, gate, most) {
+    match run_opened(workers, alloc, words, opened, site, most) {
         Ok(false) => Status::Done,
         Ok(true) => Status::Refused,
         Err(stop) => stop.status(),

@@ -13,25 +13,22 @@ use crate::stop::Stop;
 use std::alloc::Global;
 use std::mem;
 use std::thread::Threads;
-use wot_answer::{Cut, begin_block, has_block};
-use wot_check::Gate;
+use wot_answer::{Division, begin_block, has_block};
 use wot_site::Site;
 use wot_store::Opened;
 use wot_types::{Mem, Words};
+use wot_workers::{Gate, Workers};
 
 /// Runs a session where there are no words, and else the one command that they are. It answers whether some command
 /// was refused.
 pub fn run_opened<R: Threads + Sync, S: Site, G: Gate + Sync>(
-    rt: &R,
+    workers: &Workers<'_, R, G>,
     alloc: Global,
     words: &Words,
     opened: Opened,
     site: &mut S,
-    workers: u32,
-    gate: &G,
     most: u64,
 ) -> Result<bool, Stop>
-    requires workers { (1 ≤ workers) × (workers ≤ 64) }
     requires opened { (store : Store) × IsOpened opened store × Holds opened.place (S.seen site.old) store }
     ensures ended { IfOk result (λ refused. (store : Store) → IsOpened opened store → Holds opened.place (S.seen site.old) store
         → Honestly (S.seen site.old) (S.seen site.new) (WordsEnded store words.now most refused)) }
@@ -40,14 +37,14 @@ pub fn run_opened<R: Threads + Sync, S: Site, G: Gate + Sync>(
     ensures cause { HasStopCause (S.faults site.old) (S.faults site.new) result }
 {
     if words.as_slice().is_empty() {
-        let mut session = Session::new(alloc, opened, Cut::Between, workers);
-        let ended = run_session(rt, &mut session, site, gate, most);
+        let mut session = Session::new(alloc, opened, Division::Between);
+        let ended = run_session(workers, &mut session, site, most);
         leave(session);
         return ended;
     }
     if !has_block(words) {
-        let mut session = Session::new(alloc, opened, Cut::Between, workers);
-        match session.perform_command(rt, site, gate, words) {
+        let mut session = Session::new(alloc, opened, Division::Between);
+        match session.perform_command(workers, site, words) {
             Ok(()) => {
                 let refused = session.is_refused();
                 leave(session);
@@ -60,8 +57,8 @@ pub fn run_opened<R: Threads + Sync, S: Site, G: Gate + Sync>(
         Ok(block) => block,
         Err(Mem::Memory) => return Err(Stop::Memory),
     };
-    let mut session = Session::new(alloc, opened, Cut::Within(block), workers);
-    let ended = run_session(rt, &mut session, site, gate, most);
+    let mut session = Session::new(alloc, opened, Division::Within(block));
+    let ended = run_session(workers, &mut session, site, most);
     leave(session);
     ended
 }

@@ -7,7 +7,7 @@ ghost use Rattle.wot_types.specs.Commands.{begun_command, made_by, unfinished_co
 ghost use Rattle.wot_types.specs.LineByLine.{Position, after_line, after_lines, closing_reply, commands_in, reply_to_line};
 ghost use Rattle.wot_types.specs.Session.{after_command, at_start, reply_to};
 ghost use Rattle.wot_types.specs.State.{State};
-ghost use Rattle.wot_answer.specs.Answer.{IsCut, reads_on, reply_of};
+ghost use Rattle.wot_answer.specs.Answer.{IsDivision, reads_on, reply_of};
 ghost use Rattle.wot_site.specs.Site.{Stays};
 ghost use Rattle.wot_site.specs.Seen.{Honestly, IfHonest};
 ghost use Rattle.wot_session.specs.AtEnd.{at_end, closed_at, last_commands};
@@ -22,50 +22,46 @@ use crate::open_line::OpenLine;
 use crate::perform::do_effect;
 use crate::stop::Stop;
 use crate::tell::tell_all;
-use crate::workers::Workers;
 use std::alloc::Global;
 use std::mem;
 use std::thread::Threads;
 use wot_answer::{
-    Answer, Answered, Block, Cut, Effect, Reply, answer_end, answer_line, answer_words,
+    Answer, Answered, Block, Division, Effect, Reply, answer_end, answer_line, answer_words,
 };
-use wot_check::Gate;
 use wot_live::Engine;
 use wot_site::{Failed, Site};
 use wot_store::{Opened, Place};
 use wot_types::{Mem, Words};
+use wot_workers::{Gate, Workers};
 
 /// A session over a site.
 #[derive(Drop)]
 pub struct Session {
     alloc: Global,
-    workers: Workers,
     // What the accepted edits led to. It is gone once an answer found no memory, which ends the session.
     engine: Option<Engine>,
     // Where the journal ends.
     place: Place,
     refused: bool,
-    cut: Cut,
+    division: Division,
     line: OpenLine,
 }
 
 impl Session {
     /// The session at its start, over the store that was opened; a run of one command begins within it.
-    pub fn new(alloc: Global, opened: Opened, cut: Cut, workers: u32) -> Session
-        requires workers { (1 ≤ workers) × (workers ≤ 64) }
+    pub fn new(alloc: Global, opened: Opened, division: Division) -> Session
         ensures at { (p : Position) → opened.engine ≡ p.progress.store.state → IsWellFormedState p.progress.store.state → IsPlace opened.place p.progress.store
-            → p.progress.refused ≡ false → IsCut cut p.cut → IsAt result p }
+            → p.progress.refused ≡ false → IsDivision division p.division → IsAt result p }
         ensures line { result.line ≡ Some [] }
         ensures place { result.place ≡ opened.place }
-        ensures cut { result.cut ≡ cut }
+        ensures division { result.division ≡ division }
     {
         Session {
             alloc,
-            workers: Workers { count: workers },
             engine: Some(opened.engine),
             place: opened.place,
             refused: false,
-            cut,
+            division,
             line: OpenLine::new(alloc),
         }
     }
@@ -81,7 +77,7 @@ impl Session {
     pub fn is_over(&self) -> bool
         ensures { IsTrue result ↔ IsOver self.now }
     {
-        matches!(self.cut, Cut::Over)
+        matches!(self.division, Division::Over)
     }
 
     // Appends bytes to the open line.
@@ -96,13 +92,13 @@ impl Session {
     // Reads the open line into the block that goes on with it, and begins the next line; says whether there is such a block.
     fn read_on(&mut self) -> Result<bool, Mem>
         ensures at { result ≡ Ok true → (p : Position) → IsAt self.old p → IsAt self.new (after_line p self.old.line) }
-        ensures quiet { result ≡ Ok true → (p : Position) → IsAt self.old p → made_by p.cut self.old.line ≡ [] }
+        ensures quiet { result ≡ Ok true → (p : Position) → IsAt self.old p → made_by p.division self.old.line ≡ [] }
         ensures place { self.new.place ≡ self.old.place }
         ensures line { result ≡ Ok true → self.new.line ≡ Some [] }
         ensures left { result ≡ Ok false → self.new ≡ self.old }
-        ensures ended { result ≡ Ok false → reads_on self.new.cut self.new.line ≡ false }
+        ensures ended { result ≡ Ok false → reads_on self.new.division self.new.line ≡ false }
     {
-        if !self.cut.read_on(self.line.get())? {
+        if !self.division.read_on(self.line.get())? {
             return Ok(false);
         }
         self.line.clear();
@@ -112,7 +108,7 @@ impl Session {
     // Answers the open line, which no block goes on with, and begins the next; the answer is to be given.
     fn reply(&mut self) -> Result<Answer, Mem>
         requires at { (p : Position) × IsAt self.old p }
-        requires ended { reads_on self.old.cut self.old.line ≡ false }
+        requires ended { reads_on self.old.division self.old.line ≡ false }
         ensures due { IfOk result (λ answer. (p : Position) → IsAt self.old p
             → IsDue self.new answer p.progress.store (after_line p self.old.line) (reply_to_line p self.old.line)) }
         ensures place { self.new.place ≡ self.old.place }
@@ -121,11 +117,17 @@ impl Session {
         let Some(engine) = self.engine.take() else {
             return Err(Mem::Memory);
         };
-        let cut = mem::replace(&mut self.cut, Cut::Over);
-        let answered = answer_line(self.alloc, engine, self.place.end, cut, self.line.get())?;
+        let division = mem::replace(&mut self.division, Division::Over);
+        let answered = answer_line(
+            self.alloc,
+            engine,
+            self.place.end,
+            division,
+            self.line.get(),
+        )?;
         self.line.clear();
         self.engine = Some(answered.engine);
-        self.cut = answered.cut;
+        self.division = answered.division;
         self.refused = self.refused || answered.answer.refused;
         Ok(answered.answer)
     }
@@ -133,9 +135,8 @@ impl Session {
     // Does to the store what the answer asks for, and only then tells the reply. Memory is taken before either.
     fn give<R: Threads + Sync, S: Site, G: Gate + Sync>(
         &mut self,
-        rt: &R,
+        workers: &Workers<'_, R, G>,
         site: &mut S,
-        gate: &G,
         answer: Answer,
     ) -> Result<(), Stop>
         requires { CanGive self.old answer (S.seen site.old) }
@@ -153,7 +154,7 @@ impl Session {
             return Err(Stop::Memory);
         };
         let Answer { reply, effect, .. } = answer;
-        let text = match reply_text(rt, self.alloc, engine, reply, self.workers, gate) {
+        let text = match reply_text(workers, self.alloc, engine, reply) {
             Ok(text) => text,
             Err(Mem::Memory) => return Err(Stop::Memory),
         };
@@ -170,18 +171,17 @@ impl Session {
     // Reads the open line into a block, or answers it and gives the answer; then begins the next line.
     fn answer<R: Threads + Sync, S: Site, G: Gate + Sync>(
         &mut self,
-        rt: &R,
+        workers: &Workers<'_, R, G>,
         site: &mut S,
-        gate: &G,
     ) -> Result<(), Stop>
         requires { IsSomewhere self.old (S.seen site.old) }
         ensures at { OnOk result ((p : Position) → IsHere self.old (S.seen site.old) p
             → IsHere self.new (S.seen site.new) (after_line p self.old.line)) }
         ensures line { OnOk result (self.new.line ≡ Some []) }
         ensures told { OnOk result ((p : Position) → IsHere self.old (S.seen site.old) p
-            → Honestly (S.seen site.old) (S.seen site.new) (Said p.progress (made_by p.cut self.old.line))) }
+            → Honestly (S.seen site.old) (S.seen site.new) (Said p.progress (made_by p.division self.old.line))) }
         ensures prefix { IfErr result (λ stop. (p : Position) → IsHere self.old (S.seen site.old) p
-            → Honestly (S.seen site.old) (S.seen site.new) (SaidPrefix p.progress (made_by p.cut self.old.line) stop)) }
+            → Honestly (S.seen site.old) (S.seen site.new) (SaidPrefix p.progress (made_by p.division self.old.line) stop)) }
         ensures cause { StopsTelling (S.faults site.old) (S.faults site.new) result }
     {
         match self.read_on() {
@@ -193,15 +193,14 @@ impl Session {
             Ok(answer) => answer,
             Err(Mem::Memory) => return Err(Stop::Memory),
         };
-        self.give(rt, site, gate, answer)
+        self.give(workers, site, answer)
     }
 
     /// Answers each line that these bytes end, one after the other, up to `quit`; what they leave open is kept.
     pub fn answer_bytes<R: Threads + Sync, S: Site, G: Gate + Sync>(
         &mut self,
-        rt: &R,
+        workers: &Workers<'_, R, G>,
         site: &mut S,
-        gate: &G,
         bytes: &[u8],
     ) -> Result<(), Stop>
         requires { IsSomewhere self.old (S.seen site.old) }
@@ -219,7 +218,7 @@ impl Session {
             if let Err(Mem::Memory) = self.hold(line) {
                 return Err(Stop::Memory);
             }
-            if let Err(stop) = self.answer(rt, site, gate) {
+            if let Err(stop) = self.answer(workers, site) {
                 return Err(stop);
             }
             if self.is_over() {
@@ -236,9 +235,8 @@ impl Session {
     // Answers the last line at the end of the input; an empty rest is no line.
     fn answer_last<R: Threads + Sync, S: Site, G: Gate + Sync>(
         &mut self,
-        rt: &R,
+        workers: &Workers<'_, R, G>,
         site: &mut S,
-        gate: &G,
     ) -> Result<(), Stop>
         requires { IsSomewhere self.old (S.seen site.old) }
         ensures at { OnOk result ((p : Position) → IsHere self.old (S.seen site.old) p
@@ -252,7 +250,7 @@ impl Session {
         if self.line.is_empty() {
             return Ok(());
         }
-        self.answer(rt, site, gate)
+        self.answer(workers, site)
     }
 
     // Answers the command whose block is unfinished, if there is one; the answer is to be given.
@@ -262,7 +260,7 @@ impl Session {
             → IsDue self.new answer p.progress.store (closed_at p) (closing_reply p)) }
         ensures place { self.new.place ≡ self.old.place }
     {
-        let Cut::Within(block) = mem::replace(&mut self.cut, Cut::Over) else {
+        let Division::Within(block) = mem::replace(&mut self.division, Division::Over) else {
             return Ok(self.nothing());
         };
         let Some(engine) = self.engine.take() else {
@@ -272,13 +270,13 @@ impl Session {
         Ok(self.keep(answered))
     }
 
-    // Keeps what the answer at the end leaves, but for the cut: nothing is read after it.
+    // Keeps what the answer at the end leaves, but for the division: nothing is read after it.
     fn keep(&mut self, answered: Answered) -> Answer
         ensures answer { result ≡ answered.answer }
         ensures engine { self.new.engine ≡ Some answered.engine }
         ensures place { self.new.place ≡ self.old.place }
         ensures refused { self.new.refused ≡ (self.old.refused || answered.answer.refused) }
-        ensures cut { self.new.cut ≡ self.old.cut }
+        ensures division { self.new.division ≡ self.old.division }
     {
         let Answered { engine, answer, .. } = answered;
         self.engine = Some(engine);
@@ -301,31 +299,29 @@ impl Session {
     // The same, and gives it.
     fn answer_unfinished<R: Threads + Sync, S: Site, G: Gate + Sync>(
         &mut self,
-        rt: &R,
+        workers: &Workers<'_, R, G>,
         site: &mut S,
-        gate: &G,
     ) -> Result<(), Stop>
         requires { IsSomewhere self.old (S.seen site.old) }
         ensures at { OnOk result ((p : Position) → IsHere self.old (S.seen site.old) p → IsHere self.new (S.seen site.new) (closed_at p)) }
         ensures told { OnOk result ((p : Position) → IsHere self.old (S.seen site.old) p
-            → Honestly (S.seen site.old) (S.seen site.new) (Said p.progress (unfinished_commands p.cut))) }
+            → Honestly (S.seen site.old) (S.seen site.new) (Said p.progress (unfinished_commands p.division))) }
         ensures prefix { IfErr result (λ stop. (p : Position) → IsHere self.old (S.seen site.old) p
-            → Honestly (S.seen site.old) (S.seen site.new) (SaidPrefix p.progress (unfinished_commands p.cut) stop)) }
+            → Honestly (S.seen site.old) (S.seen site.new) (SaidPrefix p.progress (unfinished_commands p.division) stop)) }
         ensures cause { StopsTelling (S.faults site.old) (S.faults site.new) result }
     {
         let answer = match self.close() {
             Ok(answer) => answer,
             Err(Mem::Memory) => return Err(Stop::Memory),
         };
-        self.give(rt, site, gate, answer)
+        self.give(workers, site, answer)
     }
 
     /// Answers what is left at the end of the input: the last line, and a command whose block is unfinished.
     pub fn answer_rest<R: Threads + Sync, S: Site, G: Gate + Sync>(
         &mut self,
-        rt: &R,
+        workers: &Workers<'_, R, G>,
         site: &mut S,
-        gate: &G,
     ) -> Result<(), Stop>
         requires { IsSomewhere self.old (S.seen site.old) }
         ensures at { OnOk result ((p : Position) → IsHere self.old (S.seen site.old) p → IsHere self.new (S.seen site.new) (at_end p self.old.line)) }
@@ -335,10 +331,10 @@ impl Session {
             → Honestly (S.seen site.old) (S.seen site.new) (SaidPrefix p.progress (last_commands p self.old.line) stop)) }
         ensures cause { StopsTelling (S.faults site.old) (S.faults site.new) result }
     {
-        if let Err(stop) = self.answer_last(rt, site, gate) {
+        if let Err(stop) = self.answer_last(workers, site) {
             return Err(stop);
         }
-        self.answer_unfinished(rt, site, gate)
+        self.answer_unfinished(workers, site)
     }
 
     // Answers a run of one command that takes no block; the answer is to be given.
@@ -360,9 +356,8 @@ impl Session {
     /// The same, and gives it.
     pub fn perform_command<R: Threads + Sync, S: Site, G: Gate + Sync>(
         &mut self,
-        rt: &R,
+        workers: &Workers<'_, R, G>,
         site: &mut S,
-        gate: &G,
         words: &Words,
     ) -> Result<(), Stop>
         requires some { 0 < length words.now }
@@ -379,16 +374,15 @@ impl Session {
             Ok(answer) => answer,
             Err(Mem::Memory) => return Err(Stop::Memory),
         };
-        self.give(rt, site, gate, answer)
+        self.give(workers, site, answer)
     }
 
     /// Takes once and answers the lines that the bytes end, of which only so many as there is room for are read.
     /// It answers how many were read: 0 at the end of the input.
     pub fn turn<R: Threads + Sync, S: Site, G: Gate + Sync>(
         &mut self,
-        rt: &R,
+        workers: &Workers<'_, R, G>,
         site: &mut S,
-        gate: &G,
         buf: &mut [u8],
         room: u64,
     ) -> Result<usize, Stop>
@@ -410,7 +404,7 @@ impl Session {
             Err(Failed) => return Err(Stop::ReadFault),
         };
         let read = first_of(taken, room);
-        match self.answer_bytes(rt, site, gate, &buf[..read]) {
+        match self.answer_bytes(workers, site, &buf[..read]) {
             Ok(()) => {}
             Err(stop) => return Err(stop),
         }

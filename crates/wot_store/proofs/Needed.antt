@@ -25,7 +25,7 @@ use Rattle.wot_spelling.specs.Reading.{bytes_at, number_8_at}
 use Rattle.wot_spelling.proofs.Parts.{IsBytes, bind_some, bytes_take}
 use Rattle.wot_image.specs.Bases.{front_of, padded_front}
 use Rattle.wot_image.specs.Reading.{image_of}
-use Rattle.wot_image.specs.States.{IsMadeOf, is_within, state_of}
+use Rattle.wot_image.specs.States.{IsMadeOf, is_within, image_state}
 use Rattle.wot_image.specs.declared.image.Image.{Image}
 use Rattle.wot_image.specs.declared.stored.Stored.{Stored}
 use Rattle.wot_image.proofs.BaseLemmas.{base_from, base_front, no_front}
@@ -159,8 +159,8 @@ module _ (contents : List ℕ) (each : All (λ byte. byte < 256) contents) (imag
 
   by_limits : (d : Stored) (i : Image) → image_of image ≡ Some d → IsMadeOf d i → (few : Bool) → is_within i ≡ few → Decided contents
   by_limits d i read made true few =
-      let is : IsImage image (state_of i) i.rows = found image d i (at_each image (front_bytes contents image each (front_parts contents image (at_each contents each) front))) read made few in
-      by_rows contents (state_of i) i.rows (base_from content_size contents image (state_of i) i.rows (at_each contents each) front is) (first_fault (state_of i) i.rows) (first_fault_is (state_of i) i.rows)
+      let is : IsImage image (image_state i) i.rows = found image d i (at_each image (front_bytes contents image each (front_parts contents image (at_each contents each) front))) read made few in
+      by_rows contents (image_state i) i.rows (base_from content_size contents image (image_state i) i.rows (at_each contents each) front is) (first_fault (image_state i) i.rows) (first_fault_is (image_state i) i.rows)
   by_limits d i read made false many = inr (Spelling, λ s rows base. too_much image d i read made many s rows (its_image s rows base))
 
   by_parts : (o : Option Stored) → image_of image ≡ o → Decided contents

@@ -15,12 +15,12 @@ use crate::replay::replay;
 use crate::rows::take_rows;
 use std::alloc::Global;
 use std::thread::Threads;
-use wot_check::Gate;
 use wot_image::read_base;
 use wot_live::{Engine, Parts};
 use wot_pages::{CONTENT, FIRST, PAGE, PagesError, read_pages};
 use wot_site::{MOST, Side, Site};
 use wot_types::Mem;
+use wot_workers::{Gate, Workers};
 
 // The place behind so many pages, where it and the gate that stands there lie within a side of this size.
 fn journal_start(pages: u64, size: u64) -> Option<u64>
@@ -35,16 +35,13 @@ fn journal_start(pages: u64, size: u64) -> Option<u64>
 
 // Reads the base of a side that has so many bytes, and answers the place behind it.
 fn load_base<R: Threads + Sync, S: Site, G: Gate + Sync>(
-    rt: &R,
+    workers: &Workers<'_, R, G>,
     alloc: Global,
     site: &mut S,
     side: Side,
     header: Header,
     size: u64,
-    workers: u32,
-    gate: &G,
 ) -> Result<(Parts, u64), StoreError>
-    requires workers { (1 ≤ workers) × (workers ≤ 64) }
     requires size { IfHonest (S.seen site.old) (λ s. size ≡ length (disk_of side s.disks).reads) }
     ensures sound { IfOk result (λ r. IsWellFormedState r.0) }
     ensures base { IfOk result (λ r. Honestly (S.seen site.old) (S.seen site.new) (ReadsBase side header r.0)) }
@@ -59,14 +56,14 @@ fn load_base<R: Threads + Sync, S: Site, G: Gate + Sync>(
         Some(start) => start,
         None => return Err(StoreError::Bad(BadStore::Short(side, FIRST))),
     };
-    let contents = match read_pages(rt, alloc, site, side, header.epoch, header.pages, workers) {
+    let contents = match read_pages(workers, alloc, site, side, header.epoch, header.pages) {
         Ok(contents) => contents,
         Err(PagesError::DiskFault) => return Err(StoreError::DiskFault),
         Err(PagesError::Seal(page)) => return Err(StoreError::Bad(BadStore::Seal(page))),
         Err(PagesError::Memory) => return Err(StoreError::Memory),
     };
     match read_base(alloc, &contents, CONTENT) {
-        Ok(Some(image)) => match take_rows(rt, alloc, image, workers, gate) {
+        Ok(Some(image)) => match take_rows(workers, alloc, image) {
             Ok(parts) => Ok((parts, start)),
             Err(e) => Err(e),
         },
@@ -78,16 +75,13 @@ fn load_base<R: Threads + Sync, S: Site, G: Gate + Sync>(
 /// Makes the edits of the records of a side that has so many bytes in the state of its base, and counts what they touch once,
 /// after the last; it answers the end of the journal too. The base's rows are taken where all stand.
 pub fn resume<R: Threads + Sync, S: Site, G: Gate + Sync>(
-    rt: &R,
+    workers: &Workers<'_, R, G>,
     alloc: Global,
     site: &mut S,
     side: Side,
     header: Header,
     size: u64,
-    workers: u32,
-    gate: &G,
 ) -> Result<(Engine, u64), StoreError>
-    requires workers { (1 ≤ workers) × (workers ≤ 64) }
     requires size { IfHonest (S.seen site.old) (λ s. size ≡ length (disk_of side s.disks).reads) }
     ensures sound { IfOk result (λ r. IsWellFormedState r.0) }
     ensures resumed { IfOk result (λ r. Honestly (S.seen site.old) (S.seen site.new) (Resumes side header r.0 r.1)) }
@@ -97,7 +91,7 @@ pub fn resume<R: Threads + Sync, S: Site, G: Gate + Sync>(
     ensures counts { NoneFell (S.faults site.old) (S.faults site.new) }
     ensures quiet { (IsErrOf result StoreError.DiskFault → ⊥) → S.faults site.new ≡ S.faults site.old }
 {
-    let (base, start) = match load_base(rt, alloc, site, side, header, size, workers, gate) {
+    let (base, start) = match load_base(workers, alloc, site, side, header, size) {
         Ok(loaded) => loaded,
         Err(e) => return Err(e),
     };

@@ -18,12 +18,5 @@ pub fn spell_state(alloc: Global, engine: &Engine) -> Result<Vec<u8>, Mem>
     ensures long { IfOk result (λ image. length image.items ≡ image_length engine.now) }
     ensures few { IfOk result (λ image. length image.items < 2 ^ 29) }
 {
-    spell(
-        alloc,
-        engine.table(),
-        engine.trusts(),
-        engine.date(),
-        engine.options(),
-        engine.rows(),
-    )
+    spell(alloc, &engine.lent(), engine.rows())
 }

@@ -20,10 +20,10 @@ use crate::place::Place;
 use crate::writing::write_side;
 use std::alloc::Global;
 use std::thread::Threads;
-use wot_check::Gate;
 use wot_live::Engine;
 use wot_site::{DiskFault, Failed, RangeError, Side, Site, read_range};
 use wot_types::Mem;
+use wot_workers::{Gate, Workers};
 
 /// A store that was opened: the engine of its state, and where its journal ends.
 #[derive(Drop)]
@@ -157,20 +157,16 @@ fn create<S: Site>(alloc: Global, site: &mut S, sizes: Sizes) -> Result<Opened, 
     }
 }
 
-// Opens the shown side. Beside it the other one has this header and size.
+// Opens the shown side, which has this header among these of both.
 fn open_shown<R: Threads + Sync, S: Site, G: Gate + Sync>(
-    rt: &R,
+    workers: &Workers<'_, R, G>,
     alloc: Global,
     site: &mut S,
     headers: Headers,
     sizes: Sizes,
-    side: Side,
-    header: Header,
-    workers: u32,
-    gate: &G,
+    shown: (Side, Header),
 ) -> Result<Opened, StoreError>
-    requires workers { (1 ≤ workers) × (workers ≤ 64) }
-    requires shown { IfHonest (S.seen site.old) (λ s. IsShownBy headers sizes side header s.disks) }
+    requires shown { IfHonest (S.seen site.old) (λ s. IsShownBy headers sizes shown.0 shown.1 s.disks) }
     ensures sound { IfOk result (λ o. IsWellFormedState o.engine) }
     ensures opened { IfOk result (λ o. Honestly (S.seen site.old) (S.seen site.new) (Opens o.place (shown_of o))) }
     ensures stays { Honestly (S.seen site.old) (S.seen site.new) Stays }
@@ -179,11 +175,12 @@ fn open_shown<R: Threads + Sync, S: Site, G: Gate + Sync>(
     ensures counts { NoneFell (S.faults site.old) (S.faults site.new) }
     ensures quiet { (IsErrOf result StoreError.DiskFault → ⊥) → S.faults site.new ≡ S.faults site.old }
 {
+    let (side, header) = shown;
     let (size, other_closed) = match side {
         Side::Zero => (sizes.zero, has_closed_gate(headers.one, sizes.one)),
         Side::One => (sizes.one, has_closed_gate(headers.zero, sizes.zero)),
     };
-    match resume(rt, alloc, site, side, header, size, workers, gate) {
+    match resume(workers, alloc, site, side, header, size) {
         Ok((engine, end)) => Ok(Opened {
             engine,
             place: Place {
@@ -198,16 +195,13 @@ fn open_shown<R: Threads + Sync, S: Site, G: Gate + Sync>(
 }
 
 /// Opens the store, and writes side Zero as a first one where both sides are blank. Both sides are synced first. All memory for a first
-/// side is taken before it is written. The seals of the base's pages and its rows are checked by so many workers, of which those that check
+/// side is taken before it is written. The seals of the base's pages and its rows are checked by the workers, of whom those that check
 /// rows call the gate first; the answer is the same for every gate and every number of workers.
 pub fn open_store<R: Threads + Sync, S: Site, G: Gate + Sync>(
-    rt: &R,
+    workers: &Workers<'_, R, G>,
     alloc: Global,
     site: &mut S,
-    workers: u32,
-    gate: &G,
 ) -> Result<Opened, StoreError>
-    requires workers { (1 ≤ workers) × (workers ≤ 64) }
     ensures sound { IfOk result (λ o. IsWellFormedState o.engine) }
     ensures opened { IfOk result (λ o. Honestly (S.seen site.old) (S.seen site.new) (Opens o.place (shown_of o))) }
     ensures bad { (b : _) → IsErrOf result (StoreError.Bad b) → Honestly (S.seen site.old) (S.seen site.new) (FindsBad b) }
@@ -231,8 +225,6 @@ pub fn open_store<R: Threads + Sync, S: Site, G: Gate + Sync>(
     }
     match shown_side(headers) {
         None => create(alloc, site, sizes),
-        Some((side, header)) => open_shown(
-            rt, alloc, site, headers, sizes, side, header, workers, gate,
-        ),
+        Some(shown) => open_shown(workers, alloc, site, headers, sizes, shown),
     }
 }

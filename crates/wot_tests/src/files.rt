@@ -2,9 +2,9 @@
 
 use std::fs;
 use std::test::Fail;
-use wot_check::NoGate;
 use wot_file::FileSite;
 use wot_session::{Status, run};
+use wot_workers::NoGate;
 
 const EDITS: &[u8] = b"trust 00000000000000000000000000000000000000AA u
 trust 00000000000000000000000000000000000000BB f

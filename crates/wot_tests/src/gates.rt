@@ -5,9 +5,9 @@ ghost use Rattle.std.specs.Prelude.{◌<◌};
 use std::alloc::Global;
 use std::sync::atomic::{AtomicBool, Ordering};
 use std::test::Fail;
-use wot_check::{Gate, NoGate};
 use wot_session::{Status, run};
 use wot_site::{MemorySite, Pick};
+use wot_workers::{Gate, NoGate};
 
 /// How often a worker looks for the other.
 const TURNS: u32 = 100_000_000;

@@ -3,9 +3,9 @@
 use std::alloc::Global;
 use std::test::Fail;
 use std::thread::Threads;
-use wot_check::NoGate;
 use wot_session::{Status, run};
 use wot_site::{MemorySite, Pick};
+use wot_workers::NoGate;
 
 /// The images that are looked at: no pending write was made, or all, or each range holds the byte of an open gate.
 pub const PICKS: [Pick; 3] = [Pick::Nothing, Pick::All, Pick::Fill(0xa5)];

@@ -22,7 +22,7 @@ returns-in-Err-Memory-clause-ran g c =
 
 pub run_opened-requires : goal.run_opened-requires
 run_opened-requires g c =
-    (search rules, (search rules, (c.requires.workers, (shown_of c.in-Ok.opened, record { engine = refl; sound = c.in-Ok.ensures.sound; place = record { epoch = refl; end = refl } }, opens_holds _ _ _ _ c.in-Ok.ensures.opened))))
+    (search rules, (search rules, (shown_of c.in-Ok.opened, record { engine = refl; sound = c.in-Ok.ensures.sound; place = record { epoch = refl; end = refl } }, opens_holds _ _ _ _ c.in-Ok.ensures.opened)))
 
 pub returns-in-Ok-true-clause-ran : goal.returns-in-Ok-true-clause-ran
 returns-in-Ok-true-clause-ran g c =

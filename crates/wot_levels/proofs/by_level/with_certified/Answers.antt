@@ -1,7 +1,7 @@
-use Rattle.std.proofs.Common.{◌∷◌, [], sym, subst}
+use Rattle.std.proofs.Common.{◌≡◌, ◌⊎◌, inl, inr, true, ◌∷◌, [], sym, subst}
 use Rattle.std.specs.List.{Contains}
 use Rattle.std.proofs.lemmas.Bool.{false≢true}
-use Rattle.std.proofs.lemmas.List.Elements.{Contains-append_left}
+use Rattle.std.proofs.lemmas.List.Elements.{Contains-append_left, Contains-push_cases}
 use Rattle.wot_types.specs.Indexes.{has_cert_by}
 use Rattle.wot_levels.proofs.Frontiers.{found_all, found_more}
 use Rattle.wot_levels.proofs.by_level.with_certified.Goals as goal
@@ -10,6 +10,7 @@ pub loop-id-init : goal.loop-id-init
 loop-id-init c = record {
   all = λ x its none. absurd (false≢true none);
   kept = λ x there. there;
+  only = λ x there. inl there;
 }
 
 pub loop-id-preserved : goal.loop-id-preserved
@@ -19,6 +20,10 @@ loop-id-preserved c =
     let more = sym c.in_ok-push.ensures.items in
     record {
       all = λ x its done. subst (λ ids. Contains ids x) more (found_more (has_cert_by c.args.table.now c.args.issuer) c.loop-id.after ids id c.in-Some.ensures c.loop-id.invariant.all x its done);
+      only = λ x there. elim (Contains-push_cases ids id x (subst (λ ids. Contains ids x) (sym more) there)) as (λ _. Contains c.args.ids.items x ⊎ (has_cert_by c.args.table.now c.args.issuer x ≡ true)) [
+        | inl before ↦ c.loop-id.invariant.only x before
+        | inr same ↦ inr (subst (λ y. has_cert_by c.args.table.now c.args.issuer y ≡ true) same c.in-Some.ensures.0)
+      ];
       kept = λ x there. subst (λ ids. Contains ids x) more (Contains-append_left ids (id ∷ []) x (c.loop-id.invariant.kept x there));
     }
 

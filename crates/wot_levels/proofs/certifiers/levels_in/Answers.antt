@@ -1,17 +1,20 @@
-use Rattle.std.proofs.Common.{◌+◌, inl, inr, drop, length, sum_by, is_some, sym, ap, ◌∙◌, arith}
-use Rattle.std.proofs.lemmas.Bool.{false≢true}
+use Rattle.std.proofs.Common.{◌≡◌, true, ◌+◌, inl, inr, drop, length, sum_by, is_some, sym, ap, ◌∙◌, arith}
+use Rattle.std.proofs.lemmas.Bool.{false≢true, or_cases}
 use Rattle.std.proofs.lemmas.List.{drop_all}
 use Rattle.std.proofs.lemmas.List.Sums.{sum_by-cons}
+use Rattle.std.proofs.lemmas.List.Sorted.{list_any-IsPermutation}
 use Rattle.wot_types.specs.Selection.{Spot, spots_from}
+use Rattle.wot_types.specs.Touched.{is_certified_by}
 use Rattle.wot_table.proofs.Placement.{length_spots}
-use Rattle.wot_levels.specs.Certifiers.{StandsAt}
-use Rattle.wot_levels.proofs.CertifierLemmas.{has_cert_on, one_more}
+use Rattle.wot_levels.specs.Certifiers.{StandsAt, has_issuer_at, is_level_of, stands_at}
+use Rattle.wot_levels.proofs.CertifierLemmas.{has_cert_on, issuer_in, one_more}
 use Rattle.wot_levels.proofs.SpotLemmas.{at_place, spot_certs}
 use Rattle.wot_levels.proofs.certifiers.levels_in.Goals as goal
 
 pub loop-user-init : goal.loop-user-init
 loop-user-init g c = record {
   there = λ y its. inr its;
+  only = λ n its. absurd (false≢true (sym (ap (λ levels. is_level_of levels n) c.new-levels.ensures.items) ∙ its));
   ticks = let all = spot_certs 0 c.args.keyblock.now.1.users in omega (arith, all);
 }
 
@@ -32,6 +35,12 @@ loop-user-preserved g c =
     record {
       there = λ y its. one_more c.args.rows.now c.loop-user.levels.items c.in_ok-levels.levels.items 0 k.users i at.0 c.certs_in-certs.result.now at.1 (c.certs_in-certs.ensures.moved at.0 at.1)
           c.in_ok-levels.ensures.kept c.in_ok-levels.ensures.there y (c.loop-user.invariant.there y its);
+      only = λ n its.
+          let at_level = stands_at c.args.rows.now n in
+          elim (or_cases (is_level_of c.loop-user.levels.items n) (has_issuer_at c.certs_in-certs.result.now c.args.rows.now n) (c.in_ok-levels.ensures.only n its)) as (λ _. is_certified_by at_level k ≡ true) [
+            | inl before ↦ c.loop-user.invariant.only n before
+            | inr here ↦ issuer_in at_level 0 k.users i at.0 at.1 (list_any-IsPermutation (λ p. at_level p.cert.issuer) at.0.certs c.certs_in-certs.result.now (c.certs_in-certs.ensures.moved at.0 at.1) ∙ here)
+          ];
       ticks =
           let one = ap (sum_by (λ (s : Spot). length s.certs)) at.2 ∙ sum_by-cons (λ (s : Spot). length s.certs) at.0 (drop (i + 1) spots) in
           let step = c.certs_in-certs.ensures.ticks at.0 at.1 in

@@ -1,38 +1,33 @@
-use Rattle.std.proofs.Common.{false, unwrap_or, sym, ap, subst, ◌∙◌}
-use Rattle.wot_types.specs.declared.options.Options.{Options}
-use Rattle.wot_types.specs.Ownertrust.{unset}
+use Rattle.std.proofs.Common.{unwrap_or, sym, ap, subst, ◌∙◌}
+use Rattle.std.specs.FinMap as map
+use Rattle.wot_types.specs.Ownertrust.{OwnertrustMap, unset}
 use Rattle.wot_levels.specs.Entries.{EntriesLeft}
-use Rattle.wot_levels.specs.Given.{state_of}
 use Rattle.wot_levels.specs.Walk.{with_found}
 use Rattle.wot_levels.proofs.EntriesWalk.{entries_all, entries_put, entries_start, entry_kept}
 use Rattle.wot_levels.proofs.RowLemmas.{rows_at_zero}
 use Rattle.wot_levels.proofs.first_level.rows_by_entries.Goals as goal
 
 pub loop-fpr-init : goal.loop-fpr-init
-loop-fpr-init c = λ options.
-    let s = state_of c.args.table.now c.args.trusts.now c.args.now options in
-    let all = c.into_iter-fpr-iterator.ensures.into_iter_gives ∙ c.iter-fpr-items.ensures in
+loop-fpr-init c =
+    let s = c.args.state.now in
+    let all = c.into_iter-fpr-iterator.ensures.into_iter_gives ∙ c.iter-fpr-items.ensures ∙ ap (λ (t : OwnertrustMap). map.entries t) c.trusts.ensures in
     subst (λ left. EntriesLeft s left c.in_ok-rows.rows) (sym all) (subst (EntriesLeft s _) (sym c.in_ok-rows.ensures) (entries_start s))
-
--- the options say nothing of an entry
-any : Options
-any = record { marginals = 0; completes = 0; depth = 0; level = 0; pgp = false }
 
 pub row_of_entry-requires : goal.row_of_entry-requires
 row_of_entry-requires c =
-    let s = state_of c.args.table.now c.args.trusts.now c.args.now any in
-    let left = subst (λ left. EntriesLeft s left c.loop-fpr.rows) c.in-Some.ensures.steps (c.loop-fpr.invariant any) in
+    let s = c.args.state.now in
+    let left = subst (λ left. EntriesLeft s left c.loop-fpr.rows) c.in-Some.ensures.steps c.loop-fpr.invariant in
     record { kept = ap (λ r. (unwrap_or r unset).trust) (entry_kept s (c.in-Some.fpr.now, c.in-Some.kept.now) c.next.new.self c.loop-fpr.rows left) }
 
 pub loop-fpr-preserved : goal.loop-fpr-preserved
-loop-fpr-preserved c = λ options.
-    let s = state_of c.args.table.now c.args.trusts.now c.args.now options in
-    let left = subst (λ left. EntriesLeft s left c.loop-fpr.rows) c.in-Some.ensures.steps (c.loop-fpr.invariant options) in
+loop-fpr-preserved c =
+    let s = c.args.state.now in
+    let left = subst (λ left. EntriesLeft s left c.loop-fpr.rows) c.in-Some.ensures.steps c.loop-fpr.invariant in
     let made = c.in_ok-rows-2.ensures ∙ ap (λ id. with_found c.loop-fpr.rows id c.in_ok-row.row) c.key_id.ensures in
     subst (EntriesLeft s c.next.new.self) (sym made)
-    (entries_put s (c.in-Some.fpr.now, c.in-Some.kept.now) c.next.new.self c.loop-fpr.rows left c.requires.filed c.in_ok-row.row (c.in_ok-row.ensures.row options))
+    (entries_put s (c.in-Some.fpr.now, c.in-Some.kept.now) c.next.new.self c.loop-fpr.rows left c.requires.filed c.in_ok-row.row c.in_ok-row.ensures.row)
 
 pub returns : goal.returns
-returns c = λ options.
-    let s = state_of c.args.table.now c.args.trusts.now c.args.now options in
-    entries_all s c.loop-fpr.rows (subst (λ left. EntriesLeft s left c.loop-fpr.rows) c.in-None.ensures.steps.0 (c.loop-fpr.invariant options)) ∙ rows_at_zero s
+returns c =
+    let s = c.args.state.now in
+    entries_all s c.loop-fpr.rows (subst (λ left. EntriesLeft s left c.loop-fpr.rows) c.in-None.ensures.steps.0 c.loop-fpr.invariant) ∙ rows_at_zero s

@@ -16,7 +16,7 @@ loop-id-init g c = record {
 
 pub returns-in_err-counts-clause-ticks : goal.returns-in_err-counts-clause-ticks
 returns-in_err-counts-clause-ticks g c =
-    let keys = c.args.table.now in
+    let keys = c.args.state.now.keys in
     let ids = c.as_slice-id-items.result.now in
     let i = c.loop-id.id-index in
     let x = c.id-item.result in
@@ -32,9 +32,9 @@ returns-in_err-counts-clause-ticks g c =
 
 pub loop-id-preserved : goal.loop-id-preserved
 loop-id-preserved g c =
-    let keys = c.args.table.now in
-    let o = c.args.options.now in
-    let now = c.args.now in
+    let keys = c.args.state.now.keys in
+    let o = c.args.state.now.options in
+    let now = c.args.state.now.date in
     let rows = c.args.rows.now in
     let ids = c.as_slice-id-items.result.now in
     let i = c.loop-id.id-index in
@@ -55,17 +55,17 @@ loop-id-preserved g c =
 
 pub returns-clause-counts : goal.returns-clause-counts
 returns-clause-counts g c =
-    let keys = c.args.table.now in
-    let o = c.args.options.now in
+    let keys = c.args.state.now.keys in
+    let o = c.args.state.now.options in
     let rows = c.args.rows.now in
     let ids = c.as_slice-id-items.result.now in
     let seen : length ids ≤ c.loop-id.id-index = omega (arith, c.loop-id-test.false) in
-    counted_certified keys o c.args.now rows ids (subst (AreCertified keys rows) (sym c.as_slice-id-items.ensures.value) c.in_ok-ids.ensures.all) c.loop-id.counts
-    (subst (λ xs. AreCountedAt keys o c.args.now rows xs finmap.empty c.loop-id.counts) (take_all ids c.loop-id.id-index seen) c.loop-id.invariant.counts)
+    counted_certified keys o c.args.state.now.date rows ids (subst (λ m. AreCertified m rows ids) c.table-table.ensures (subst (AreCertified c.table-table.result.now rows) (sym c.as_slice-id-items.ensures.value) c.in_ok-ids.ensures.all)) c.loop-id.counts
+    (subst (λ xs. AreCountedAt keys o c.args.state.now.date rows xs finmap.empty c.loop-id.counts) (take_all ids c.loop-id.id-index seen) c.loop-id.invariant.counts)
 
 pub returns-clause-ticks : goal.returns-clause-ticks
 returns-clause-ticks g c =
-    let keys = c.args.table.now in
+    let keys = c.args.state.now.keys in
     let ids = c.as_slice-id-items.result.now in
     let within = weight_take keys ids c.loop-id.id-index in
     let all = weight_total keys ids (subst (IsDistinct nat_eq) (sym c.as_slice-id-items.ensures.value) c.in_ok-ids.ensures.distinct) in

@@ -1,7 +1,7 @@
 use Rattle.std.proofs.Common.{ℕ, sym, ap, subst, ◌∙◌, arith}
 use Rattle.std.proofs.lemmas.List.Sums.{sum_by-cons}
 use Rattle.wot_types.specs.declared.key.Key.{Key}
-use Rattle.wot_types.specs.Keyring.{key_certs}
+use Rattle.wot_types.specs.Keyring.{cert_total, key_certs}
 use Rattle.wot_levels.specs.Walk.{WalksOn}
 use Rattle.wot_levels.proofs.WalksOn.{walk_all, walk_start}
 use Rattle.wot_live.specs.Counts.{kept_counts, with_counts}
@@ -10,12 +10,17 @@ use Rattle.wot_live.proofs.all_counts.counts_by_walk.Goals as goal
 
 pub loop-keyblock-init : goal.loop-keyblock-init
 loop-keyblock-init g c =
-    let keys = c.args.table.now in
-    let rule = counts_by keys c.args.options.now c.args.now c.args.rows.now in
+    let o = c.args.state.now.options in
+    let now = c.args.state.now.date in
+    let rows = c.args.rows.now in
+    let table = c.table-table.result.now in
+    let rule = counts_by table o now rows in
+    let left = c.into_iter-keyblock-iterator.result in
     let all = c.into_iter-keyblock-iterator.ensures.into_iter_gives ∙ c.walk-keyblock-items.ensures.whole in
+    let start = subst (λ left. WalksOn rule table left c.new-counts.result) (sym all) (subst (WalksOn rule table _) (sym c.new-counts.ensures) (walk_start rule table c.walk-keyblock-items.ensures.found)) in
     record {
-      counts = subst (λ left. WalksOn rule keys left c.new-counts.result) (sym all) (subst (WalksOn rule keys _) (sym c.new-counts.ensures) (walk_start rule keys c.walk-keyblock-items.ensures.found));
-      ticks = let certs = ap left_certs all ∙ all_certs_left keys in omega (arith, certs);
+      counts = subst (λ m. WalksOn (counts_by m o now rows) m left c.new-counts.result) c.table-table.ensures start;
+      ticks = let certs = ap left_certs all ∙ all_certs_left table ∙ ap cert_total c.table-table.ensures in omega (arith, certs);
     }
 
 pub returns-in_err-list-clause-ticks : goal.returns-in_err-list-clause-ticks
@@ -27,9 +32,9 @@ returns-in_err-list-clause-ticks g c =
 
 pub loop-keyblock-preserved : goal.loop-keyblock-preserved
 loop-keyblock-preserved g c =
-    let keys = c.args.table.now in
-    let o = c.args.options.now in
-    let now = c.args.now in
+    let keys = c.args.state.now.keys in
+    let o = c.args.state.now.options in
+    let now = c.args.state.now.date in
     let rows = c.args.rows.now in
     let rule = counts_by keys o now rows in
     let e = c.in-Some.keyblock in
@@ -46,8 +51,8 @@ loop-keyblock-preserved g c =
 
 pub returns-clause-counts : goal.returns-clause-counts
 returns-clause-counts g c =
-    let keys = c.args.table.now in
-    let rule = counts_by keys c.args.options.now c.args.now c.args.rows.now in
+    let keys = c.args.state.now.keys in
+    let rule = counts_by keys c.args.state.now.options c.args.state.now.date c.args.rows.now in
     walk_all rule keys c.loop-keyblock.counts (subst (λ left. WalksOn rule keys left c.loop-keyblock.counts) c.in-None.ensures.steps.0 c.loop-keyblock.invariant.counts)
 
 pub returns-clause-ticks : goal.returns-clause-ticks

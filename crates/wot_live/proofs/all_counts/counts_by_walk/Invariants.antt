@@ -6,6 +6,6 @@ use Rattle.wot_live.proofs.all_counts.counts_by_walk.Given as goal
 
 abbrev pub invariant-loop-keyblock : goal.invariant-loop-keyblock
 invariant-loop-keyblock g l = record {
-  counts : WalksOn (counts_by l.table l.options l.now l.rows) l.table l.keyblock-iterator l.counts;
-  ticks : l.steps + left_certs l.keyblock-iterator ≤ l.initial.steps + cert_total l.table;
+  counts : WalksOn (counts_by l.state.keys l.state.options l.state.date l.rows) l.state.keys l.keyblock-iterator l.counts;
+  ticks : l.steps + left_certs l.keyblock-iterator ≤ l.initial.steps + cert_total l.state.keys;
 }

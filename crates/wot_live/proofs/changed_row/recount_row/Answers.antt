@@ -5,7 +5,7 @@ use Rattle.wot_types.specs.declared.row.Row.{Row}
 use Rattle.wot_types.specs.Candidates.{RowMap}
 use Rattle.wot_types.specs.Rows.{with_row}
 use Rattle.wot_types.specs.Touched.{is_same_standing}
-use Rattle.wot_levels.specs.Given.{given_row, state_of}
+use Rattle.wot_levels.specs.Given.{given_row}
 use Rattle.wot_live.specs.Recounting.{is_lower, recounted}
 use Rattle.wot_live.specs.declared.changed_row.ChangedRow.{ChangedRow}
 use Rattle.wot_live.proofs.RowChanges.{drop_at, drop_changes, drop_others, put_at, put_others, recounted_lower, recounted_none, recounted_some}
@@ -18,7 +18,7 @@ pub returns-then-is_lower-clause-row : goal.returns-then-is_lower-clause-row
 returns-then-is_lower-clause-row g c =
     let n = c.args.level in
     let old = map.get c.args.rows c.args.id in
-    sym (recounted_lower n old (given_row (state_of c.args.table.now c.args.trusts.now c.args.now c.args.options.now) c.args.rows n c.args.id)
+    sym (recounted_lower n old (given_row c.args.state.now c.args.rows n c.args.id)
     (sym (c.is_lower.ensures ∙ ap (is_lower n) c.get.ensures.found) ∙ c.if-is_lower.true))
 
 pub returns-in-Some-clause-row : goal.returns-in-Some-clause-row
@@ -32,7 +32,7 @@ returns-in-Some-clause-row g c =
     let given = sym c.in-Some.is ∙ c.in_ok-row.ensures.row ∙ c.given-standing.ensures.row in
     let end = put_at rows id row own ∙ sym (recounted_some n (map.get rows id) row high) ∙ ap (recounted n (map.get rows id)) given in
     IfOk-weaker c.put_row.result (λ new. new ≡ put rows row)
-    (λ new. map.get new.rows id ≡ recounted n (map.get rows id) (given_row (state_of c.args.table.now c.args.trusts.now c.args.now c.args.options.now) rows n id))
+    (λ new. map.get new.rows id ≡ recounted n (map.get rows id) (given_row c.args.state.now rows n id))
     (λ new e. ap (λ (m : ChangedRow). map.get m.rows id) e ∙ end) c.put_row.ensures
 
 pub returns-in-Some-clause-others : goal.returns-in-Some-clause-others

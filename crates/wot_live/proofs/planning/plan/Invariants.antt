@@ -5,7 +5,7 @@ use Rattle.wot_live.proofs.planning.plan.Given as goal
 
 abbrev pub invariant-loop-i : goal.invariant-loop-i
 invariant-loop-i g l = record {
-  due : AreDue l.table l.rows l.level (take l.i l.todo) l.agenda;
-  within : IsWithin l.todo l.agenda;
-  ticks : l.steps + weight l.table (take l.planned l.todo) ≤ l.initial.steps + weight l.table (take l.i l.todo);
+  due : AreDue l.state.keys l.fn.course.rows l.level (take l.i l.fn.course.todo) l.agenda;
+  within : IsWithin l.fn.course.todo l.agenda;
+  ticks : l.steps + weight l.state.keys (take l.planned l.fn.course.todo) ≤ l.initial.steps + weight l.state.keys (take l.i l.fn.course.todo);
 }

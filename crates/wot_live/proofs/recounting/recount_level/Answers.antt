@@ -1,6 +1,6 @@
-use Rattle.std.proofs.Common.{◌≡◌, ◌+◌, ℕ, List, sym, ap, subst, ◌∙◌, arith}
+use Rattle.std.proofs.Common.{◌≡◌, ◌+◌, ℕ, List, nat_eq, sym, ap, subst, ◌∙◌, arith}
+use Rattle.std.specs.List.{IsDistinct}
 use Rattle.std.proofs.lemmas.Result.{IfOk-weaker}
-use Rattle.wot_levels.specs.Given.{state_of}
 use Rattle.wot_live.specs.Agenda.{AreDue, IsWithin, due_at}
 use Rattle.wot_live.specs.Recounting.{IsRecounted, among}
 use Rattle.wot_live.proofs.Agendas.{due_behind, within_behind}
@@ -8,20 +8,23 @@ use Rattle.wot_live.proofs.Passes.{same_step}
 use Rattle.wot_live.proofs.Weights.{weight_within}
 use Rattle.wot_live.proofs.recounting.recount_level.Goals as goal
 
+pub recount_all-requires : goal.recount_all-requires
+recount_all-requires g c = record { level = c.requires.level; distinct = subst (IsDistinct nat_eq) (sym c.deref.ensures.value) c.each_once-ids.ensures.distinct }
+
 pub returns-clause-pass : goal.returns-clause-pass
 returns-clause-pass g c =
-    let t = state_of c.args.table.now c.args.trusts.now c.args.now c.args.options.now in
+    let t = c.args.state.now in
     let n = c.args.level in
     let rows = c.args.course.rows in
     let todo = c.args.course.todo in
-    let ids = c.each_once-ids.result in
+    let ids = c.deref.result.now in
     let due = due_at c.args.course.agenda n in
     IfOk-weaker c.recount_all.result (λ new. IsRecounted t n ids rows todo new.rows new.todo) (λ new. IsRecounted t n due rows todo new.rows new.todo)
-    (λ new step. same_step t n ids due rows todo new.rows new.todo (λ x. c.each_once-ids.ensures.same x ∙ ap (λ xs. among xs x) c.take-agenda.ensures.ids) step) c.recount_all.ensures.pass
+    (λ new step. same_step t n ids due rows todo new.rows new.todo (λ x. ap (λ xs. among xs x) c.deref.ensures.value ∙ c.each_once-ids.ensures.same x ∙ ap (λ xs. among xs x) (c.into_vec.ensures ∙ c.take-agenda.ensures.ids)) step) c.recount_all.ensures.pass
 
 pub returns-clause-due : goal.returns-clause-due
 returns-clause-due g c =
-    let keys = c.args.table.now in
+    let keys = c.args.state.now.keys in
     let n = c.args.level in
     let rows = c.args.course.rows in
     let old = c.args.course.agenda in
@@ -38,7 +41,7 @@ returns-clause-within g c =
 
 pub returns-clause-ticks : goal.returns-clause-ticks
 returns-clause-ticks g c = λ set its.
-    let members : (x : ℕ) → among c.each_once-ids.result x ≡ among (due_at c.args.course.agenda c.args.level) x = λ x. c.each_once-ids.ensures.same x ∙ ap (λ xs. among xs x) c.take-agenda.ensures.ids in
-    let less = weight_within set c.args.table.now c.each_once-ids.result c.each_once-ids.ensures.distinct (λ x there. its x (sym (members x) ∙ there)) in
+    let members : (x : ℕ) → among c.deref.result.now x ≡ among (due_at c.args.course.agenda c.args.level) x = λ x. ap (λ xs. among xs x) c.deref.ensures.value ∙ c.each_once-ids.ensures.same x ∙ ap (λ xs. among xs x) (c.into_vec.ensures ∙ c.take-agenda.ensures.ids) in
+    let less = weight_within set c.args.state.now.keys c.deref.result.now (subst (IsDistinct nat_eq) (sym c.deref.ensures.value) c.each_once-ids.ensures.distinct) (λ x there. its x (sym (members x) ∙ there)) in
     let cost = c.recount_all.ensures.ticks in
     omega (arith, less, cost)

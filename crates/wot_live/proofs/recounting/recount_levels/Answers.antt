@@ -1,4 +1,4 @@
-use Rattle.std.proofs.Common.{◌≡◌, ◌+◌, ◌*◌, ◌-◌, ◌≤◌, ℕ, suc, nat_eq, true, false, List, length, take, sym, ap, subst, ◌∙◌, arith}
+use Rattle.std.proofs.Common.{◌≡◌, ◌+◌, ◌-◌, ◌≤◌, ℕ, suc, nat_eq, false, length, take, sym, ap, subst, ◌∙◌, arith}
 use Rattle.std.specs.List.{IsDistinct}
 use Rattle.std.proofs.Math.Seq.{take-append_seam}
 use Rattle.wot_types.specs.declared.options.Options.{Options}
@@ -6,7 +6,6 @@ use Rattle.wot_types.specs.State.{State}
 use Rattle.wot_types.specs.Explanation.{KeySet}
 use Rattle.wot_types.specs.Touched.{certs_on, is_touched}
 use Rattle.wot_levels.specs.Frontier.{weight}
-use Rattle.wot_levels.specs.Given.{state_of}
 use Rattle.wot_live.specs.Agenda.{AreDue, IsWithin, due_at}
 use Rattle.wot_live.specs.Recounting.{IsBegun, IsRecounted, IsStage, IsTouchedList, among}
 use Rattle.wot_live.proofs.Agendas.{all_recounted}
@@ -20,11 +19,11 @@ use Rattle.wot_live.proofs.recounting.recount_levels.Goals as goal
 
 pub loop-level-init : goal.loop-level-init
 loop-level-init g c =
-    let t = state_of c.args.table.now c.args.trusts.now c.args.now c.args.options.now in
+    let t = c.args.state.now in
     let rows = c.args.found.rows in
     let todo = c.args.found.todo in
     record {
-      due = due_none c.args.table.now rows 0 c.new-agenda.result;
+      due = due_none c.args.state.now.keys rows 0 c.new-agenda.result;
       within = subst (IsWithin todo) (sym c.new-agenda.ensures) (within_none todo);
       low = λ s begun. let depth = ap (λ (o : Options). o.depth) begun.options in low_of s rows _ begun.rows (omega (arith, depth));
       stage = λ s begun. subst (λ r. IsStage s t 0 r todo) (sym begun.rows) (first_stage s t todo);
@@ -36,19 +35,19 @@ loop-level-init g c =
 
 pub returns-in_err-course-clause-ticks : goal.returns-in_err-course-clause-ticks
 returns-in_err-course-clause-ticks g c = λ s named begun h.
-    let t = state_of c.args.table.now c.args.trusts.now c.args.now c.args.options.now in
-    let keys = c.args.table.now in
+    let t = c.args.state.now in
+    let keys = c.args.state.now.keys in
     let set = is_touched named s t in
-    let less = weight_within set keys c.loop-level.course.todo c.with_plan.ensures.distinct (c.loop-level.invariant.touched s named begun h) in
+    let less = weight_within set keys c.loop-level.course.todo c.plan.ensures.distinct (c.loop-level.invariant.touched s named begun h) in
     let sofar = c.loop-level.invariant.ticks s named begun h in
-    let cost = c.with_plan.ensures.ticks in
-    let all = within_depth c.loop-level.level c.args.options.now.depth (certs_on set keys) (omega (arith, c.loop-level-test.true)) c.requires.ranges.depth in
+    let cost = c.plan.ensures.ticks in
+    let all = within_depth c.loop-level.level c.args.state.now.options.depth (certs_on set keys) (omega (arith, c.loop-level-test.true, ap (λ (o : Options). o.depth) c.options.ensures)) c.requires.ranges.depth in
     omega (arith, less, sofar, cost, all)
 
 pub returns-in_err-course-2-clause-ticks : goal.returns-in_err-course-2-clause-ticks
 returns-in_err-course-2-clause-ticks g c = λ s named begun h.
-    let t = state_of c.args.table.now c.args.trusts.now c.args.now c.args.options.now in
-    let keys = c.args.table.now in
+    let t = c.args.state.now in
+    let keys = c.args.state.now.keys in
     let n = c.loop-level.level in
     let m = c.in_ok-course.course in
     let start = c.args.steps.now in
@@ -61,13 +60,13 @@ returns-in_err-course-2-clause-ticks g c = λ s named begun h.
     let plan = c.in_ok-course.ensures.ticks in
     let cost = c.recount_level.ensures.ticks set (λ x its. touched x (sym (ap (λ xs. among xs x) c.in_ok-course.ensures.todo) ∙ c.in_ok-course.ensures.within n x its)) in
     let next = next_ticks n certs start planned _ _ (omega (arith, sofar, plan)) c.recount_level.ensures.unread cost in
-    let all = within_depth (n + 1) c.args.options.now.depth certs (omega (arith, c.loop-level-test.true)) c.requires.ranges.depth in
+    let all = within_depth (n + 1) c.args.state.now.options.depth certs (omega (arith, c.loop-level-test.true, ap (λ (o : Options). o.depth) c.options.ensures)) c.requires.ranges.depth in
     omega (arith, less, next, all)
 
 pub loop-level-preserved : goal.loop-level-preserved
 loop-level-preserved g c =
-    let t = state_of c.args.table.now c.args.trusts.now c.args.now c.args.options.now in
-    let keys = c.args.table.now in
+    let t = c.args.state.now in
+    let keys = c.args.state.now.keys in
     let now = c.loop-level.course in
     let m = c.in_ok-course.course in
     let new = c.in_ok-course-2.course in
@@ -76,7 +75,8 @@ loop-level-preserved g c =
     let inv = c.loop-level.invariant in
     let some = c.requires.ranges.depth in
     let test = c.loop-level-test.true in
-    let within : suc n ≤ c.args.options.now.depth = omega (arith, test) in
+    let bound = ap (λ (o : Options). o.depth) c.options.ensures in
+    let within : suc n ≤ c.args.state.now.options.depth = omega (arith, test, bound) in
     let one : suc n ≡ n + 1 = omega arith in
     let pass = c.in_ok-course-2.ensures.pass in
     let rows_same = c.in_ok-course.ensures.rows in
@@ -96,8 +96,8 @@ loop-level-preserved g c =
     record {
       due = subst (λ ids. AreDue keys new.rows (n + 1) ids new.agenda) (sym planned) (c.in_ok-course-2.ensures.due m.todo due);
       within = c.in_ok-course-2.ensures.within inside;
-      low = λ s begun. step_low t n (c.args.options.now.depth - 1) (due_at m.agenda n) m.rows m.todo new.rows new.todo pass (omega (arith, test))
-          (subst (λ r. IsLow (c.args.options.now.depth - 1) r) (sym rows_same) (inv.low s begun));
+      low = λ s begun. step_low t n (c.args.state.now.options.depth - 1) (due_at m.agenda n) m.rows m.todo new.rows new.todo pass (omega (arith, test, bound))
+          (subst (λ r. IsLow (c.args.state.now.options.depth - 1) r) (sym rows_same) (inv.low s begun));
       stage = λ s begun. subst (λ k. IsStage s t k new.rows new.todo) one (next_stage s t begun.options start begun.alike some n within m.rows m.todo (stage s begun) apart new.rows new.todo (all s begun));
       longer = λ x out. apart x (out_before t n (due_at m.agenda n) m.rows new.rows m.todo new.todo pass x out);
       touched = λ s named begun h. next_touched s t begun.options start begun.alike some n within m.rows m.todo (stage s begun) apart new.rows new.todo (all s begun) named (touched s named begun h);
@@ -119,7 +119,7 @@ loop-level-preserved g c =
 
 pub returns-clause-counted : goal.returns-clause-counted
 returns-clause-counted g c = λ s begun.
-    let t = state_of c.args.table.now c.args.trusts.now c.args.now c.args.options.now in
+    let t = c.args.state.now in
     let now = c.loop-level.course in
     let n = c.loop-level.level in
     let some = c.requires.ranges.depth in
@@ -127,15 +127,17 @@ returns-clause-counted g c = λ s begun.
     let low = c.loop-level.invariant.low s begun in
     let past = c.loop-level-test.false in
     let end = c.loop-level.auto.level-end in
-    let top = c.args.options.now.depth - 1 in
-    let final = final_at_the_end s t some n now.rows now.todo stage top low (omega (arith, past, end)) (omega (arith, past, some)) in
+    let bound = ap (λ (o : Options). o.depth) c.options.ensures in
+    let top = c.args.state.now.options.depth - 1 in
+    let final = final_at_the_end s t some n now.rows now.todo stage top low (omega (arith, past, end, bound)) (omega (arith, past, some, bound)) in
     counted_from s t some n now.rows c.args.found.todo now.todo stage top low final c.loop-level.invariant.longer
 
 pub returns-clause-ticks : goal.returns-clause-ticks
 returns-clause-ticks g c = λ s named begun h.
-    let t = state_of c.args.table.now c.args.trusts.now c.args.now c.args.options.now in
+    let t = c.args.state.now in
     let end = c.loop-level.auto.level-end in
+    let bound = ap (λ (o : Options). o.depth) c.options.ensures in
     let few = c.loop-level.invariant.few s named begun h in
     let sofar = c.loop-level.invariant.ticks s named begun h in
-    let all = within_depth c.loop-level.level c.args.options.now.depth (certs_on (is_touched named s t) c.args.table.now) end c.requires.ranges.depth in
+    let all = within_depth c.loop-level.level c.args.state.now.options.depth (certs_on (is_touched named s t) c.args.state.now.keys) (omega (arith, end, bound)) c.requires.ranges.depth in
     omega (arith, few, sofar, all)

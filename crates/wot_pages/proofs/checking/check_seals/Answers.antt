@@ -1,5 +1,5 @@
 use Rattle.std.proofs.Common.{◌<◌, ◌∙◌, ap, arith}
-use Rattle.wot_pages.specs.Pieces.{first_some}
+use Rattle.wot_workers.specs.Pieces.{first_some}
 use Rattle.wot_pages.proofs.Checks.{first_of_pieces}
 use Rattle.wot_pages.proofs.checking.check_seals.Goals as goal
 

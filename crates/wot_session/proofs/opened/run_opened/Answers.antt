@@ -2,7 +2,7 @@ use Rattle.std.proofs.Common.{◌≡◌, ◌∙◌, true, false, [], refl, rules
 use Rattle.std.proofs.lemmas.Result.{IfOk-weaker}
 use Rattle.wot_site.proofs.Honest.{honest_weaker}
 use Rattle.wot_types.specs.Grammar.{has_block}
-use Rattle.wot_types.specs.Commands.Cut.{between}
+use Rattle.wot_types.specs.Commands.Division.{between}
 use Rattle.wot_types.specs.LineByLine.{Position, at_first}
 use Rattle.wot_types.specs.Session.{at_start}
 use Rattle.wot_session.specs.Here.{IsHere}
@@ -38,7 +38,7 @@ returns-in-Err-Memory-clause-stopped g c store opened holds = words_nothing _ st
 pub perform_command-requires : goal.perform_command-requires
 perform_command-requires g c =
     let some : c.args.words.now ≡ [] → ⊥ = λ e. some_words c.as_slice.result.now (sym c.is_empty.ensures ∙ c.if-is_empty.false) (c.as_slice.ensures ∙ e) in
-    let p : Position = record { progress = at_start c.requires.opened.0; cut = between } in (
+    let p : Position = record { progress = at_start c.requires.opened.0; division = between } in (
       search rules,
       (
         search rules,
@@ -53,7 +53,7 @@ pub returns-in-Ok-clause-ended : goal.returns-in-Ok-clause-ended
 returns-in-Ok-clause-ended g c store opened holds =
     let some : c.args.words.now ≡ [] → ⊥ = λ e. some_words c.as_slice.result.now (sym c.is_empty.ensures ∙ c.if-is_empty.false) (c.as_slice.ensures ∙ e) in
     let none : has_block c.args.words.now ≡ false = sym c.has_block.ensures ∙ c.if-not-has_block.true in
-    let p : Position = record { progress = at_start store; cut = between } in
+    let p : Position = record { progress = at_start store; division = between } in
     let here : IsHere c.new-session-then-not-has_block.result (g.S.Site.seen c.args.site.now) p =
     here_at c.new-session-then-not-has_block.result _ _ c.new-session-then-not-has_block.ensures.place (c.new-session-then-not-has_block.ensures.at p opened.engine opened.sound opened.place refl tt) holds in
     let after = c.in-Ok.ensures.at p here in
@@ -64,7 +64,7 @@ pub returns-in-Err-clause-stopped : goal.returns-in-Err-clause-stopped
 returns-in-Err-clause-stopped g c store opened holds =
     let some : c.args.words.now ≡ [] → ⊥ = λ e. some_words c.as_slice.result.now (sym c.is_empty.ensures ∙ c.if-is_empty.false) (c.as_slice.ensures ∙ e) in
     let none : has_block c.args.words.now ≡ false = sym c.has_block.ensures ∙ c.if-not-has_block.true in
-    let p : Position = record { progress = at_start store; cut = between } in
+    let p : Position = record { progress = at_start store; division = between } in
     let here : IsHere c.new-session-then-not-has_block.result (g.S.Site.seen c.args.site.now) p =
     here_at c.new-session-then-not-has_block.result _ _ c.new-session-then-not-has_block.ensures.place (c.new-session-then-not-has_block.ensures.at p opened.engine opened.sound opened.place refl tt) holds in
     honest_weaker _ _ _ _ (c.in-Err.ensures.prefix p here)

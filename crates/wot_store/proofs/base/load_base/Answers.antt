@@ -2,7 +2,7 @@ use Rattle.std.proofs.Common.{◌≡◌, length, refl, sym, ◌∙◌, subst}
 use Rattle.wot_site.specs.Disk.{disk_of}
 use Rattle.wot_site.specs.Seen.{Seen}
 use Rattle.wot_site.proofs.Honest.{honest_with}
-use Rattle.wot_image.specs.States.{state_of}
+use Rattle.wot_image.specs.States.{image_state}
 use Rattle.wot_pages.specs.Reading.{FindsFault, ReadsPages}
 use Rattle.wot_store.specs.declared.error.BadStore.{BadStore}
 use Rattle.wot_store.specs.declared.error.BadStore.TheVariants.{Seal, Spelling}
@@ -31,9 +31,9 @@ returns-in-Ok-take_rows-clause-base g c =
     let image = c.in-Ok-Some.image in
     let found = rw c.deref.ensures.value at (rw c.in-Ok-Some.field-0-is at c.in-Ok-Some.ensures.found) in
     rw c.in-Ok-take_rows.ensures.parts
-    (honest_with (λ (s : Seen). c.args.size ≡ length (disk_of side s.disks).reads) (ReadsPages side header.epoch header.pages contents) (ReadsBase side header (state_of image)) _ _ c.requires.size c.in-Ok.ensures.read
+    (honest_with (λ (s : Seen). c.args.size ≡ length (disk_of side s.disks).reads) (ReadsPages side header.epoch header.pages contents) (ReadsBase side header (image_state image)) _ _ c.requires.size c.in-Ok.ensures.read
     (λ x y long read. reads_base side header c.args.size contents x y long (started header.pages c.args.size c.in-Some.start (sym c.in-Some.is ∙ c.journal_start.ensures)) read
-    (state_of image) image.rows found c.in-Ok-take_rows.ensures.stand))
+    (image_state image) image.rows found c.in-Ok-take_rows.ensures.stand))
 
 pub returns-in-Ok-Some-clause-bad : goal.returns-in-Ok-Some-clause-bad
 returns-in-Ok-Some-clause-bad g c b is =
@@ -46,7 +46,7 @@ returns-in-Ok-Some-clause-bad g c b is =
     honest_with (λ (s : Seen). c.args.size ≡ length (disk_of side s.disks).reads) (ReadsPages side header.epoch header.pages contents) (LacksBase side header b) _ _ c.requires.size c.in-Ok.ensures.read
     (λ x y long read. subst (λ (d : BadStore). LacksBase side header d x y) (sym wrong.1)
     (lacks_rows side header c.args.size contents x y long (started header.pages c.args.size c.in-Some.start (sym c.in-Some.is ∙ c.journal_start.ensures)) read
-    (state_of image) image.rows wrong.0 found wrong.2))
+    (image_state image) image.rows wrong.0 found wrong.2))
 
 pub returns-in-Ok-None-clause-bad : goal.returns-in-Ok-None-clause-bad
 returns-in-Ok-None-clause-bad g c b is =

@@ -8,7 +8,7 @@ pub update-requires : goal.update-requires
 update-requires g c =
     let e = c.self.inside in
     let s = state_of e.table e.trusts e.date e.options in
-    let its = from_none c.new-list.result c.in_ok-todo.todo (named_by_date s c.args.now) c.new-list.ensures c.in_ok-todo.ensures in
+    let its = from_none c.new-list.result c.in_ok-list.list (named_by_date s c.args.now) c.new-list.ensures c.in_ok-list.ensures in
     record {
       pending = record {
         ranges = c.self.invariant.ranges;
@@ -21,8 +21,8 @@ returns-clause-ticks g c =
     let e = c.self.inside in
     let now = c.args.now in
     let s = state_of e.table e.trusts e.date e.options in
-    let its = from_none c.new-list.result c.in_ok-todo.todo (named_by_date s now) c.new-list.ensures c.in_ok-todo.ensures in
+    let its = from_none c.new-list.result c.in_ok-list.list (named_by_date s now) c.new-list.ensures c.in_ok-list.ensures in
     subst (λ state. IsWithinTouched (named_by_date state now) state (record state { date = now }) c.args.steps.now c.update.new.steps) c.self.view_is
-    (edit_bound s (record s { date = now }) (named_by_date s now) c.in_ok-todo.todo c.args.steps.now c.update.new.steps (λ x h. sym (its x) ∙ h)
+    (edit_bound s (record s { date = now }) (named_by_date s now) c.in_ok-list.list c.args.steps.now c.update.new.steps (λ x h. sym (its x) ∙ h)
     (c.update.ensures.ticks s (named_by_date s now)
     (record { options = refl; rows = c.self.invariant.rows; alike = λ x out. date_alike s now x (sym (its x) ∙ out) })))

@@ -49,12 +49,12 @@ returns-clause-told g c =
     let left = c.read_on.ensures.left (c.in-Ok-false.is ∙ ap Ok c.in-Ok-false.field-0-test) in
     on_ok_weaker c.give.result
     (λ all p here. honest_weaker _ _ _ _ (all _ _ _ (due_left _ _ _ _ left c.in-Ok.ensures.due p here.at) (holds_at _ _ (c.reply.ensures.place ∙ c.read_on.ensures.place) here.holds))
-    (λ x y. given_said p.progress _ x y (one_made p.cut c.args.self.now.line)))
+    (λ x y. given_said p.progress _ x y (one_made p.division c.args.self.now.line)))
     c.give.ensures.given
 
 pub returns-clause-prefix : goal.returns-clause-prefix
 returns-clause-prefix g c =
     let left = c.read_on.ensures.left (c.in-Ok-false.is ∙ ap Ok c.in-Ok-false.field-0-test) in
     if_err_memory _ c.give.result c.give.ensures.prefix c.give.ensures.memory
-    (λ stop all memory p here. giving_said _ p.progress _ stop _ _ (one_made p.cut c.args.self.now.line) here.holds memory
+    (λ stop all memory p here. giving_said _ p.progress _ stop _ _ (one_made p.division c.args.self.now.line) here.holds memory
     (all _ _ _ (due_left _ _ _ _ left c.in-Ok.ensures.due p here.at) (holds_at _ _ (c.reply.ensures.place ∙ c.read_on.ensures.place) here.holds)))

@@ -1,6 +1,6 @@
 use Rattle.std.proofs.Common.{◌∙◌, refl, rules}
 use Rattle.wot_session.specs.Here.{IsOver}
-use Rattle.wot_session.proofs.Feeds.{here_at, fed_at, feeding_cut, feeding_more, feeding_start, feeding_stop, over_at, over_said}
+use Rattle.wot_session.proofs.Feeds.{here_at, fed_at, feeding_broken, feeding_more, feeding_start, feeding_stop, over_at, over_said}
 use Rattle.wot_session.proofs.session.Session.answer_bytes.Goals as goal
 
 pub loop-line-init : goal.loop-line-init
@@ -16,7 +16,7 @@ answer-requires g c =
 
 pub returns-in-Err-clause-prefix : goal.returns-in-Err-clause-prefix
 returns-in-Err-clause-prefix g c =
-    feeding_cut c.loop-line.invariant.feeding c.hold.new.self c.in-Some.line.now c.in-Some.after.now c.in-Some.ensures.split
+    feeding_broken c.loop-line.invariant.feeding c.hold.new.self c.in-Some.line.now c.in-Some.after.now c.in-Some.ensures.split
     c.in_default-hold.ensures.line c.hold.ensures.at c.hold.ensures.place _ c.in-Err.stop c.in-Err.ensures.prefix
 
 pub returns-then-is_over-clause-at : goal.returns-then-is_over-clause-at

@@ -12,7 +12,7 @@ pub returns-in-Err-clause-prefix : goal.returns-in-Err-clause-prefix
 returns-in-Err-clause-prefix g c p here =
     let line = c.args.self.now.line in
     honest_weaker _ _ _ _ (c.in-Err.ensures.prefix p here)
-    (λ x y. said_prefix_more p.progress (commands_in p (last_lines line)) (unfinished_commands (after_lines p (last_lines line)).cut) x y c.in-Err.stop)
+    (λ x y. said_prefix_more p.progress (commands_in p (last_lines line)) (unfinished_commands (after_lines p (last_lines line)).division) x y c.in-Err.stop)
 
 pub answer_unfinished-requires : goal.answer_unfinished-requires
 answer_unfinished-requires g c = (search rules, (search rules, (_, c.in_default.ensures.at c.requires.0 c.requires.1)))
@@ -25,7 +25,7 @@ returns-clause-told g c =
     let line = c.args.self.now.line in
     on_ok_weaker c.answer_unfinished.result
     (λ told p here. honest_then _ _ _ _ _ _ (c.in_default.ensures.told p here) (told _ (c.in_default.ensures.at p here))
-    (λ x y z. said_then p.progress (commands_in p (last_lines line)) (unfinished_commands (after_lines p (last_lines line)).cut) x y z))
+    (λ x y z. said_then p.progress (commands_in p (last_lines line)) (unfinished_commands (after_lines p (last_lines line)).division) x y z))
     c.answer_unfinished.ensures.told
 
 pub returns-clause-prefix : goal.returns-clause-prefix
@@ -33,4 +33,4 @@ returns-clause-prefix g c =
     let line = c.args.self.now.line in
     if_err_weaker _ _ c.answer_unfinished.result c.answer_unfinished.ensures.prefix
     (λ stop prefix p here. honest_then _ _ _ _ _ _ (c.in_default.ensures.told p here) (prefix _ (c.in_default.ensures.at p here))
-    (λ x y z. said_then_prefix p.progress (commands_in p (last_lines line)) (unfinished_commands (after_lines p (last_lines line)).cut) x y stop z))
+    (λ x y z. said_then_prefix p.progress (commands_in p (last_lines line)) (unfinished_commands (after_lines p (last_lines line)).division) x y stop z))

@@ -18,11 +18,11 @@ returns-clause-at g c = on_ok_weaker c.give.result (λ all p here. all _ _ _ (c.
 pub returns-clause-told : goal.returns-clause-told
 returns-clause-told g c =
     on_ok_weaker c.give.result
-    (λ all p here. honest_weaker _ _ _ _ (all _ _ _ (c.in-Ok.ensures.due p here.at) (holds_at _ _ c.close.ensures.place here.holds)) (λ x y. given_said p.progress _ x y (one_unfinished p.cut)))
+    (λ all p here. honest_weaker _ _ _ _ (all _ _ _ (c.in-Ok.ensures.due p here.at) (holds_at _ _ c.close.ensures.place here.holds)) (λ x y. given_said p.progress _ x y (one_unfinished p.division)))
     c.give.ensures.given
 
 pub returns-clause-prefix : goal.returns-clause-prefix
 returns-clause-prefix g c =
     if_err_memory _ c.give.result c.give.ensures.prefix c.give.ensures.memory
-    (λ stop all memory p here. giving_said _ p.progress _ stop _ _ (one_unfinished p.cut) here.holds memory
+    (λ stop all memory p here. giving_said _ p.progress _ stop _ _ (one_unfinished p.division) here.holds memory
     (all _ _ _ (c.in-Ok.ensures.due p here.at) (holds_at _ _ c.close.ensures.place here.holds)))

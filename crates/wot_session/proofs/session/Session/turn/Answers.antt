@@ -4,7 +4,7 @@ use Rattle.wot_session.specs.Here.{IsOver}
 use Rattle.wot_session.specs.Turn.{StoppedTurn}
 use Rattle.wot_session.specs.declared.stop.Stop.TheVariants.{TooLong}
 use Rattle.wot_session.proofs.Feeds.{is_over, not_over, said_known}
-use Rattle.wot_session.proofs.Turns.{all_read, few, less_room, taken_here, turn_cut, turn_failed, turn_long, turn_read}
+use Rattle.wot_session.proofs.Turns.{all_read, few, less_room, taken_here, turn_broken, turn_failed, turn_long, turn_read}
 use Rattle.wot_session.proofs.session.Session.turn.Goals as goal
 
 pub returns-in-Err-clause-stopped : goal.returns-in-Err-clause-stopped
@@ -17,7 +17,7 @@ answer_bytes-requires g c = (search rules, (search rules, (c.requires.somewhere.
 pub returns-in-Err-answer_bytes-clause-stopped : goal.returns-in-Err-answer_bytes-clause-stopped
 returns-in-Err-answer_bytes-clause-stopped g c p here =
     honest_then _ _ _ _ _ _ c.in-Ok.ensures.ok (c.in-Err-answer_bytes.ensures.prefix p (taken_here _ p c.in-Ok.n c.take.new.buf _ _ here c.in-Ok.ensures.ok))
-    (λ x y z takes said. turn_cut c.in-Ok.n c.take.new.buf takes c.first_of-read.result (few c.in-Ok.n c.args.room _ c.first_of-read.ensures) p c.args.self.now.line c.args.room c.in-Err-answer_bytes.stop z c.in-Err-answer_bytes.ensures.cause.kinds said)
+    (λ x y z takes said. turn_broken c.in-Ok.n c.take.new.buf takes c.first_of-read.result (few c.in-Ok.n c.args.room _ c.first_of-read.ensures) p c.args.self.now.line c.args.room c.in-Err-answer_bytes.stop z c.in-Err-answer_bytes.ensures.cause.kinds said)
 
 pub returns-then-is_over-clause-at : goal.returns-then-is_over-clause-at
 returns-then-is_over-clause-at g c p here = c.in-Ok-answer_bytes.ensures.at p (taken_here _ p c.in-Ok.n c.take.new.buf _ _ here c.in-Ok.ensures.ok)
