@@ -3,7 +3,7 @@ import itertools
 import os
 import tempfile
 
-from measure import in_turn, megabytes, ran, session, shown, table, times
+from measure import Failed, in_turn, megabytes, ran, session, shown, table, times
 
 SIZES = (1_000, 10_000, 100_000)
 SEED, DEEPEST = 7, 4
@@ -112,3 +112,21 @@ def part_sample(bench):
         peak = bench.peak(["sample", *words], where=next(stores))
     cells = (shown(floor), shown(took), times(took, floor), megabytes(peak))
     table(f"`sample` of {SIZES[-1]:,} keys, its store in memory", ("made in C alone", "sample", "times that", "memory at the peak"), [cells])
+
+
+def printing(program, floor, command):
+    """A row: what the command takes, beside a program in C that writes the same bytes."""
+    (_, told), (_, same) = (held.ask(f"{command}\n") for held in (program, floor))
+    if told != same:
+        raise Failed(f"the program and print.c print different bytes at {command}")
+    least, took = in_turn(lambda: floor.accept(f"{command}\n"), lambda: program.accept(f"{command}\n"))
+    return f"`{command}`", megabytes(len(told)), shown(least), shown(took), times(took, least)
+
+
+def part_list(bench):
+    """Printing made keys in an open session, beside a program in C that holds them in structs and prints the same."""
+    where, listing = made_store(bench, bench.keys), bench.path("sigs")
+    ran([bench.program, "sigs"], where=where, told=listing)
+    with session([bench.program], where) as program, session([bench.floor("print"), listing], where) as floor:
+        rows = [printing(program, floor, command) for command in ("list", "sigs")]
+    table(f"Printing {bench.keys:,} made keys in an open session", ("", "size", "printed in C alone", "printed", "times that"), rows)

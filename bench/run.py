@@ -1,7 +1,7 @@
 #!/usr/bin/env python3
 """Times the program where people wait, each figure beside a floor of the same run, and prints the tables of README.md.
 
-run.py PROGRAM [PART]... [--keys NUMBER]: all parts, or those that are named; the parts pages, sealing, compact, opening, check, one-key and shapes have
+run.py PROGRAM [PART]... [--keys NUMBER]: all parts, or those that are named; the parts list, pages, sealing, compact, opening, check, one-key and shapes have
 so many keys. It needs cc, and says which part it skips and why.
 """
 import argparse
@@ -23,6 +23,7 @@ PARTS = {
     "edits": edits.part,
     "growth": growth.part,
     "sample": growth.part_sample,
+    "list": growth.part_list,
     "pages": bases.part_pages,
     "sealing": sealing.part,
     "compact": bases.part_compact,

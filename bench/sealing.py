@@ -24,6 +24,7 @@ use wot_image::read_base;
 use wot_pages::{CONTENT, FIRST, PAGE, read_pages};
 use wot_site::{MemorySite, Side, Site};
 use wot_types::Mem;
+use wot_workers::{NoGate, Workers};
 
 fn site_of(alloc: Global, bytes: &[u8]) -> Result<MemorySite, Mem>
     ensures { IfOk result (λ site. ⟦<MemorySite as Site>⟧.seen site ≡ Some (first_seen [] bytes.now [])) }
@@ -36,18 +37,19 @@ fn failed() -> io::Error {
     io::Error::from(ErrorKind::InvalidData)
 }
 
-fn pages_once<R: Threads + Sync + Clock + AllocGlobal + Print>(rt: &R, bytes: &[u8], epoch: u64, workers: u32) -> io::Result<Vec<u8>>
-    requires { (1 ≤ workers) × (workers ≤ 64) }
+fn pages_once<R: Threads + Sync + Clock + AllocGlobal + Print>(rt: &R, bytes: &[u8], epoch: u64, count: u32) -> io::Result<Vec<u8>>
+    requires { (1 ≤ count) × (count ≤ 64) }
 {
     let mut site = site_of(rt.alloc(), bytes).map_err(|_| failed())?;
     let pages = (bytes.len() as u64).saturating_sub(FIRST + 1) / PAGE as u64;
     if pages > 100_000 || (bytes.len() as u64) < FIRST + PAGE as u64 * pages {
         return Err(failed());
     }
+    let workers = Workers { rt, count, gate: &NoGate };
     let start = Instant::now(rt)?;
-    let read = read_pages(rt, rt.alloc(), &mut site, Side::Zero, epoch, pages, workers);
+    let read = read_pages(&workers, rt.alloc(), &mut site, Side::Zero, epoch, pages);
     let took = start.elapsed(rt)?.as_nanos();
-    println!(rt; "pages {workers} {took}")?;
+    println!(rt; "pages {count} {took}")?;
     read.map_err(|_| failed())
 }
 
@@ -91,7 +93,7 @@ fn main(rt: HostRuntime) -> io::Result<()> {
     Ok(())
 }
 """
-CRATES = ("wot_types", "wot_index", "wot_table", "wot_spelling", "wot_image", "wot_site", "wot_pages")
+CRATES = ("wot_types", "wot_index", "wot_table", "wot_spelling", "wot_image", "wot_site", "wot_workers", "wot_pages")
 JOBS = {
     "the seals alone, by the kit's SHA-256": "sums",
     "reading the pages, by 1 worker": "pages 1",
