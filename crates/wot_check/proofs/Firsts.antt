@@ -5,9 +5,12 @@ use Rattle.std.specs.FinMap as finmap
 use Rattle.std.proofs.lemmas.Bool.{not-false, not-true, true≢false}
 use Rattle.std.proofs.lemmas.Bool.Decides.{same_from_decides}
 use Rattle.std.proofs.lemmas.List.{at_drop_more}
+use Rattle.std.proofs.lemmas.List.Sums.{sum_by-drop_more}
 use Rattle.wot_types.specs.State.{State}
 use Rattle.wot_types.specs.Candidates.{RowMap}
+use Rattle.wot_types.specs.Keyring.{Keyring, certs_at}
 use Rattle.wot_types.specs.Levels.{kept_or, rows_of}
+use Rattle.wot_levels.specs.Frontier.{weight}
 use Rattle.wot_levels.specs.Given.{given_row, row_at_level}
 use Rattle.wot_check.specs.declared.fault.RowFault.{RowFault}
 use Rattle.wot_check.specs.Comparison.{first_fallen, stands}
@@ -16,6 +19,10 @@ use Rattle.wot_check.specs.Stored.{AllStand, IsFaultAt, IsLeastFault, Stands, ro
 use Rattle.wot_check.proofs.Local.{rows_stand, standing_rows}
 use Rattle.wot_check.proofs.SameRows.{stands_decided}
 use Rattle.wot_check.proofs.Walked.{IsLeastFailing, least_failing}
+
+-- the certifications on the keys from one place on are those on the key there and on the keys behind it
+pub weight_on : (keys : Keyring) (ids : List ℕ) (i id : ℕ) → i < length ids → id ≡ get_or ids i id → weight keys (drop i ids) ≡ certs_at keys id + weight keys (drop (i + 1) ids)
+weight_on keys ids i id inside at = sum_by-drop_more (certs_at keys) ids i id inside ∙ ap (λ x. certs_at keys x + weight keys (drop (i + 1) ids)) (sym at)
 
 module _ (s : State) (rows : RowMap) where
   -- ---- one key on

@@ -9,3 +9,4 @@ pub mod Firsts
 pub mod FaultLaws
 pub mod LevelRows
 pub mod Backwards
+pub mod Merging

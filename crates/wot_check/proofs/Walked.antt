@@ -1,9 +1,16 @@
--- The first key of a walk that fails a test is the least key that fails it.
-use Rattle.std.proofs.Common.{◌≡◌, ◌<◌, ◌≤◌, ◌||◌, inl, inr, ℕ, Bool, true, false, cond, nat_le, List, [], ◌∷◌, find, Option, Some, None, refl, ap, ◌∙◌, arith}
+-- Walks over keys: of the keys of a map, of the next key of two, and the first key of a walk that fails a test, which is the least that fails it.
+use Rattle.std.proofs.Common.{◌≡◌, ◌<◌, ◌≤◌, ◌==◌, ◌||◌, inl, inr, ℕ, T, Bool, true, false, cond, nat_le, List, [], ◌∷◌, find, map, Option, Some, None, refl, ap, ◌∙◌, arith}
+use Rattle.std.specs.List.{AllByRecursion, list_any}
+use Rattle.std.specs.declared.cmp.Ordering.TheVariants.{Less}
+use Rattle.std.specs.FinMap as finmap
+use Rattle.std.specs.FinMap.{FinMap, contains_key-keys, entries_sorted, is_sorted}
+use Rattle.std.specs.FinMap.Entries.{below_all}
+use Rattle.std.specs.Ordering.{nat_cmp, eq_by_cmp}
 use Rattle.std.proofs.lemmas.Bool.{cases_order}
 use Rattle.std.proofs.lemmas.Bool.Decides.{nat_tests}
 use Rattle.wot_types.specs.Next.{IsAfter, IsNext}
 use Rattle.wot_types.proofs.Nexts.{after_more}
+use Rattle.wot_types.proofs.Tests.{first_part, less_from, same_key, second_part}
 use Rattle.wot_check.specs.KeyWalk.{IsWalk, lesser}
 
 -- nothing fails after this key, or this is the least that does
@@ -58,3 +65,74 @@ module _ (a b : ℕ → Bool) where
             let low : n ≤ m = grind (arith, nat_tests, is) in
             (other_of n q.0, q.1, λ x later less. neither x (p.2 x later (omega (arith, less, low))) (q.2 x later less))
       ] refl
+
+-- ---- rising key IDs are a walk over themselves
+
+abbrev pub any_of : ℕ → List ℕ → Bool
+any_of x ids = list_any (λ id. id == x) ids
+
+abbrev AreAbove : ℕ → List ℕ → Type 0
+AreAbove x ids = AllByRecursion (λ id. x < id) ids
+
+abbrev AreRising : List ℕ → Type 0
+AreRising [] = Unit {0}
+AreRising (id ∷ ids) = AreAbove id ids × AreRising ids
+
+not_below : (x id : ℕ) → x < id → (id == x) ≡ false
+not_below x id less = grind (arith, nat_tests, less)
+
+not_above : (x id : ℕ) → id < x → (id == x) ≡ false
+not_above x id more = grind (arith, nat_tests, more)
+
+itself : (id : ℕ) → (id == id) ≡ true
+itself id = grind (arith, nat_tests)
+
+none_among : (x id : ℕ) (ids : List ℕ) → x < id → AreAbove id ids → any_of x ids ≡ false
+none_among x id [] less above = refl
+none_among x id (y ∷ ids) less above = ap (λ b. b || any_of x ids) (not_below x y (omega (arith, less, above.0))) ∙ none_among x id ids less above.1
+
+walk_of : (has : ℕ → Bool) (after : Option ℕ) (ids : List ℕ) → AreRising ids → AllByRecursion (IsAfter after) ids → ((x : ℕ) → IsAfter after x → has x ≡ any_of x ids) → IsWalk has after ids
+walk_of has after [] rising later is = is
+walk_of has after (id ∷ ids) rising later is = (
+  (
+    is id later.0 ∙ ap (λ b. b || any_of id ids) (itself id),
+    later.0,
+    λ x l less. is x l ∙ ap (λ b. b || any_of x ids) (not_below x id less) ∙ none_among x id ids less rising.0,
+  ),
+  walk_of has (Some id) ids rising.1 rising.0 (λ x above. is x (after_more after id x later.0 above) ∙ ap (λ b. b || any_of x ids) (not_above x id above)),
+)
+
+-- ---- the keys of a map
+
+less_than : (a b : ℕ) → nat_cmp a b ≡ Less → a < b
+less_than a b is = grind (arith, nat_tests, is)
+
+pub any_by_order : (x : ℕ) (ids : List ℕ) → list_any (eq_by_cmp nat_cmp x) ids ≡ any_of x ids
+any_by_order x ids = λ i. list_any (λ id. same_key x id i) ids
+
+module _ {X : Type 0} where
+  abbrev pub ids_of : List (ℕ × X) → List ℕ
+  ids_of es = map (λ e. e.0) es
+
+  above_from : (id : ℕ) (es : List (ℕ × X)) → T (below_all nat_cmp id es) → AreAbove id (ids_of es)
+  above_from id [] below = tt
+  above_from id (e ∷ es) below = (less_than id e.0 (less_from _ (first_part _ _ below)), above_from id es (second_part _ _ below))
+
+  rising_from : (es : List (ℕ × X)) → T (is_sorted nat_cmp es) → AreRising (ids_of es)
+  rising_from [] sorted = tt
+  rising_from (e ∷ es) sorted = (above_from e.0 es (first_part _ _ sorted), rising_from es (second_part _ _ sorted))
+
+  pub has_among : (m : FinMap nat_cmp X) (x : ℕ) → finmap.contains_key m x ≡ any_of x (finmap.keys m)
+  has_among m x = contains_key-keys m x ∙ any_by_order x (finmap.keys m)
+
+all_later : (ids : List ℕ) → AllByRecursion (IsAfter None) ids
+all_later [] = tt
+all_later (id ∷ ids) = (tt, all_later ids)
+
+module _ {X : Type 0} where
+  -- the keys of a map are a walk over whatever has these alone
+  pub walk_by : (has : ℕ → Bool) (m : FinMap nat_cmp X) → ((x : ℕ) → has x ≡ any_of x (finmap.keys m)) → IsWalk has None (finmap.keys m)
+  walk_by has m is = walk_of has None (finmap.keys m) (rising_from (finmap.entries m) (entries_sorted m)) (all_later (finmap.keys m)) (λ x _. is x)
+
+  pub keys_walk : (m : FinMap nat_cmp X) → IsWalk (λ id. finmap.contains_key m id) None (finmap.keys m)
+  keys_walk m = walk_by (λ id. finmap.contains_key m id) m (has_among m)

@@ -1,10 +1,10 @@
 //! The check of all stored rows, over several threads.
 
-ghost use Rattle.std.specs.Prelude.{◌≡◌, ◌≤◌, ◌<◌, ◌/◌, ◌↔◌, IfOk, None, length};
-ghost use Rattle.std.specs.Int.{div_ceil};
+ghost use Rattle.std.specs.Prelude.{◌≡◌, ◌≤◌, ◌<◌, ◌+◌, ◌*◌, ◌/◌, ◌↔◌, IfOk, None, length};
 ghost use Rattle.wot_types.specs.Levels.{rows_of};
 ghost use Rattle.wot_types.specs.Payload.{IsInRange};
-ghost use Rattle.wot_workers.specs.Pieces.{IsByPiece};
+ghost use Rattle.wot_levels.specs.Frontier.{weight};
+ghost use Rattle.wot_workers.specs.Pieces.{IsByPiece, IsPieceSize};
 ghost use Rattle.wot_check.specs.Comparison.{first_fallen};
 ghost use Rattle.wot_check.specs.FirstFault.{first_fault};
 ghost use Rattle.wot_check.specs.Stored.{IsFaultAt, IsFirstFault};
@@ -21,14 +21,15 @@ use wot_table::LentState;
 use wot_types::{KeyId, Mem, Rows, Steps};
 use wot_workers::{Gate, Workers, first_some, piece_number, piece_size};
 
-/// The first of these keys whose row doesn't stand.
+/// The first of these keys whose row doesn't stand. The certifications on each are read twice at most.
 fn first_fallen<L: Ledger>(
     state: &LentState<'_>,
     rows: &Rows,
     ids: &[KeyId],
     steps: &mut Steps<L>,
 ) -> Option<KeyId>
-    ensures { result ≡ first_fallen state.now rows.now ids.now }
+    ensures first { result ≡ first_fallen state.now rows.now ids.now }
+    ensures ticks { steps.new ≤ steps.old + 2 * weight state.now.keys ids.now }
 {
     for id in ids {
         if !row_stands(state, rows, *id, steps) {
@@ -75,8 +76,7 @@ fn check_pieces<R: Threads + Sync, G: Gate + Sync>(
     ids: &[KeyId],
     size: usize,
 ) -> Result<Vec<Option<KeyId>>, AllocError>
-    requires size { 1 ≤ size }
-    requires few { div_ceil (length ids.now) size ≤ 64 }
+    requires size { IsPieceSize workers.now.count (length ids.now) size }
     ensures { IfOk result (λ found. IsByPiece (first_fallen state.now rows.now) size ids.now found.items) }
 {
     let gate = workers.gate;

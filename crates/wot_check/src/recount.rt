@@ -2,17 +2,16 @@
 
 ghost use Rattle.std.specs.Prelude.{◌≡◌, ◌≤◌, ◌<◌, ◌/◌, ◌++◌, ℕ, List, IfOk, OnOk, None, length, option_to_list};
 ghost use Rattle.std.specs.FinMap as map;
-ghost use Rattle.std.specs.Int.{div_ceil};
 ghost use Rattle.std.specs.Option.{option_or};
 ghost use Rattle.wot_types.specs.declared.row.Row.{Row};
 ghost use Rattle.wot_types.specs.Levels.{kept_or, rows_of};
 ghost use Rattle.wot_types.specs.Payload.{IsInRange};
 ghost use Rattle.wot_levels.specs.Given.{given_row};
+ghost use Rattle.wot_workers.specs.Pieces.{IsPieceSize};
 ghost use Rattle.wot_check.specs.KeyWalk.{IsWalk};
 ghost use Rattle.wot_check.specs.Recount.{IsFoundByPiece, IsSpread, fresh_row, fresh_rows, row_among};
 
 use crate::counted::given_row;
-use crate::keys::keyring_keys;
 use std::alloc::{AllocError, Global};
 use std::marker::Brand;
 use std::sync::ledger::{Blank, Ledger};
@@ -103,8 +102,7 @@ fn count_pieces<R: Threads + Sync, G: Gate + Sync>(
     level: u8,
     size: usize,
 ) -> Result<Vec<Result<List<Row>, Mem>>, AllocError>
-    requires size { 1 ≤ size }
-    requires few { div_ceil (length ids.now) size ≤ 64 }
+    requires size { IsPieceSize workers.now.count (length ids.now) size }
     ensures { IfOk result (λ found. IsFoundByPiece (fresh_rows state.now rows.now level) size ids.now found.items) }
 {
     let gate = workers.gate;
@@ -154,8 +152,7 @@ fn with_level<R: Threads + Sync, G: Gate + Sync>(
     level: u8,
     size: usize,
 ) -> Result<Rows, Mem>
-    requires size { 1 ≤ size }
-    requires few { div_ceil (length ids.now) size ≤ 64 }
+    requires size { IsPieceSize workers.now.count (length ids.now) size }
     requires walk { IsWalk (λ id. map.contains_key state.now.keys id) None ids.now }
     ensures { IfOk result (λ next. (id : ℕ) → map.get next id ≡ kept_or (map.get rows id) (given_row state.now rows level id)) }
 {
@@ -172,7 +169,7 @@ pub fn rows_by<R: Threads + Sync, G: Gate + Sync>(
     requires ranges { IsInRange state.now.options }
     ensures { IfOk result (λ rows. rows ≡ rows_of state.now) }
 {
-    let ids = keyring_keys(alloc, state.table())?;
+    let ids = state.table().ids()?;
     let size = piece_size(ids.len(), workers.count);
     let none = Rows::new(alloc)?;
     let mut rows = with_level(workers, state, none, &ids, 0, size)?;

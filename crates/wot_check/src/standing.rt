@@ -1,9 +1,10 @@
 //! Whether a stored row is the one that the others give its key.
 
-ghost use Rattle.std.specs.Prelude.{◌≡◌, ◌≤◌, ◌+◌, ◌*◌, Some, is_some};
+ghost use Rattle.std.specs.Prelude.{◌≡◌, ◌≤◌, ◌+◌, ◌*◌, Some, None, is_some};
 ghost use Rattle.std.specs.Bool.{Decides};
 ghost use Rattle.std.specs.FinMap as map;
 ghost use Rattle.std.specs.Option.{option_copied};
+ghost use Rattle.wot_types.specs.declared.row.Row.{Row};
 ghost use Rattle.wot_types.specs.Keyring.{certs_at};
 ghost use Rattle.wot_levels.specs.Given.{given_row};
 ghost use Rattle.wot_levels.specs.Standings.{standing_row};
@@ -40,6 +41,7 @@ fn has_standing(row: &Row, standing: &Standing<'_>) -> bool
 fn is_given<L: Ledger>(state: &LentState<'_>, rows: &Rows, row: &Row, steps: &mut Steps<L>) -> bool
     ensures same { result ≡ same_rows (Some row.now) (given_row state.now rows.now row.now.level row.now.key) }
     ensures ticks { steps.new ≤ steps.old + certs_at state.now.keys row.now.key }
+    ensures unread { row.now.level ≡ 0 → steps.new ≡ steps.old }
 {
     match given(state, rows, row.key, row.level, steps) {
         Some(standing) => has_standing(row, &standing),
@@ -60,6 +62,7 @@ fn is_given_below<L: Ledger>(
 ) -> bool
     ensures given { result ≡ is_some (row_below state.now rows.now id bound) }
     ensures ticks { steps.new ≤ steps.old + certs_at state.now.keys id }
+    ensures unread { bound ≡ 0 → steps.new ≡ steps.old }
 {
     if bound == 0 {
         return false;
@@ -80,6 +83,7 @@ fn is_counted<L: Ledger>(
     requires stored { map.get rows.now row.now.key ≡ Some row.now }
     ensures stands { Decides result (Stands state.now rows.now row.now.key) }
     ensures ticks { steps.new ≤ steps.old + 2 * certs_at state.now.keys row.now.key }
+    ensures unread { row.now.level ≡ 0 → steps.new ≡ steps.old }
 {
     if state.options().depth <= row.level {
         return false;
@@ -90,7 +94,7 @@ fn is_counted<L: Ledger>(
     is_given(state, rows, row, steps)
 }
 
-/// Whether a key's row, or its want of one, is what the rows of the others give it. Its certifications are read twice at most.
+/// Whether a key's row, or its want of one, is what the rows of the others give it. Its certifications are read twice at most: once where it has no row, and not at all where it has one of level 0.
 pub fn row_stands<L: Ledger>(
     state: &LentState<'_>,
     rows: &Rows,
@@ -99,6 +103,8 @@ pub fn row_stands<L: Ledger>(
 ) -> bool
     ensures stands { Decides result (Stands state.now rows.now id) }
     ensures ticks { steps.new ≤ steps.old + 2 * certs_at state.now.keys id }
+    ensures without_a_row { map.get rows.now id ≡ None → steps.new ≤ steps.old + certs_at state.now.keys id }
+    ensures level_0 { (row : Row) → map.get rows.now id ≡ Some row → row.level ≡ 0 → steps.new ≡ steps.old }
 {
     match rows.get(id) {
         Some(row) => is_counted(state, rows, row, steps),

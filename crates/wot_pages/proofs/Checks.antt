@@ -1,75 +1,87 @@
 -- Seals held against contents: page by page, piece by piece, and beside the pages of a side.
-use Rattle.std.proofs.Common.{◌≡◌, ◌⊎◌, inl, inr, ℕ, zero, suc, ◌+◌, ◌*◌, ◌<◌, ◌≤◌, Bool, true, false, cond, not, List, [], ◌∷◌, ◌++◌, length, take, drop, get_or, Option, Some, None, refl, sym, ◌∙◌, ap, arith, nat_eq}
+use Rattle.std.proofs.Common.{◌≡◌, ◌⊎◌, inl, inr, ℕ, suc, ◌+◌, ◌-◌, ◌*◌, ◌<◌, ◌≤◌, Bool, true, false, cond, not, List, [], ◌∷◌, ◌++◌, length, take, drop, get_or, find, Option, Some, None, refl, sym, ◌∙◌, ap, arith, nat_eq}
 use Rattle.std.specs.Cmp.Lexicographic.{pointwise}
 use Rattle.std.specs.Fork.{slice_chunk}
 use Rattle.std.specs.Int.{div_ceil}
-use Rattle.std.specs.List.{slice_get}
+use Rattle.std.specs.List.{range_with_len, slice_get}
 use Rattle.std.specs.Option.{option_or}
-use Rattle.std.proofs.lemmas.Bool.{cases_lt, not-false, not-true}
+use Rattle.std.proofs.lemmas.Bool.{cases_lt}
 use Rattle.std.proofs.lemmas.Grind.{div_ceil_times}
-use Rattle.std.proofs.lemmas.List.{at_drop_more, drop_all, drop-drop, length-drop, length-take-le, take-append-drop}
-use Rattle.std.proofs.lemmas.List.FromFn.{length-map-range_with_len, map-range_with_len_more}
-use Rattle.std.proofs.lemmas.Option.{none-some}
+use Rattle.std.proofs.lemmas.List.{at_drop_more, drop_all, drop-drop, get_or_append_left, get_or-append_right, length-append, length-drop, length-take-le, take-append-drop}
+use Rattle.std.proofs.lemmas.List.Folds.{find-append}
+use Rattle.std.proofs.lemmas.List.FromFn.{get_or-map-range_with_len, length-map-range_with_len}
 use Rattle.wot_pages.specs.Page.{seal}
 use Rattle.wot_pages.specs.Pages.{content_in, content_at, seal_at, seals_of, is_sealed, seal_fault}
 use Rattle.wot_pages.specs.Checking.{first_wrong}
 use Rattle.wot_workers.specs.Pieces.{IsByPlace, first_some}
-use Rattle.wot_pages.proofs.Runs.{find_suc}
+use Rattle.wot_pages.proofs.Runs.{find_found, find_same, range_append}
 
 -- a content as it is cut out
 pub content_cut : (contents : List ℕ) (k at long : ℕ) → at ≡ 4064 * k → long ≡ 4064 → take long (drop at contents) ≡ content_in contents k
 content_cut contents k at long there whole = λ i. take (whole i) (drop (there i) contents)
 
 module _ (epoch : ℕ) (contents : List ℕ) where
+  abbrev is_wrong : ℕ → List ℕ → Bool
+  is_wrong k found = not (pointwise nat_eq found (seal epoch k (content_in contents k)))
+
+  -- the test by which the first is found
+  abbrev wrong_at : ℕ → List (List ℕ) → ℕ → Bool
+  wrong_at from seals k = is_wrong k (get_or seals (k - from) [])
+
+  -- one that is told is one of the pages
+  pub wrong_within : (k : ℕ) (seals : List (List ℕ)) → first_wrong epoch 0 contents seals ≡ Some k → k < length seals
+  wrong_within k seals is = (find_found (wrong_at 0 seals) (length seals) k is).0
+
+  pub wrong_on : (from : ℕ) (xs ys : List (List ℕ)) → first_wrong epoch from contents (xs ++ ys) ≡ option_or (first_wrong epoch from contents xs) (first_wrong epoch (from + length xs) contents ys)
+  wrong_on from xs ys =
+      let all = wrong_at from (xs ++ ys) in
+      ap (λ (n : ℕ). find all (range_with_len from n)) (length-append xs ys) ∙ ap (λ (l : List ℕ). find all l) (range_append from (length xs) (length ys))
+      ∙ find-append all (range_with_len from (length xs)) (range_with_len (from + length xs) (length ys))
+      ∙ (λ i. option_or (find_same all (wrong_at from xs) from (length xs) in_front i) (find_same all (wrong_at (from + length xs) ys) (from + length xs) (length ys) behind i))
+    where
+      in_front : (k : ℕ) → from ≤ k → k < from + length xs → wrong_at from (xs ++ ys) k ≡ wrong_at from xs k
+      in_front k le lt = ap (is_wrong k) (get_or_append_left xs ys [] (k - from) (omega (arith, le, lt)))
+
+      behind : (k : ℕ) → from + length xs ≤ k → k < from + length xs + length ys → wrong_at from (xs ++ ys) k ≡ wrong_at (from + length xs) ys k
+      behind k le lt =
+          let same : k - from - length xs ≡ k - (from + length xs) = omega arith in
+          ap (is_wrong k) (get_or-append_right xs ys (length xs) (k - from) [] refl (omega (arith, le)) ∙ ap (λ (j : ℕ). get_or ys j []) same)
+
   -- ---- page by page
 
-  abbrev is_right : ℕ → List ℕ → Bool
-  is_right k found = pointwise nat_eq found (seal epoch k (content_in contents k))
+  wrong_one : (k : ℕ) (found : List ℕ) → first_wrong epoch k contents (found ∷ []) ≡ cond (is_wrong k found) (Some k) None
+  wrong_one k found = let start : k - k ≡ 0 = omega arith in ap (λ (j : ℕ). cond (is_wrong k (get_or (found ∷ []) j [])) (Some k) None) start
 
   module _ (seals : List (List ℕ)) (from i : ℕ) (inside : i < length seals) where
     one_on : first_wrong epoch (from + i) contents (drop i seals)
-        ≡ cond (is_right (from + i) (get_or seals i [])) (first_wrong epoch (from + (i + 1)) contents (drop (i + 1) seals)) (Some (from + i))
+        ≡ cond (is_wrong (from + i) (get_or seals i [])) (Some (from + i)) (first_wrong epoch (from + (i + 1)) contents (drop (i + 1) seals))
     one_on =
-        let next : suc (from + i) ≡ from + (i + 1) = omega arith in
+        let next : from + i + 1 ≡ from + (i + 1) = omega arith in
+        let found = get_or seals i [] in
         at_drop_more (first_wrong epoch (from + i) contents) seals i [] inside
-        ∙ ap (λ (k : ℕ). cond (is_right (from + i) (get_or seals i [])) (first_wrong epoch k contents (drop (i + 1) seals)) (Some (from + i))) next
+        ∙ wrong_on (from + i) (found ∷ []) (drop (i + 1) seals)
+        ∙ (λ j. option_or (wrong_one (from + i) found j) (first_wrong epoch (next j) contents (drop (i + 1) seals)))
+        ∙ by_test (is_wrong (from + i) found) (first_wrong epoch (from + (i + 1)) contents (drop (i + 1) seals))
+      where
+        by_test : (b : Bool) (rest : Option ℕ) → option_or (cond b (Some (from + i)) None) rest ≡ cond b (Some (from + i)) rest
+        by_test true rest = refl
+        by_test false rest = refl
 
     -- what the comparison with the seal that was counted has told
     module _ (counted : List ℕ) (differs : Bool) (right : counted ≡ seal epoch (from + i) (content_in contents (from + i))) (is : differs ≡ not (pointwise nat_eq (get_or seals i []) counted)) where
-      compared : (b : Bool) → pointwise nat_eq (get_or seals i []) counted ≡ b
-          → first_wrong epoch (from + i) contents (drop i seals) ≡ cond b (first_wrong epoch (from + (i + 1)) contents (drop (i + 1) seals)) (Some (from + i))
-      compared b same =
-          one_on
-          ∙ ap (λ (t : Bool). cond t (first_wrong epoch (from + (i + 1)) contents (drop (i + 1) seals)) (Some (from + i))) (ap (pointwise nat_eq (get_or seals i [])) (sym right) ∙ same)
+      compared : differs ≡ is_wrong (from + i) (get_or seals i [])
+      compared = is ∙ ap (λ (l : List ℕ). not (pointwise nat_eq (get_or seals i []) l)) right
+
+      chosen : (b : Bool) → differs ≡ b → first_wrong epoch (from + i) contents (drop i seals) ≡ cond b (Some (from + i)) (first_wrong epoch (from + (i + 1)) contents (drop (i + 1) seals))
+      chosen b told = one_on ∙ ap (λ (t : Bool). cond t (Some (from + i)) (first_wrong epoch (from + (i + 1)) contents (drop (i + 1) seals))) (sym compared ∙ told)
 
       pub wrong_here : differs ≡ true → Some (from + i) ≡ first_wrong epoch (from + i) contents (drop i seals)
-      wrong_here yes_it_does = sym (compared false (not-true _ (sym is ∙ yes_it_does)))
+      wrong_here yes_it_does = sym (chosen true yes_it_does)
 
       pub right_here : differs ≡ false → first_wrong epoch (from + (i + 1)) contents (drop (i + 1) seals) ≡ first_wrong epoch (from + i) contents (drop i seals)
-      right_here no_it_doesnt = sym (compared true (not-false _ (sym is ∙ no_it_doesnt)))
-
-  -- one that is told is one of the pages
-  pub wrong_within : (from k : ℕ) (seals : List (List ℕ)) → first_wrong epoch from contents seals ≡ Some k → k < from + length seals
-  wrong_within from k [] is = absurd (none-some k is)
-  wrong_within from k (found ∷ seals) is = by_test (is_right from found) is (wrong_within (suc from) k seals)
-    where
-      by_test : (b : Bool) → cond b (first_wrong epoch (suc from) contents seals) (Some from) ≡ Some k
-          → (first_wrong epoch (suc from) contents seals ≡ Some k → k < suc from + length seals) → k < from + length (found ∷ seals)
-      by_test true later behind = omega (arith, behind later)
-      by_test false here behind = let same : from ≡ k = cc here in omega (arith, same)
+      right_here no_it_doesnt = sym (chosen false no_it_doesnt)
 
   -- ---- piece by piece
-
-  pub wrong_on : (from : ℕ) (xs ys : List (List ℕ)) → first_wrong epoch from contents (xs ++ ys) ≡ option_or (first_wrong epoch from contents xs) (first_wrong epoch (from + length xs) contents ys)
-  wrong_on from [] ys = let same : from ≡ from + 0 = omega arith in ap (λ (k : ℕ). first_wrong epoch k contents ys) same
-  wrong_on from (found ∷ xs) ys =
-      let same : suc from + length xs ≡ from + suc (length xs) = omega arith in
-      by_test (is_right from found) (first_wrong epoch (suc from) contents (xs ++ ys)) (first_wrong epoch (suc from) contents xs) (first_wrong epoch (from + length (found ∷ xs)) contents ys)
-      (wrong_on (suc from) xs ys ∙ ap (λ (k : ℕ). option_or (first_wrong epoch (suc from) contents xs) (first_wrong epoch k contents ys)) same)
-    where
-      by_test : (t : Bool) (a b c : Option ℕ) → a ≡ option_or b c → cond t a (Some from) ≡ option_or (cond t b (Some from)) c
-      by_test true a b c is = is
-      by_test false a b c is = refl
 
   module _ (size : ℕ) (some : 0 < size) (seals : List (List ℕ)) where
     -- behind the last piece nothing is left
@@ -132,31 +144,13 @@ module _ (epoch : ℕ) (contents : List ℕ) where
 
 -- ---- beside the pages of a side
 
-module _ (epoch n : ℕ) (bytes contents : List ℕ) (each : (k : ℕ) → k < n → content_in contents k ≡ content_at bytes k) where
-  seals_suc : (m : ℕ) → seals_of (suc m) bytes ≡ seals_of m bytes ++ seal_at bytes m ∷ []
-  seals_suc m =
-      let one : suc m ≡ m + 1 = omega arith in
-      ap (λ (k : ℕ). seals_of k bytes) one ∙ map-range_with_len_more (λ k. seal_at bytes k) 0 m m (omega arith)
-
-  last_page : (m : ℕ) → m < n → first_wrong epoch (length (seals_of m bytes)) contents (seal_at bytes m ∷ []) ≡ cond (not (is_sealed epoch bytes m)) (Some m) None
-  last_page m lt =
-      ap (λ (k : ℕ). first_wrong epoch k contents (seal_at bytes m ∷ [])) (length-map-range_with_len (λ k. seal_at bytes k) 0 m)
-      ∙ ap (λ (l : List ℕ). cond (pointwise nat_eq (seal_at bytes m) (seal epoch m l)) None (Some m)) (each m lt)
-      ∙ turned (is_sealed epoch bytes m)
-    where
-      turned : (b : Bool) → cond b None (Some m) ≡ cond (not b) (Some m) None
-      turned true = refl
-      turned false = refl
-
-  wrong_below : (m : ℕ) → m ≤ n → first_wrong epoch 0 contents (seals_of m bytes) ≡ seal_fault epoch m bytes
-  wrong_below zero le = refl
-  wrong_below (suc m) le =
-      let none : 0 + length (seals_of m bytes) ≡ length (seals_of m bytes) = omega arith in
-      ap (first_wrong epoch 0 contents) (seals_suc m) ∙ wrong_on epoch contents 0 (seals_of m bytes) (seal_at bytes m ∷ [])
-      ∙ ap (λ (k : ℕ). option_or (first_wrong epoch 0 contents (seals_of m bytes)) (first_wrong epoch k contents (seal_at bytes m ∷ []))) none
-      ∙ (λ i. option_or (wrong_below m (omega (arith, le)) i) (last_page m (omega (arith, le)) i))
-      ∙ sym (find_suc (λ k. not (is_sealed epoch bytes k)) m)
-
-  -- the check of what was read tells the first fault of the side
-  pub wrong_of_side : first_wrong epoch 0 contents (seals_of n bytes) ≡ seal_fault epoch n bytes
-  wrong_of_side = wrong_below n (omega arith)
+-- the check of what was read tells the first fault of the side
+pub wrong_of_side : (epoch n : ℕ) (bytes contents : List ℕ) → ((k : ℕ) → k < n → content_in contents k ≡ content_at bytes k)
+    → first_wrong epoch 0 contents (seals_of n bytes) ≡ seal_fault epoch n bytes
+wrong_of_side epoch n bytes contents each =
+    ap (λ (m : ℕ). find (wrong_at epoch contents 0 (seals_of n bytes)) (range_with_len 0 m)) (length-map-range_with_len (λ k. seal_at bytes k) 0 n)
+    ∙ find_same (wrong_at epoch contents 0 (seals_of n bytes)) (λ k. not (is_sealed epoch bytes k)) 0 n
+    (λ k le lt i. not (pointwise nat_eq (read k lt i) (seal epoch k (each k (omega (arith, lt)) i))))
+  where
+    read : (k : ℕ) → k < 0 + n → get_or (seals_of n bytes) (k - 0) [] ≡ seal_at bytes k
+    read k lt = get_or-map-range_with_len (λ j. seal_at bytes j) 0 n (k - 0) k [] (omega (arith, lt)) (omega arith)

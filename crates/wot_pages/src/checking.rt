@@ -4,7 +4,7 @@ ghost use Rattle.std.specs.Prelude.{◌≡◌, ◌+◌, ◌*◌, ◌≤◌, leng
 ghost use Rattle.std.specs.Int.{div_ceil};
 ghost use Rattle.wot_types.specs.PagePlaces.{content_size};
 ghost use Rattle.wot_pages.specs.Checking.{first_wrong};
-ghost use Rattle.wot_workers.specs.Pieces.{IsByPlace};
+ghost use Rattle.wot_workers.specs.Pieces.{IsPieceSize, IsByPlace};
 
 use crate::page::{CONTENT, seal};
 use std::alloc::{AllocError, Global};
@@ -27,20 +27,20 @@ fn first_wrong(epoch: u64, from: u64, contents: &[u8], seals: &[[u8; 32]]) -> Op
 }
 
 // What the workers tell, piece by piece.
-fn check_pieces<R: Threads + Sync>(
-    rt: &R,
+fn check_pieces<R: Threads + Sync, G: Gate + Sync>(
+    workers: &Workers<'_, R, G>,
     alloc: Global,
     epoch: u64,
     contents: &[u8],
     seals: &[[u8; 32]],
     size: usize,
 ) -> Result<Vec<Option<u64>>, AllocError>
-    requires size { 1 ≤ size }
+    requires size { IsPieceSize workers.now.count (length seals.now) size }
     requires there { content_size * length seals.now ≤ length contents.now }
     ensures { IfOk result (λ told. IsByPlace (λ from piece. first_wrong epoch from contents.now piece) size seals.now told.items) }
 {
     map_chunks(
-        rt,
+        workers.rt,
         alloc,
         seals,
         size,
@@ -63,6 +63,6 @@ pub fn check_seals<R: Threads + Sync, G: Gate + Sync>(
     ensures { IfOk result (λ fault. fault ≡ first_wrong epoch 0 contents.now seals.now) }
 {
     let size = piece_size(seals.len(), workers.count);
-    let told = check_pieces(workers.rt, alloc, epoch, contents, seals, size)?;
+    let told = check_pieces(workers, alloc, epoch, contents, seals, size)?;
     Ok(first_some(&told))
 }

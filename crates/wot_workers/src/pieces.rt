@@ -1,15 +1,12 @@
 //! How work is cut into pieces.
 
-ghost use Rattle.std.specs.Prelude.{ℕ, ◌≡◌, ◌≤◌, ◌<◌, ◌/◌};
-ghost use Rattle.std.specs.Int.{div_ceil};
-ghost use Rattle.wot_workers.specs.Pieces.{first_some};
+ghost use Rattle.std.specs.Prelude.{◌≡◌, ◌≤◌, ◌<◌, ◌/◌};
+ghost use Rattle.wot_workers.specs.Pieces.{IsPieceSize, first_some};
 
-/// The least size of pieces, at least 1, that makes at most so many of them.
+/// The size of pieces by which so many workers share so many things.
 pub fn piece_size(len: usize, workers: u32) -> usize
     requires some { 1 ≤ workers }
-    ensures positive { 1 ≤ result }
-    ensures few { div_ceil len result ≤ workers }
-    ensures least { (size : ℕ) → 1 ≤ size → div_ceil len size ≤ workers → result ≤ size }
+    ensures { IsPieceSize workers len result }
 {
     len.div_ceil(workers as usize).max(1)
 }

@@ -1,16 +1,36 @@
-use Rattle.std.proofs.Common.{[], ◌∷◌, ◌++◌, None, append_assoc, append-nil, ap, subst, sym, ◌∙◌}
-use Rattle.wot_check.specs.KeyWalk.{IsWalk, is_checked}
+use Rattle.std.proofs.Common.{rules, ℕ, ◌<◌, ◌^◌, map, None, ap, subst, sym, ◌∙◌}
+use Rattle.std.specs.FinMap as finmap
+use Rattle.wot_check.specs.KeyWalk.{IsWalk, ids_left}
+use Rattle.wot_check.proofs.Merging.{last_of, merge_end, merge_later, merge_less, merge_on, merge_start}
+use Rattle.wot_check.proofs.Walked.{keys_walk}
 use Rattle.wot_check.proofs.keys.checked_keys.Goals as goal
 
 pub loop-id-init : goal.loop-id-init
-loop-id-init c = λ rest walk. subst (λ items. IsWalk (is_checked c.args.table.now c.args.rows.now) None (items ++ rest)) (sym c.new-ids.ensures.items) walk
+loop-id-init c =
+    let keys = c.args.table.now in
+    let rows = c.args.rows.now in
+    let left = ids_left c.next_of-key.result c.next_of-key.new.walk in
+    let walked = subst (IsWalk (λ x. finmap.contains_key keys x) None) (sym (ap (map (λ e. e.0)) c.walk-walk.ensures.whole) ∙ c.next_of-key.ensures) (keys_walk keys) in
+    merge_start (λ x. finmap.contains_key keys x) (λ x. finmap.contains_key rows x) c.new-ids.result.items left c.next-row.result c.new-ids.ensures.items walked c.next-row.ensures.next
+
+pub loop-id-smaller : goal.loop-id-smaller
+loop-id-smaller c =
+    let l = c.loop-id in
+    let small : c.in-Some.id < 2 ^ 64 = search rules in
+    merge_less (λ x. finmap.contains_key c.args.table.now x) (λ x. finmap.contains_key c.args.rows.now x) l.ids.items l.key l.walk l.row l.invariant c.in-Some.id c.in-Some.ensures c.push.new.self.items
+    c.in_ok-push.ensures.items small
 
 pub loop-id-preserved : goal.loop-id-preserved
-loop-id-preserved c = λ rest walk.
-    let id = c.in-Some.id in
-    let ids = c.loop-id.ids.items in
-    subst (IsWalk (is_checked c.args.table.now c.args.rows.now) None) (sym (ap (λ xs. xs ++ rest) c.in_ok-push.ensures.items ∙ append_assoc ids (id ∷ []) rest))
-    (c.loop-id.invariant (id ∷ rest) (c.in-Some.ensures, walk))
+loop-id-preserved c =
+    let l = c.loop-id in
+    let of_keys = λ (x : ℕ). finmap.contains_key c.args.table.now x in
+    let of_rows = λ (x : ℕ). finmap.contains_key c.args.rows.now x in
+    let before = last_of None l.ids.items in
+    let later = merge_later of_keys of_rows l.ids.items l.key l.walk l.row l.invariant c.in-Some.id c.in-Some.ensures in
+    merge_on of_keys of_rows l.ids.items l.key l.walk l.row l.invariant c.in-Some.id c.in-Some.ensures c.push.new.self.items (ids_left c.key_behind-key.result c.key_behind-key.new.walk) c.row_behind-row.result
+    c.in_ok-push.ensures.items (c.key_behind-key.ensures of_keys before later l.invariant.of_keys) (c.row_behind-row.ensures before later l.invariant.of_rows)
 
 pub returns : goal.returns
-returns c = subst (IsWalk (is_checked c.args.table.now c.args.rows.now) None) (append-nil c.loop-id.ids.items) (c.loop-id.invariant [] c.in_default.ensures)
+returns c =
+    let l = c.loop-id in
+    merge_end (λ x. finmap.contains_key c.args.table.now x) (λ x. finmap.contains_key c.args.rows.now x) l.ids.items l.key l.walk l.row l.invariant c.in_default.ensures

@@ -1,11 +1,10 @@
-use Rattle.std.proofs.Common.{ℕ, ◌+◌, ◌-◌, ◌^◌, ◌++◌, List, None}
-use Rattle.std.specs.Option.{option_map_or}
-use Rattle.wot_check.specs.KeyWalk.{IsWalk, is_checked}
+use Rattle.std.specs.FinMap as finmap
+use Rattle.wot_check.specs.KeyWalk.{ids_left}
+use Rattle.wot_check.proofs.Merging.{IsMerging, room_behind}
 use Rattle.wot_check.proofs.keys.checked_keys.Given as goal
 
--- with the keys that are left it is a walk over all
 abbrev pub invariant-loop-id : goal.invariant-loop-id
-invariant-loop-id l = (rest : List ℕ) → IsWalk (is_checked l.table l.rows) l.after rest → IsWalk (is_checked l.table l.rows) None (l.ids.items ++ rest)
+invariant-loop-id l = IsMerging (λ x. finmap.contains_key l.table x) (λ x. finmap.contains_key l.rows x) l.ids.items (ids_left l.key l.walk) l.row
 
 abbrev pub decreases-loop-id : goal.decreases-loop-id
-decreases-loop-id l = option_map_or (λ id. 2 ^ 64 - (id + 1)) l.after (2 ^ 64)
+decreases-loop-id l = room_behind l.ids.items

@@ -14,7 +14,7 @@ returns-in-Ok-Some-clause-there g c q is =
     let same : c.in-Ok-Some.k ≡ q = cc is in
     let told : Some c.in-Ok-Some.k ≡ first_wrong c.args.epoch 0 c.in-Ok.read.contents.items c.in-Ok.read.seals.items =
     sym c.in-Ok-Some.field-0-is ∙ c.in-Ok-Some.ensures ∙ (λ i. first_wrong c.args.epoch 0 (c.deref.ensures.value i) (c.deref-2.ensures.value i)) in
-    omega (arith, same, c.in-Ok.ensures.few, wrong_within c.args.epoch c.in-Ok.read.contents.items 0 c.in-Ok-Some.k c.in-Ok.read.seals.items (sym told))
+    omega (arith, same, c.in-Ok.ensures.few, wrong_within c.args.epoch c.in-Ok.read.contents.items c.in-Ok-Some.k c.in-Ok.read.seals.items (sym told))
 
 pub returns-in-Ok-Some-clause-seal : goal.returns-in-Ok-Some-clause-seal
 returns-in-Ok-Some-clause-seal g c q is =
