@@ -1,32 +1,22 @@
 -- How the printed lines of a key and of a user ID come together.
-use Rattle.std.proofs.Common.{◌≡◌, ℕ, Bool, true, false, List, [], ◌∷◌, ◌++◌, append_assoc, append-nil, Option, Some, None, if◌then◌else◌, IfOk, OnOk, Result, Ok, Err, option_map, option_and_then, slice_get, sym, ap, subst, ◌∙◌}
-use Rattle.std.specs.FinMap as finmap
+use Rattle.std.proofs.Common.{◌≡◌, ℕ, Bool, true, false, List, [], ◌∷◌, ◌++◌, append_assoc, append-nil, Option, Some, None, if◌then◌else◌, IfOk, OnOk, Result, Ok, Err, option_map, sym, ap, subst, ◌∙◌}
 use Rattle.std.specs.List.{flat_map}
 use Rattle.std.proofs.lemmas.Bool.{cond-false, cond-true}
 use Rattle.wot_types.specs.declared.key.Key.{Key}
 use Rattle.wot_types.specs.declared.letter.Letter.{Letter}
 use Rattle.wot_types.specs.State.{State}
 use Rattle.wot_types.specs.declared.user.User.{User}
-use Rattle.wot_types.specs.Letters.{key_letter, key_letter_at, letter_at, user_letter}
-use Rattle.wot_types.specs.Levels.{rows_of}
 use Rattle.wot_types.specs.Listing.{Spells}
 use Rattle.wot_types.specs.Printing.{cert_line, list_text, user_line}
-use Rattle.wot_types.specs.Selection.{Spot, spots_from}
+use Rattle.wot_types.specs.Selection.{Spot}
 use Rattle.wot_print_laws.specs.Fits.{FitsState}
 use Rattle.wot_print_laws.specs.ListingLines.{listing_lines}
 
 same_letter : (a b : Letter) → Some a ≡ Some b → a ≡ b
 same_letter a b e = cc
 
-pub letter_found : (s : State) (id user : ℕ) (key : Key) (spot : Spot) (letter : Letter) → finmap.get s.keys id ≡ Some key → slice_get (spots_from 0 key.users) user ≡ Some spot
-    → letter_at s id user ≡ Some letter → letter ≡ user_letter s (rows_of s) id key spot
-letter_found s id user key spot letter is at found =
-    same_letter letter (user_letter s (rows_of s) id key spot)
-    (sym found ∙ ap (option_and_then (λ (k : Key). option_map (user_letter s (rows_of s) id k) (slice_get (spots_from 0 k.users) user))) is ∙ ap (option_map (user_letter s (rows_of s) id key)) at)
-
-pub key_letter_found : (s : State) (id : ℕ) (key : Key) (letter : Letter) → finmap.get s.keys id ≡ Some key → key_letter_at s id ≡ Some letter → letter ≡ key_letter s (rows_of s) id key
-key_letter_found s id key letter is found =
-    same_letter letter (key_letter s (rows_of s) id key) (sym found ∙ ap (option_map (key_letter s (rows_of s) id)) is)
+pub letter_found : (letter_of : Spot → Letter) (found : Option Spot) (spot : Spot) (letter : Letter) → found ≡ Some spot → option_map letter_of found ≡ Some letter → letter ≡ letter_of spot
+letter_found letter_of found spot letter at told = same_letter letter (letter_of spot) (sym told ∙ ap (option_map letter_of) at)
 
 -- a user ID's line, and its certifications where they are printed too
 pub with_certs : (sigs : Bool) (letter : Letter) (user : User) (old now next : List ℕ) → now ≡ old ++ user_line letter user → sigs ≡ true → next ≡ now ++ flat_map cert_line user.certs

@@ -16,8 +16,8 @@ use std::alloc::Global;
 use std::marker::Brand;
 use std::sync::ledger::{Blank, Ledger};
 use wot_levels::{user_in, verdict_in};
-use wot_live::{Engine, letter_by};
-use wot_table::{KeyHead, Keyblock};
+use wot_live::letter_by;
+use wot_table::{KeyHead, Keyblock, LentState};
 use wot_types::{Letter, Mem, Rows, Steps};
 
 /// How many user IDs have each letter. A count stands still at 2^64 - 1.
@@ -78,10 +78,10 @@ impl LetterCounts {
 }
 
 /// `tally:ROWS:U:F:M:Q:D:R:E:`, with the letters that the user IDs have by these rows.
-pub fn tally(alloc: Global, engine: &Engine, rows: &Rows) -> Result<Vec<u8>, Mem>
-    ensures { IfOk result (λ text. text.items ≡ tally_line engine.now rows.now) }
+pub fn tally(alloc: Global, state: &LentState<'_>, rows: &Rows) -> Result<Vec<u8>, Mem>
+    ensures { IfOk result (λ text. text.items ≡ tally_line state.now rows.now) }
 {
-    let counts = count_letters::<Brand>(engine, rows, Blank::new(1));
+    let counts = count_letters::<Brand>(state, rows, Blank::new(1));
     counts_line(alloc, rows, &counts)
 }
 
@@ -104,14 +104,14 @@ fn count_rows(rows: &Rows) -> u64
 }
 
 /// The letters of all user IDs, over a counter of its own for the certifications that are read.
-fn count_letters<L: Ledger>(engine: &Engine, rows: &Rows, blank: Blank) -> LetterCounts
+fn count_letters<L: Ledger>(state: &LentState<'_>, rows: &Rows, blank: Blank) -> LetterCounts
     requires own { (blank.name ≡ L.name) × (blank.parts ≡ L.parts) × (0 < L.parts) }
-    ensures { result ≡ counts_of (all_letters engine.now rows.now) }
+    ensures { result ≡ counts_of (all_letters state.now rows.now) }
 {
     let mut steps = Steps::<L>::open(blank);
     let mut counts = LetterCounts::new();
-    for keyblock in engine.table().walk() {
-        count_users(&mut counts, engine, rows, &keyblock, &mut steps);
+    for keyblock in state.table().walk() {
+        count_users(&mut counts, state, rows, &keyblock, &mut steps);
     }
     counts
 }
@@ -119,23 +119,23 @@ fn count_letters<L: Ledger>(engine: &Engine, rows: &Rows, blank: Blank) -> Lette
 /// The letters of a key's user IDs.
 pub fn count_users<L: Ledger>(
     counts: &mut LetterCounts,
-    engine: &Engine,
+    state: &LentState<'_>,
     rows: &Rows,
     keyblock: &Keyblock<'_>,
     steps: &mut Steps<L>,
 )
     ensures { (letters : List Letter) → counts.old ≡ counts_of letters
-        → counts.new ≡ counts_of (letters ++ user_letters engine.now rows.now keyblock.now.0 keyblock.now.1) }
+        → counts.new ≡ counts_of (letters ++ user_letters state.now rows.now keyblock.now.0 keyblock.now.1) }
 {
     let head = keyblock.key();
     for user in 0..head.users {
-        counts.add(letter_over(engine, rows, keyblock, &head, user, steps));
+        counts.add(letter_over(state, rows, keyblock, &head, user, steps));
     }
 }
 
 /// The letter of a user ID, numbered from 0, by these rows.
 fn letter_over<L: Ledger>(
-    engine: &Engine,
+    state: &LentState<'_>,
     rows: &Rows,
     keyblock: &Keyblock<'_>,
     key: &KeyHead<'_>,
@@ -145,12 +145,11 @@ fn letter_over<L: Ledger>(
     requires there { IsSome (spot_of keyblock.now.1 user) }
     requires head { IsKeyHead keyblock.now.1 key.now }
     ensures { (spot : Spot) → spot_of keyblock.now.1 user ≡ Some spot
-        → result ≡ user_letter engine.now rows.now keyblock.now.0 keyblock.now.1 spot }
+        → result ≡ user_letter state.now rows.now keyblock.now.0 keyblock.now.1 spot }
 {
-    let state = engine.lent();
-    let count = verdict_in(keyblock, &state, rows, user, steps);
+    let count = verdict_in(keyblock, state, rows, user, steps);
     let head = user_in(keyblock, user).unwrap();
-    letter_by(&state, rows.get(keyblock.id()), key, &head, &count)
+    letter_by(state, rows.get(keyblock.id()), key, &head, &count)
 }
 
 /// The counts in the order `u f m q - r e`.

@@ -7,11 +7,11 @@ ghost use Rattle.wot_types.specs.Arrangement.{spot_of};
 ghost use Rattle.wot_types.specs.Keyring.{cert_total};
 ghost use Rattle.wot_types.specs.Levels.{rows_of};
 ghost use Rattle.wot_types.specs.Listing.{Spells};
-ghost use Rattle.wot_types.specs.Ownertrust.{ownertrust_of};
 ghost use Rattle.wot_types.specs.Printing.{cert_line, key_lines, list_text, listed_keyblocks, user_lines};
 ghost use Rattle.wot_types.specs.Selection.{Spot, spots_from};
 ghost use Rattle.wot_types.specs.Numbers.{capped};
 ghost use Rattle.wot_print_laws.specs.Fits.{FitsCert, FitsKey, FitsState, FitsUser};
+ghost use Rattle.wot_live.specs.KeyLetters.{AreOfKey};
 ghost use Rattle.wot_print_laws.specs.ListingLines.{listing_lines};
 
 use crate::fits::{cert_fits, key_fits, state_fits, user_fits};
@@ -20,10 +20,10 @@ use std::alloc::Global;
 use std::marker::Brand;
 use std::sync::ledger::{Blank, Ledger};
 use wot_levels::user_in;
-use wot_live::Engine;
+use wot_live::{Engine, Letters, ownertrust_of};
 use wot_print_laws::printed_reads_back;
 use wot_table::Keyblock;
-use wot_types::{Fpr, KeyId, Mem, Ownertrust, Steps, Trust, Trusts};
+use wot_types::{KeyId, Mem, Steps};
 
 /// All keys in rising order of key ID, or the key that `only` names; a key that isn't there has no lines.
 /// With `sigs` each user ID is followed by its certifications in the block's order.
@@ -126,41 +126,31 @@ fn push_keyblock<L: Ledger>(
 {
     let id = keyblock.id();
     let head = keyblock.key();
-    let letter = engine.key_letter_in(keyblock);
+    let letters = engine.letters(id);
     let kept = ownertrust_of(engine.trusts(), head.fpr);
-    push_pub(text, letter, kept, id, &head)?;
+    push_pub(text, letters.key_letter(keyblock), kept, id, &head)?;
     push_fpr(text, head.fpr)?;
-    push_users(text, engine, keyblock, head.users, sigs, steps)?;
+    push_users(text, &letters, keyblock, head.users, sigs, steps)?;
     key_fits(&head);
     Ok(())
-}
-
-/// What is kept of a fingerprint.
-fn ownertrust_of(trusts: &Trusts, fpr: &Fpr) -> Ownertrust
-    ensures { result ≡ ownertrust_of trusts.now fpr.now }
-{
-    trusts.ownertrust(fpr).unwrap_or(Ownertrust {
-        trust: Trust::Unknown,
-        disabled: false,
-    })
 }
 
 /// The lines of a key's user IDs, of which there are so many.
 fn push_users<L: Ledger>(
     text: &mut Vec<u8>,
-    engine: &Engine,
+    letters: &Letters<'_>,
     keyblock: &Keyblock<'_>,
     users: u32,
     sigs: bool,
     steps: &mut Steps<L>,
 ) -> Result<(), Mem>
-    requires there { map.get engine.now.keys keyblock.now.0 ≡ Some keyblock.now.1 }
+    requires told { AreOfKey letters.now keyblock.now }
     requires all { users ≡ length keyblock.now.1.users }
-    ensures lines { OnOk result (text.new.items ≡ text.old.items ++ flat_map (user_lines engine.now (rows_of engine.now) sigs keyblock.now.0 keyblock.now.1) (spots_from 0 keyblock.now.1.users)) }
+    ensures lines { OnOk result (text.new.items ≡ text.old.items ++ flat_map (user_lines letters.now.state (rows_of letters.now.state) sigs keyblock.now.0 keyblock.now.1) (spots_from 0 keyblock.now.1.users)) }
     ensures fits { IsTrue sigs → OnOk result (All FitsUser keyblock.now.1.users) }
 {
     for user in 0..users {
-        push_user_at(text, engine, keyblock, user, sigs, steps)?;
+        push_user_at(text, letters, keyblock, user, sigs, steps)?;
     }
     Ok(())
 }
@@ -168,21 +158,21 @@ fn push_users<L: Ledger>(
 /// The lines of a user ID, numbered from 0.
 fn push_user_at<L: Ledger>(
     text: &mut Vec<u8>,
-    engine: &Engine,
+    letters: &Letters<'_>,
     keyblock: &Keyblock<'_>,
     user: u32,
     sigs: bool,
     steps: &mut Steps<L>,
 ) -> Result<(), Mem>
-    requires key { map.get engine.now.keys keyblock.now.0 ≡ Some keyblock.now.1 }
+    requires told { AreOfKey letters.now keyblock.now }
     requires there { IsSome (spot_of keyblock.now.1 user) }
     ensures lines { (spot : Spot) → spot_of keyblock.now.1 user ≡ Some spot
-        → OnOk result (text.new.items ≡ text.old.items ++ user_lines engine.now (rows_of engine.now) sigs keyblock.now.0 keyblock.now.1 spot) }
+        → OnOk result (text.new.items ≡ text.old.items ++ user_lines letters.now.state (rows_of letters.now.state) sigs keyblock.now.0 keyblock.now.1 spot) }
     ensures fits { (spot : Spot) → spot_of keyblock.now.1 user ≡ Some spot
         → IsTrue sigs → OnOk result (FitsUser spot.user) }
 {
     let head = user_in(keyblock, user).unwrap();
-    let letter = engine.letter_in(keyblock, user).unwrap();
+    let letter = letters.letter(keyblock, user).unwrap();
     push_user(text, letter, &head)?;
     if sigs {
         push_certs(text, keyblock, user, steps)?;

@@ -1,10 +1,10 @@
 //! How many user IDs have which letter, counted by several threads.
 
-ghost use Rattle.std.specs.Prelude.{◌≡◌, ◌≤◌, ◌<◌, ◌++◌, ℕ, IfOk, List};
+ghost use Rattle.std.specs.Prelude.{◌≡◌, ◌<◌, ◌++◌, ℕ, IfOk, List, length};
 ghost use Rattle.std.specs.List.{flat_map};
 ghost use Rattle.wot_types.specs.declared.letter.Letter.{Letter};
 ghost use Rattle.wot_types.specs.Tally.{all_letters, tally_line};
-ghost use Rattle.wot_workers.specs.Pieces.{IsByPiece};
+ghost use Rattle.wot_workers.specs.Pieces.{IsByPiece, IsPieceSize};
 ghost use Rattle.wot_print.specs.Counts.{counts_of};
 ghost use Rattle.wot_print.specs.KeyLetters.{letters_among, letters_at};
 
@@ -13,66 +13,71 @@ use std::alloc::{AllocError, Global};
 use std::marker::Brand;
 use std::sync::ledger::{Blank, Ledger};
 use std::thread::{Threads, map_chunks};
-use wot_live::Engine;
+use wot_table::LentState;
 use wot_types::{KeyId, Mem, Rows, Steps};
 use wot_workers::{Gate, Workers, piece_size};
 
 /// The letters of a key's user IDs.
 fn count_key<L: Ledger>(
     counts: &mut LetterCounts,
-    engine: &Engine,
+    state: &LentState<'_>,
     rows: &Rows,
     id: KeyId,
     steps: &mut Steps<L>,
 )
-    ensures { (letters : List Letter) → counts.old ≡ counts_of letters → counts.new ≡ counts_of (letters ++ letters_at engine.now rows.now id) }
+    ensures { (letters : List Letter) → counts.old ≡ counts_of letters → counts.new ≡ counts_of (letters ++ letters_at state.now rows.now id) }
 {
-    match engine.table().keyblock(id) {
-        Some(keyblock) => count_users(counts, engine, rows, &keyblock, steps),
+    match state.table().keyblock(id) {
+        Some(keyblock) => count_users(counts, state, rows, &keyblock, steps),
         None => (),
     }
 }
 
 /// The letters of the user IDs of a piece, over a counter of its own.
-fn count_keys<L: Ledger>(engine: &Engine, rows: &Rows, ids: &[KeyId], blank: Blank) -> LetterCounts
+fn count_keys<L: Ledger>(
+    state: &LentState<'_>,
+    rows: &Rows,
+    ids: &[KeyId],
+    blank: Blank,
+) -> LetterCounts
     requires own { (blank.name ≡ L.name) × (blank.parts ≡ L.parts) × (0 < L.parts) }
-    ensures { result ≡ counts_of (letters_among engine.now rows.now ids.now) }
+    ensures { result ≡ counts_of (letters_among state.now rows.now ids.now) }
 {
     let mut steps = Steps::<L>::open(blank);
     let mut counts = LetterCounts::new();
     for id in ids {
-        count_key(&mut counts, engine, rows, *id, &mut steps);
+        count_key(&mut counts, state, rows, *id, &mut steps);
     }
     counts
 }
 
 /// What a worker counts.
-fn count_piece(engine: &Engine, rows: &Rows, ids: &[KeyId]) -> LetterCounts
-    ensures { result ≡ counts_of (letters_among engine.now rows.now ids.now) }
+fn count_piece(state: &LentState<'_>, rows: &Rows, ids: &[KeyId]) -> LetterCounts
+    ensures { result ≡ counts_of (letters_among state.now rows.now ids.now) }
 {
-    count_keys::<Brand>(engine, rows, ids, Blank::new(1))
+    count_keys::<Brand>(state, rows, ids, Blank::new(1))
 }
 
-/// What the workers count, piece by piece.
-fn count_pieces<R: Threads + Sync>(
-    rt: &R,
+/// What the workers count, piece by piece. They call no gate.
+fn count_pieces<R: Threads + Sync, G: Gate + Sync>(
+    workers: &Workers<'_, R, G>,
     alloc: Global,
-    engine: &Engine,
+    state: &LentState<'_>,
     rows: &Rows,
     ids: &[KeyId],
     size: usize,
 ) -> Result<Vec<LetterCounts>, AllocError>
-    requires size { 1 ≤ size }
-    ensures { IfOk result (λ found. IsByPiece (λ piece. counts_of (letters_among engine.now rows.now piece)) size ids.now found.items) }
+    requires size { IsPieceSize workers.now.count (length ids.now) size }
+    ensures { IfOk result (λ found. IsByPiece (λ piece. counts_of (letters_among state.now rows.now piece)) size ids.now found.items) }
 {
     map_chunks(
-        rt,
+        workers.rt,
         alloc,
         ids,
         size,
         &|_start: usize, piece: &[KeyId]| -> LetterCounts
-            ensures { result ≡ counts_of (letters_among engine.entry.now rows.entry.now piece.entry.now) }
-        { count_piece(engine, rows, piece) },
+            ensures { result ≡ counts_of (letters_among state.entry.now rows.entry.now piece.entry.now) }
+        { count_piece(state, rows, piece) },
     )
 }
 
@@ -91,14 +96,14 @@ fn count_of_pieces(found: &[LetterCounts]) -> LetterCounts
 fn count_letters_by<R: Threads + Sync, G: Gate + Sync>(
     workers: &Workers<'_, R, G>,
     alloc: Global,
-    engine: &Engine,
+    state: &LentState<'_>,
     rows: &Rows,
 ) -> Result<LetterCounts, Mem>
-    ensures { IfOk result (λ counts. counts ≡ counts_of (all_letters engine.now rows.now)) }
+    ensures { IfOk result (λ counts. counts ≡ counts_of (all_letters state.now rows.now)) }
 {
-    let ids = engine.table().ids()?;
+    let ids = state.table().ids()?;
     let size = piece_size(ids.len(), workers.count);
-    let found = count_pieces(workers.rt, alloc, engine, rows, &ids, size)?;
+    let found = count_pieces(workers, alloc, state, rows, &ids, size)?;
     Ok(count_of_pieces(&found))
 }
 
@@ -106,11 +111,11 @@ fn count_letters_by<R: Threads + Sync, G: Gate + Sync>(
 pub fn tally_by<R: Threads + Sync, G: Gate + Sync>(
     workers: &Workers<'_, R, G>,
     alloc: Global,
-    engine: &Engine,
+    state: &LentState<'_>,
     rows: &Rows,
 ) -> Result<Vec<u8>, Mem>
-    ensures { IfOk result (λ text. text.items ≡ tally_line engine.now rows.now) }
+    ensures { IfOk result (λ text. text.items ≡ tally_line state.now rows.now) }
 {
-    let counts = count_letters_by(workers, alloc, engine, rows)?;
+    let counts = count_letters_by(workers, alloc, state, rows)?;
     counts_line(alloc, rows, &counts)
 }

@@ -9,4 +9,4 @@ use Rattle.wot_print.proofs.counts.count_letters.Given as goal
 abbrev pub invariant-loop-keyblock : goal.invariant-loop-keyblock
 invariant-loop-keyblock g l =
     (passed : List Letter) × (l.counts ≡ counts_of passed)
-    × (passed ++ flat_map (λ e. user_letters l.engine l.rows e.0 e.1) l.keyblock-iterator ≡ all_letters l.engine l.rows)
+    × (passed ++ flat_map (λ e. user_letters l.state l.rows e.0 e.1) l.keyblock-iterator ≡ all_letters l.state l.rows)

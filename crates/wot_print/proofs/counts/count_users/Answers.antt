@@ -23,7 +23,7 @@ pub loop-user-preserved : goal.loop-user-preserved
 loop-user-preserved g c = λ letters counted.
     let i = c.loop-user.user in
     let key = c.args.keyblock.now in
-    let f = user_letter c.args.engine.now c.args.rows.now key.0 key.1 in
+    let f = user_letter c.args.state.now c.args.rows.now key.0 key.1 in
     let spots = spots_from 0 key.1.users in
     let many = length_spots 0 key.1.users in
     let all = c.key-head.ensures.users in
@@ -39,7 +39,7 @@ pub returns : goal.returns
 returns g c = λ letters counted.
     let i = c.loop-user.user in
     let key = c.args.keyblock.now in
-    let f = user_letter c.args.engine.now c.args.rows.now key.0 key.1 in
+    let f = user_letter c.args.state.now c.args.rows.now key.0 key.1 in
     let spots = spots_from 0 key.1.users in
     let many = length_spots 0 key.1.users in
     let all = c.key-head.ensures.users in

@@ -8,4 +8,4 @@ use Rattle.wot_print.proofs.counts.count_users.Given as goal
 abbrev pub invariant-loop-user : goal.invariant-loop-user
 invariant-loop-user g l = (letters : List Letter) → l.initial.counts ≡ counts_of letters
     → (passed : List Letter) × (l.counts ≡ counts_of passed)
-    × (passed ++ map (user_letter l.engine l.rows l.keyblock.0 l.keyblock.1) (drop l.user (spots_from 0 l.keyblock.1.users)) ≡ letters ++ user_letters l.engine l.rows l.keyblock.0 l.keyblock.1)
+    × (passed ++ map (user_letter l.state l.rows l.keyblock.0 l.keyblock.1) (drop l.user (spots_from 0 l.keyblock.1.users)) ≡ letters ++ user_letters l.state l.rows l.keyblock.0 l.keyblock.1)

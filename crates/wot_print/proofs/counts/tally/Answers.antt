@@ -7,7 +7,7 @@ use Rattle.wot_print.proofs.counts.tally.Goals as goal
 
 pub returns : goal.returns
 returns c =
-    let s = c.args.engine.now in
+    let s = c.args.state.now in
     let rows = c.args.rows.now in
     IfOk-weaker c.counts_line.result
     (λ text. text.items ≡ counts_line rows c.count_letters-counts.result)

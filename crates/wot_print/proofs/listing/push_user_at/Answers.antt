@@ -1,6 +1,5 @@
-use Rattle.std.proofs.Common.{◌≡◌, ◌++◌, true, false, Some, All, is_some, option_and_then, option_map, sym, ap, subst, ◌∙◌}
+use Rattle.std.proofs.Common.{◌≡◌, ◌++◌, true, false, Some, All, is_some, option_map, sym, ap, subst, ◌∙◌}
 use Rattle.std.specs.List.{flat_map}
-use Rattle.wot_types.specs.declared.key.Key.{Key}
 use Rattle.wot_types.specs.declared.placed.Placed.{Placed}
 use Rattle.wot_types.specs.Arrangement.{spot_of}
 use Rattle.wot_types.specs.Letters.{user_letter}
@@ -21,17 +20,14 @@ use Rattle.wot_print.proofs.listing.push_user_at.Goals.{then-sigs+in_ok-push_cer
 
 pub unwrap-letter-requires : goal.unwrap-letter-requires
 unwrap-letter-requires g c =
-    let s = c.args.engine.now in
-    let id = c.args.keyblock.now.0 in
-    let user = c.args.user in
-    let spot = there_is (spot_of c.args.keyblock.now.1 user) c.requires.there in
-    ap is_some (c.letter_in.ensures
-    ∙ ap (option_and_then (λ (k : Key). option_map (user_letter s (rows_of s) id k) (spot_of k user))) c.requires.key
-    ∙ ap (option_map (user_letter s (rows_of s) id c.args.keyblock.now.1)) spot.1)
+    let s = c.args.letters.now.state in
+    let key = c.args.keyblock.now in
+    let spot = there_is (spot_of key.1 c.args.user) c.requires.there in
+    ap is_some (c.letter.ensures ∙ ap (option_map (user_letter s (rows_of s) key.0 key.1)) spot.1)
 
 pub returns-clause-lines : goal.returns-clause-lines
 returns-clause-lines g c = λ spot at.
-    let s = c.args.engine.now in
+    let s = c.args.letters.now.state in
     let id = c.args.keyblock.now.0 in
     let key = c.args.keyblock.now.1 in
     let user = c.args.user in
@@ -39,7 +35,7 @@ returns-clause-lines g c = λ spot at.
     let letter = user_letter s (rows_of s) id key spot in
     let Tells = λ (head : UserHead). (spot : Spot) → spot_of key user ≡ Some spot → IsUserHead spot.user head in
     let head = if_there Tells c.user_in.result c.user_in.ensures.head c.unwrap-head.result c.unwrap-head.ensures spot at in
-    let found = letter_found s id user key spot c.unwrap-letter.result c.requires.key at (sym c.letter_in.ensures ∙ c.unwrap-letter.ensures) in
+    let found = letter_found (user_letter s (rows_of s) id key) (spot_of key user) spot c.unwrap-letter.result at (sym c.letter.ensures ∙ c.unwrap-letter.ensures) in
     let line : c.push_user.new.text.items ≡ old ++ user_line letter spot.user =
     c.in_ok-push_user.ensures ∙ ap (λ l. old ++ user_line l (shown_user c.unwrap-head.result)) found ∙ ap (λ l. old ++ l) (user_shown letter spot.user c.unwrap-head.result head) in
     let placed = placed_at 0 key.users user spot at in

@@ -21,7 +21,7 @@ push_user_at-requires-clause-there g c =
 
 pub loop-user-preserved : goal.loop-user-preserved
 loop-user-preserved g c =
-    let s = c.args.engine.now in
+    let s = c.args.letters.now.state in
     let i = c.loop-user.user in
     let key = c.args.keyblock.now in
     let spots = spots_from 0 key.1.users in
@@ -37,7 +37,7 @@ loop-user-preserved g c =
 
 pub returns-clause-lines : goal.returns-clause-lines
 returns-clause-lines g c =
-    let s = c.args.engine.now in
+    let s = c.args.letters.now.state in
     let key = c.args.keyblock.now in
     let spots = spots_from 0 key.1.users in
     let count = length_spots 0 key.1.users in

@@ -6,7 +6,7 @@ use Rattle.wot_print.proofs.workers.count_keys.Goals as goal
 
 pub loop-id-preserved : goal.loop-id-preserved
 loop-id-preserved g c =
-    let s = c.args.engine.now in
+    let s = c.args.state.now in
     let rows = c.args.rows.now in
     let ids = c.args.ids.now in
     let i = c.loop-id.id-index in
@@ -15,7 +15,7 @@ loop-id-preserved g c =
 
 pub returns : goal.returns
 returns g c =
-    let s = c.args.engine.now in
+    let s = c.args.state.now in
     let rows = c.args.rows.now in
     let ids = c.args.ids.now in
     c.loop-id.invariant ∙ ap (λ xs. counts_of (letters_among s rows xs)) (take_all c.loop-id.id-index ids (omega (arith, c.loop-id-test.false)))

@@ -9,7 +9,7 @@ use Rattle.wot_print.proofs.workers.count_letters_by.Goals as goal
 
 pub returns : goal.returns
 returns g c =
-    let s = c.args.engine.now in
+    let s = c.args.state.now in
     let rows = c.args.rows.now in
     let size = c.piece_size-size.result in
     let ids = c.deref.result.now in

@@ -7,7 +7,7 @@ use Rattle.wot_print.proofs.workers.tally_by.Goals as goal
 
 pub returns : goal.returns
 returns g c =
-    let s = c.args.engine.now in
+    let s = c.args.state.now in
     let rows = c.args.rows.now in
     IfOk-weaker c.counts_line.result
     (λ text. text.items ≡ counts_line rows c.in_ok-counts.counts)

@@ -13,7 +13,7 @@ pub returns-clause-told : goal.returns-clause-told
 returns-clause-told c = λ key is.
     let e = c.self.inside in
     let s = state_of e.table e.trusts e.date e.options in
-    let same = c.self.view_is ∙ sym c.lent.ensures in
+    let same = c.self.view_is ∙ sym c.lent.ensures.state in
     let there = ap (λ (s : State). map.get s.keys c.args.id) c.self.view_is ∙ is in
     record {
       row = c.get.ensures.found ∙ ap (λ r. map.get r c.args.id) c.self.invariant.rows ∙ ap (λ s. map.get (rows_of s) c.args.id) same;
