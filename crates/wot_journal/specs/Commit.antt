@@ -1,10 +1,14 @@
 -- What putting a record onto the disk does.
-use Rattle.std.specs.Prelude.{ℕ, ◌≡◌, ◌⊎◌, List, take}
+use Rattle.std.specs.Prelude.{ℕ, ◌≡◌, ◌⊎◌, ◌+◌, List, length, take}
 use Rattle.wot_site.specs.Disk.{Disk, Disks, IsImage, disk_of, with_disk, after_write, after_sync, settled_disk}
 use Rattle.wot_site.specs.Seen.{Seen}
 use Rattle.wot_site.specs.Site.{on_disk}
 use Rattle.wot_site.specs.declared.side.Side.{Side}
 use Rattle.wot_journal.specs.Record.{Framed, IsClosed, with_record}
+
+-- so many calls wrote or synced, where nothing was told: each has its moment
+abbrev pub MakesCalls : ℕ → Seen → Seen → Type 0
+MakesCalls n old new = length new.moments ≡ length old.moments + n
 
 -- written, and then synced
 abbrev pub Puts : Side → ℕ → List ℕ → Seen → Seen → Type 0

@@ -1,11 +1,15 @@
 -- What opening a store does.
-use Rattle.std.specs.Prelude.{ℕ, ◌≡◌, ◌⊎◌, ◌≤◌, List, ◌++◌, length, All, Option, Some, None, MatchOption}
-use Rattle.wot_site.specs.Disk.{Disk, Disks, IsImage, Leaves, disk_of, reads_of}
+use Rattle.std.specs.Prelude.{ℕ, ◌≡◌, ◌⊎◌, ◌+◌, ◌≤◌, nat_le, List, ◌++◌, length, All, Option, Some, None, MatchOption}
+use Rattle.wot_site.specs.Disk.{Disk, Disks, IsImage, Leaves, disk_of, reads_of, settled_disk, with_disk}
 use Rattle.wot_site.specs.Seen.{Moment, Seen}
 use Rattle.wot_site.specs.Work.{Quiet, Works}
 use Rattle.wot_site.specs.declared.side.Side.{Side}
+use Rattle.wot_site.specs.declared.side.Side.TheVariants.{Zero}
+use Rattle.wot_journal.specs.Commit.{MakesCalls}
 use Rattle.wot_pages.specs.Pages.{contents_of}
-use Rattle.wot_types.specs.State.{State}
+use Rattle.wot_types.specs.Image.{image_bytes}
+use Rattle.wot_types.specs.Levels.{rows_of}
+use Rattle.wot_types.specs.State.{State, opening_state}
 use Rattle.wot_store.specs.declared.header.Header.{Header}
 use Rattle.wot_store.specs.Base.{IsBaseOf, IsBlank, IsNoBase, base_fault, header_of, headers_fault, shown_side}
 use Rattle.wot_store.specs.declared.opening.Opened.{Opened}
@@ -15,6 +19,7 @@ use Rattle.wot_store.specs.declared.place.Place.{Place}
 use Rattle.wot_store.specs.declared.error.BadStore.{BadStore}
 use Rattle.wot_types.specs.Store.{Store}
 use Rattle.wot_store.specs.Shows.{Shows, ShowsBase, FailsBase, IsBad, ShowsAs, IsStored, all_settled}
+use Rattle.wot_store.specs.Writing.{base_bytes, calls_for}
 
 -- a side has so many bytes: those of both
 pub record AreSizes (sizes : Sizes) (d : Disks) : Type 0 where
@@ -139,3 +144,13 @@ pub record Resumes (side : Side) (header : Header) (state : State) (end : ℕ) (
 pub record FailsBy (side : Side) (header : Header) (bad : BadStore) (old new : Seen) : Type 0 where
   pub stays : new ≡ old
   pub first : MatchOption (base_fault side (disk_of side old.disks).reads header) (FailsBase side (disk_of side old.disks).reads header bad) (λ first. bad ≡ first)
+
+-- a first side: epoch 1 and the state of a new store, over what was there
+abbrev pub first_side : List ℕ → List ℕ
+first_side = base_bytes 1 (image_bytes opening_state (rows_of opening_state))
+
+-- the two syncs alone were made, or where both sides were blank a first side was written on Zero too
+pub record FindsOrCreates (old new : Seen) : Type 0 where
+  pub found : (AreBlank old.disks → ⊥) → (new.disks ≡ all_settled old.disks) × MakesCalls 2 old new
+  pub created : AreBlank old.disks → (new.disks ≡ with_disk Zero (settled_disk (first_side old.disks.zero.reads)) (all_settled old.disks))
+      × MakesCalls (2 + calls_for (nat_le 24 (length old.disks.zero.reads)) 1) old new

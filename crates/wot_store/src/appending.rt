@@ -4,6 +4,7 @@ ghost use Rattle.std.specs.Prelude.{◌≡◌, ◌+◌, length, IfOk, OnOk};
 ghost use Rattle.wot_site.specs.Seen.{Honestly, IfHonest};
 ghost use Rattle.wot_site.specs.Site.{HasCause, disk_faults};
 ghost use Rattle.wot_site.specs.Work.{Works};
+ghost use Rattle.wot_journal.specs.Commit.{Commits, MakesCalls};
 ghost use Rattle.wot_types.specs.Outcome.{edited_store};
 ghost use Rattle.wot_types.specs.Store.{Store};
 ghost use Rattle.wot_types.specs.declared.edit.Edit.{Edit};
@@ -27,6 +28,8 @@ pub fn append<S: Site>(place: Place, site: &mut S, built: &Built) -> Result<Plac
         → IfHonest (S.seen site.old) (λ s. IsStored place shown s.disks)
         → Honestly (S.seen site.old) (S.seen site.new) (Appending shown (edited_store shown edit)) }
     ensures written { Honestly (S.seen site.old) (S.seen site.new) (λ old new. Works (WritesBehind place.side place.end old.disks) old new) }
+    ensures bytes { OnOk result (Honestly (S.seen site.old) (S.seen site.new) (Commits place.side built.now)) }
+    ensures calls { OnOk result (Honestly (S.seen site.old) (S.seen site.new) (MakesCalls 4)) }
     ensures cause { HasCause disk_faults (S.faults site.old) (S.faults site.new) result }
 {
     match commit(site, place.side, built) {

@@ -63,10 +63,14 @@ fn load_base<R: Threads + Sync, S: Site, G: Gate + Sync>(
         Err(PagesError::Memory) => return Err(StoreError::Memory),
     };
     match read_base(alloc, &contents, CONTENT) {
-        Ok(Some(image)) => match take_rows(workers, alloc, image) {
-            Ok(parts) => Ok((parts, start)),
-            Err(e) => Err(e),
-        },
+        Ok(Some(image)) => {
+            // The contents, up to half a gigabyte, are gone before the rows are checked.
+            drop(contents);
+            match take_rows(workers, alloc, image) {
+                Ok(parts) => Ok((parts, start)),
+                Err(e) => Err(e),
+            }
+        }
         Ok(None) => Err(StoreError::Bad(BadStore::Spelling)),
         Err(Mem::Memory) => Err(StoreError::Memory),
     }

@@ -1,16 +1,21 @@
 //! Writing the state anew on the other side.
 
-ghost use Rattle.std.specs.Prelude.{◌≡◌, Ok, IfOk, OnOk, IsErrOf};
+ghost use Rattle.std.specs.Prelude.{◌≡◌, ◌+◌, ◌<◌, Ok, IfOk, OnOk, IsErrOf};
 ghost use Rattle.wot_site.specs.Seen.{Honestly, IfHonest};
 ghost use Rattle.wot_site.specs.Site.{NoneFell, Rose, Stays};
 ghost use Rattle.wot_site.specs.Work.{Works};
+ghost use Rattle.wot_journal.specs.Commit.{MakesCalls};
+ghost use Rattle.wot_types.specs.Image.{image_bytes};
+ghost use Rattle.wot_types.specs.Levels.{rows_of};
+ghost use Rattle.wot_types.specs.PagePlaces.{pages_needed};
 ghost use Rattle.wot_types.specs.WellFormedState.{IsWellFormedState};
 ghost use Rattle.wot_types.specs.Store.{Store};
 ghost use Rattle.wot_store.specs.Base.{other_side};
 ghost use Rattle.wot_store.specs.Appending.{Appending, Appends};
-ghost use Rattle.wot_types.specs.Compaction.{compacted_store, last_epoch};
+ghost use Rattle.wot_types.specs.Compaction.{compacted_store, image_length, last_epoch};
 ghost use Rattle.wot_store.specs.Compacting.{IsCompactable, compacted_place};
 ghost use Rattle.wot_store.specs.Shows.{IsStored};
+ghost use Rattle.wot_store.specs.Writing.{Becomes, base_bytes, calls_for};
 ghost use Rattle.wot_store.specs.Written.{Spares};
 
 use crate::image::spell_state;
@@ -57,6 +62,10 @@ pub fn compact<S: Site>(
     ensures any_moment { (shown : Store) → shown.state ≡ engine.now → IfHonest (S.seen site.old) (λ s. IsStored place shown s.disks)
         → Honestly (S.seen site.old) (S.seen site.new) (Appending shown (compacted_store shown)) }
     ensures written { Honestly (S.seen site.old) (S.seen site.new) (λ old new. Works (Spares place.side old.disks) old new) }
+    ensures bytes { place.epoch < last_epoch → OnOk result (Honestly (S.seen site.old) (S.seen site.new)
+        (Becomes (other_side place.side) (base_bytes (place.epoch + 1) (image_bytes engine.now (rows_of engine.now))))) }
+    ensures calls { place.epoch < last_epoch → OnOk result (Honestly (S.seen site.old) (S.seen site.new)
+        (MakesCalls (calls_for place.other_closed (pages_needed (image_length engine.now))))) }
     ensures last { place.epoch ≡ last_epoch → result ≡ Ok place }
     ensures unwritten { place.epoch ≡ last_epoch → Honestly (S.seen site.old) (S.seen site.new) Stays }
     ensures memory { IsErrOf result CompactError.Memory → Honestly (S.seen site.old) (S.seen site.new) Stays }

@@ -4,6 +4,8 @@ ghost use Rattle.std.specs.Prelude.{◌≡◌, ◌<◌, ◌^◌, length, IfOk};
 ghost use Rattle.wot_types.specs.WellFormedState.{IsWellFormedState};
 ghost use Rattle.wot_pages.specs.Pages.{contents_for};
 ghost use Rattle.wot_types.specs.Compaction.{image_length};
+ghost use Rattle.wot_types.specs.Image.{image_bytes};
+ghost use Rattle.wot_types.specs.Levels.{rows_of};
 ghost use Rattle.wot_store.specs.Base.{IsBaseOf};
 
 use std::alloc::Global;
@@ -15,6 +17,7 @@ use wot_types::Mem;
 pub fn spell_state(alloc: Global, engine: &Engine) -> Result<Vec<u8>, Mem>
     requires sound { IsWellFormedState engine.now }
     ensures base { IfOk result (λ image. IsBaseOf (contents_for image.items) engine.now) }
+    ensures spelled { IfOk result (λ image. image.items ≡ image_bytes engine.now (rows_of engine.now)) }
     ensures long { IfOk result (λ image. length image.items ≡ image_length engine.now) }
     ensures few { IfOk result (λ image. length image.items < 2 ^ 29) }
 {

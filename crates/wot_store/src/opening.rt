@@ -1,14 +1,16 @@
 //! Opening a store.
 
-ghost use Rattle.std.specs.Prelude.{◌≡◌, ◌&&◌, ◌<◌, ◌≤◌, is_none, nat_le, length, IfOk, OnErr, IsErrOf, None};
+ghost use Rattle.std.specs.Prelude.{◌≡◌, ◌&&◌, ◌<◌, ◌≤◌, is_none, nat_le, length, IfOk, OnOk, OnErr, IsErrOf, None};
 ghost use Rattle.wot_site.specs.Seen.{Honestly, IfHonest};
 ghost use Rattle.wot_site.specs.Site.{HasCause, disk_faults, Rose, NoneFell, Stays};
 ghost use Rattle.wot_site.specs.Disk.{disk_of};
 ghost use Rattle.wot_site.specs.Work.{Works};
-ghost use Rattle.wot_site.specs.declared.side.Side.TheVariants.{One};
+ghost use Rattle.wot_site.specs.declared.side.Side.TheVariants.{Zero, One};
+ghost use Rattle.wot_journal.specs.Commit.{MakesCalls};
 ghost use Rattle.wot_types.specs.WellFormedState.{IsWellFormedState};
-ghost use Rattle.wot_store.specs.Opening.{AreSizes, Settles, Settling, InspectsSide, Inspects, IsReady, IsShownBy, Keeping, Opening, Opens, FindsBad, IsSettled, WritesOnlyBlank, shown_of};
+ghost use Rattle.wot_store.specs.Opening.{AreSizes, Settles, Settling, InspectsSide, Inspects, IsReady, IsShownBy, Keeping, Opening, Opens, FindsBad, IsSettled, WritesOnlyBlank, FindsOrCreates, first_side, shown_of};
 ghost use Rattle.wot_store.specs.Shows.{IsStored};
+ghost use Rattle.wot_store.specs.Writing.{Becomes, calls_for};
 ghost use Rattle.wot_store.specs.Written.{Spares};
 
 use crate::base::resume;
@@ -43,6 +45,7 @@ pub struct Sizes {
 fn settle<S: Site>(site: &mut S) -> Result<Sizes, DiskFault>
     ensures settled { IfOk result (λ sizes. Honestly (S.seen site.old) (S.seen site.new) (Settles sizes)) }
     ensures any_moment { Honestly (S.seen site.old) (S.seen site.new) Settling }
+    ensures calls { OnOk result (Honestly (S.seen site.old) (S.seen site.new) (MakesCalls 2)) }
     ensures cause { HasCause disk_faults (S.faults site.old) (S.faults site.new) result }
 {
     match site.sync(Side::Zero) {
@@ -124,6 +127,8 @@ fn create<S: Site>(alloc: Global, site: &mut S, sizes: Sizes) -> Result<Opened, 
     ensures memory { IsErrOf result StoreError.Memory → Honestly (S.seen site.old) (S.seen site.new) Stays }
     ensures never_bad { (b : _) → IsErrOf result (StoreError.Bad b) → ⊥ }
     ensures any_moment { Honestly (S.seen site.old) (S.seen site.new) Keeping }
+    ensures bytes { OnOk result (Honestly (S.seen site.old) (S.seen site.new) (Becomes Zero first_side)) }
+    ensures calls { OnOk result (Honestly (S.seen site.old) (S.seen site.new) (MakesCalls (calls_for (nat_le 24 sizes.zero) 1))) }
     ensures written { Honestly (S.seen site.old) (S.seen site.new) (λ old new. Works (Spares One old.disks) old new) }
     ensures cause { IsErrOf result StoreError.DiskFault → Rose (S.faults site.old).disk (S.faults site.new).disk }
     ensures counts { NoneFell (S.faults site.old) (S.faults site.new) }
@@ -208,6 +213,7 @@ pub fn open_store<R: Threads + Sync, S: Site, G: Gate + Sync>(
     ensures memory { IsErrOf result StoreError.Memory → Honestly (S.seen site.old) (S.seen site.new) IsSettled }
     ensures written { Honestly (S.seen site.old) (S.seen site.new) (λ old new. Works (WritesOnlyBlank old.disks) old new) }
     ensures any_moment { Honestly (S.seen site.old) (S.seen site.new) Opening }
+    ensures calls { OnOk result (Honestly (S.seen site.old) (S.seen site.new) FindsOrCreates) }
     ensures cause { IsErrOf result StoreError.DiskFault → Rose (S.faults site.old).disk (S.faults site.new).disk }
     ensures counts { NoneFell (S.faults site.old) (S.faults site.new) }
     ensures quiet { (IsErrOf result StoreError.DiskFault → ⊥) → S.faults site.new ≡ S.faults site.old }

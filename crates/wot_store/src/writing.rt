@@ -4,11 +4,11 @@ ghost use Rattle.std.specs.Prelude.{◌≡◌, ◌^◌, ◌<◌, length, IfOk, O
 ghost use Rattle.wot_site.specs.Disk.{disk_of};
 ghost use Rattle.wot_site.specs.Seen.{Honestly, IfHonest};
 ghost use Rattle.wot_site.specs.Site.{HasCause, disk_faults};
-ghost use Rattle.wot_journal.specs.Commit.{IsEnd};
+ghost use Rattle.wot_journal.specs.Commit.{IsEnd, MakesCalls};
 ghost use Rattle.wot_site.specs.Gate.{most};
 ghost use Rattle.wot_types.specs.PagePlaces.{page_place, pages_needed};
 ghost use Rattle.wot_store.specs.Base.{header_tail};
-ghost use Rattle.wot_store.specs.Writing.{Becomes, IsKnown, ClosingGate, Filling, OpeningGate, Writing, closed_bytes, with_base, with_open_gate, base_bytes};
+ghost use Rattle.wot_store.specs.Writing.{Becomes, IsKnown, ClosingGate, Filling, OpeningGate, Writing, closed_bytes, with_base, with_open_gate, base_bytes, closing_calls, filling_calls, calls_for};
 
 use crate::header::MAGIC;
 use byteorder::{BigEndian, ByteOrder};
@@ -35,6 +35,7 @@ fn close_side<S: Site>(site: &mut S, side: Side, is_closed: bool) -> Result<(), 
     requires known { IfHonest (S.seen site.old) (λ s. IsKnown is_closed (disk_of side s.disks)) }
     ensures closed { OnOk result (Honestly (S.seen site.old) (S.seen site.new) (Becomes side (closed_bytes is_closed))) }
     ensures any_moment { Honestly (S.seen site.old) (S.seen site.new) (ClosingGate side) }
+    ensures calls { OnOk result (Honestly (S.seen site.old) (S.seen site.new) (MakesCalls (closing_calls is_closed))) }
     ensures cause { HasCause disk_faults (S.faults site.old) (S.faults site.new) result }
 {
     if is_closed {
@@ -50,6 +51,7 @@ fn fill_side<S: Site>(site: &mut S, side: Side, epoch: u64, image: &[u8]) -> Res
     ensures pages { IfOk result (λ pages. pages ≡ pages_needed (length image.now)) }
     ensures filled { OnOk result (Honestly (S.seen site.old) (S.seen site.new) (Becomes side (with_base epoch image.now))) }
     ensures any_moment { Honestly (S.seen site.old) (S.seen site.new) (Filling side) }
+    ensures calls { OnOk result (Honestly (S.seen site.old) (S.seen site.new) (MakesCalls (filling_calls (pages_needed (length image.now))))) }
     ensures cause { HasCause disk_faults (S.faults site.old) (S.faults site.new) result }
 {
     match site.write(side, 1, &tail(epoch, pages_needed(image.len()))) {
@@ -75,6 +77,7 @@ fn open_side<S: Site>(site: &mut S, side: Side) -> Result<(), DiskFault>
     requires closed { IfHonest (S.seen site.old) (λ s. IsEnd 0 (disk_of side s.disks)) }
     ensures opened { OnOk result (Honestly (S.seen site.old) (S.seen site.new) (Becomes side with_open_gate)) }
     ensures any_moment { Honestly (S.seen site.old) (S.seen site.new) (OpeningGate side) }
+    ensures calls { OnOk result (Honestly (S.seen site.old) (S.seen site.new) (MakesCalls 2)) }
     ensures cause { HasCause disk_faults (S.faults site.old) (S.faults site.new) result }
 {
     put(site, side, 0, &[OPEN])
@@ -95,6 +98,7 @@ pub fn write_side<S: Site>(
     ensures end { IfOk result (λ end. end ≡ page_place (pages_needed (length image.now))) }
     ensures written { OnOk result (Honestly (S.seen site.old) (S.seen site.new) (Becomes side (base_bytes epoch image.now))) }
     ensures any_moment { Honestly (S.seen site.old) (S.seen site.new) (Writing side epoch image.now) }
+    ensures calls { OnOk result (Honestly (S.seen site.old) (S.seen site.new) (MakesCalls (calls_for is_closed (pages_needed (length image.now))))) }
     ensures cause { HasCause disk_faults (S.faults site.old) (S.faults site.new) result }
 {
     match close_side(site, side, is_closed) {

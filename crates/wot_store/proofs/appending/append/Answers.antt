@@ -41,3 +41,9 @@ returns-in-Err-clause-written g c =
     let built = c.args.built.now in
     honest_with (λ (s : Seen). IsNext place built s.disks) (λ old new. Works (IsCommitting place.side built old.disks) old new) (λ old new. Works (WritesBehind place.side place.end old.disks) old new) _ _
     c.requires.next c.commit.ensures.any_moment (λ x y next p. append_writes place built x y next p)
+
+pub returns-in-Ok-clause-bytes : goal.returns-in-Ok-clause-bytes
+returns-in-Ok-clause-bytes g c = c.in-Ok.ensures.committed
+
+pub returns-in-Ok-clause-calls : goal.returns-in-Ok-clause-calls
+returns-in-Ok-clause-calls g c = c.in-Ok.ensures.calls

@@ -35,8 +35,8 @@ returns-in-Ok-take_rows-clause-base g c =
     (λ x y long read. reads_base side header c.args.size contents x y long (started header.pages c.args.size c.in-Some.start (sym c.in-Some.is ∙ c.journal_start.ensures)) read
     (image_state image) image.rows found c.in-Ok-take_rows.ensures.stand))
 
-pub returns-in-Ok-Some-clause-bad : goal.returns-in-Ok-Some-clause-bad
-returns-in-Ok-Some-clause-bad g c b is =
+pub returns-in-Err-clause-bad : goal.returns-in-Err-clause-bad
+returns-in-Err-clause-bad g c b is =
     let side = c.args.side in
     let header = c.args.header in
     let contents = c.in-Ok.contents.items in

@@ -1,6 +1,8 @@
-use Rattle.std.proofs.Common.{◌≡◌, ◌+◌, ◌<◌, ap, arith, length, sym, subst, ◌∙◌}
+use Rattle.std.proofs.Common.{◌≡◌, ◌+◌, ◌<◌, List, ℕ, ap, arith, length, refl, sym, subst, ◌∙◌}
 use Rattle.wot_types.specs.State.{State}
 use Rattle.wot_types.specs.Compaction.{compacted_store, image_length}
+use Rattle.wot_types.specs.Image.{image_bytes}
+use Rattle.wot_types.specs.Levels.{rows_of}
 use Rattle.wot_store.specs.Base.{IsBaseOf}
 use Rattle.wot_site.specs.Seen.{Seen}
 use Rattle.wot_site.specs.Work.{Works}
@@ -16,6 +18,7 @@ use Rattle.wot_store.specs.Written.{Spares}
 use Rattle.wot_store.specs.Writing.{Becomes, Writing, base_bytes}
 use Rattle.wot_store.proofs.Compactings.{compact_done, compact_moments, place_next, still_compacted, still_compacting, still_stored}
 use Rattle.wot_store.proofs.Written.{other_writes, still_spares}
+use Rattle.wot_store.proofs.Counted.{calls_as}
 use Rattle.wot_store.proofs.compacting.compact.Goals as goal
 
 pub returns-then-place-eq18446744073709551615-clause-any_moment : goal.returns-then-place-eq18446744073709551615-clause-any_moment
@@ -77,3 +80,24 @@ returns-clause-written g c =
     let image = c.in-Ok.image.items in
     honest_weaker (Writing (other_side place.side) (place.epoch + 1) image) (λ old new. Works (Spares place.side old.disks) old new) _ _
     (rw (c.other_side-side.ensures, c.deref.ensures.value) at c.write_side.ensures.any_moment) (λ x y p. other_writes place.side (place.epoch + 1) image x y p)
+
+pub returns-then-place-eq18446744073709551615-clause-bytes : goal.returns-then-place-eq18446744073709551615-clause-bytes
+returns-then-place-eq18446744073709551615-clause-bytes g c below = absurd (omega (arith, below, c.if-place-eq18446744073709551615.true))
+
+pub returns-then-place-eq18446744073709551615-clause-calls : goal.returns-then-place-eq18446744073709551615-clause-calls
+returns-then-place-eq18446744073709551615-clause-calls g c below = absurd (omega (arith, below, c.if-place-eq18446744073709551615.true))
+
+pub returns-in-Ok-write_side-clause-bytes : goal.returns-in-Ok-write_side-clause-bytes
+returns-in-Ok-write_side-clause-bytes g c below =
+    let place = c.args.place in
+    let s = c.args.engine.now in
+    let image = c.in-Ok.image.items in
+    honest_weaker (Becomes (other_side place.side) (base_bytes (place.epoch + 1) image)) (Becomes (other_side place.side) (base_bytes (place.epoch + 1) (image_bytes s (rows_of s)))) _ _
+    (rw (c.other_side-side.ensures, c.deref.ensures.value) at c.in-Ok-write_side.ensures.written)
+    (λ x y p. subst (λ (l : List ℕ). Becomes (other_side place.side) (base_bytes (place.epoch + 1) l) x y) c.in-Ok.ensures.spelled p)
+
+pub returns-in-Ok-write_side-clause-calls : goal.returns-in-Ok-write_side-clause-calls
+returns-in-Ok-write_side-clause-calls g c below =
+    let image = c.in-Ok.image.items in
+    calls_as c.args.place.other_closed c.args.place.other_closed (pages_needed (length image)) (pages_needed (image_length c.args.engine.now)) _ _ refl (ap pages_needed c.in-Ok.ensures.long)
+    (rw c.deref.ensures.value at c.in-Ok-write_side.ensures.calls)

@@ -8,9 +8,13 @@ pub spell-requires-clause-scopes : goal.spell-requires-clause-scopes
 spell-requires-clause-scopes c = rw c.rows.ensures (rows_scoped c.args.engine.now c.requires.sound.keys)
 
 pub spell-requires-clause-of_keys : goal.spell-requires-clause-of_keys
-spell-requires-clause-of_keys c id there = rw c.lent.ensures (rows_keyed c.args.engine.now id (rw c.rows.ensures at there))
+spell-requires-clause-of_keys c id there = rw c.lent.ensures.state (rows_keyed c.args.engine.now id (rw c.rows.ensures at there))
 
 pub returns-clause-base : goal.returns-clause-base
 returns-clause-base c =
-    if_ok_then _ _ c.spell.result (rw (c.lent.ensures, c.rows.ensures) at c.spell.ensures.spelled)
+    if_ok_then _ _ c.spell.result (rw (c.lent.ensures.state, c.rows.ensures) at c.spell.ensures.spelled)
     (λ image spelled. image_base image.items c.args.engine.now (rows_of c.args.engine.now) spelled)
+
+pub returns-clause-spelled : goal.returns-clause-spelled
+returns-clause-spelled c =
+    if_ok_then _ _ c.spell.result (rw (c.lent.ensures.state, c.rows.ensures) at c.spell.ensures.spelled) (λ image spelled. spelled.is)
