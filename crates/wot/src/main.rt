@@ -1,7 +1,7 @@
 //! `wot`: a web of trust engine after GnuPG's, over standard input and output and two files of the current folder.
 #![tactic(auto)]
 
-ghost use Rattle.std.specs.Prelude.{◌≡◌, ◌⊎◌, ℕ, List, Some, None, map, string_bytes};
+ghost use Rattle.std.specs.Prelude.{◌≡◌, ◌⊎◌, ℕ, List, Some, None, codes, map, string_bytes};
 ghost use Rattle.std.specs.Process.{exit_status};
 ghost use Rattle.wot_site.specs.Seen.{Honestly};
 ghost use Rattle.wot_session.specs.Run.{HasCauses, Ran, longest_input};
@@ -30,23 +30,15 @@ struct End<'a> {
 }
 
 fn main(rt: HostRuntime) -> ExitCode {
-    match words(&rt) {
+    let end = match words(&rt) {
         Ok(words) => {
             let mut site = FileSite::new(&rt, rt.reader(), writer(&rt));
             session(&rt, rt.alloc(), &words, &mut site)
         }
-        Err(fault) if fault.kind() == ErrorKind::OutOfMemory => leave(
-            &rt,
-            end_with(Status::Memory),
-        ),
-        Err(_) => leave(
-            &rt,
-            End {
-                line: "wot: no words",
-                code: ExitCode::from(NO_WORDS),
-            },
-        ),
-    }
+        Err(fault) if fault.kind() == ErrorKind::OutOfMemory => end_with(Status::Memory),
+        Err(_) => no_words(),
+    };
+    leave(&rt, end)
 }
 
 /// The words after the program's name.
@@ -58,15 +50,15 @@ fn words(rt: &(impl Env + AllocGlobal)) -> io::Result<Vec<String>> {
     Ok(words)
 }
 
-/// All that the program does once it has its words and its outside; it answers the exit code.
-fn session<R: Eprint + Threads + Sync, S: Site>(
+/// All that the program does once it has its words and its outside, but for how it ends.
+fn session<'a, R: Threads + Sync, S: Site>(
     rt: &R,
     alloc: Global,
     words: &[String],
     site: &mut S,
-) -> ExitCode
-    // There is a status with this code, and the run is one that ends with it.
-    ensures run { (s : status.Status) × (exit_status result ≡ code_of s)
+) -> End<'a>
+    // There is a status with this line and this code, and the run is one that ends with it.
+    ensures run { (s : status.Status) × (result.line.now ≡ line_of s) × (exit_status result.code ≡ code_of s)
         × HasCauses (S.faults site.old) (S.faults site.new) s
         × (s ≡ Status.Usage → command_words (map string_bytes words.now) ≡ None)
         × (command_words (map string_bytes words.now) ≡ None → (s ≡ Status.Usage) ⊎ (s ≡ Status.Memory))
@@ -74,7 +66,7 @@ fn session<R: Eprint + Threads + Sync, S: Site>(
         → Honestly (S.seen site.old) (S.seen site.new) (Ran command longest_input s)) }
     ensures untouched { command_words (map string_bytes words.now) ≡ None → site.new ≡ site.old }
 {
-    leave(rt, end_with(run(rt, alloc, words, site, &NoGate)))
+    end_with(run(rt, alloc, words, site, &NoGate))
 }
 
 /// The end of a run with this status.
@@ -85,6 +77,17 @@ fn end_with<'a>(status: Status) -> End<'a>
     End {
         line: status.line(),
         code: ExitCode::from(status.code()),
+    }
+}
+
+/// The end where the system does not give the program its words.
+fn no_words<'a>() -> End<'a>
+    ensures line { result.line.now ≡ codes "wot: no words" }
+    ensures code { exit_status result.code ≡ 9 }
+{
+    End {
+        line: "wot: no words",
+        code: ExitCode::from(NO_WORDS),
     }
 }
 

@@ -1,5 +1,5 @@
 -- The loop of a run, over what its site tells.
-use Rattle.std.proofs.Common.{◌≡◌, ◌⊎◌, inl, inr, ℕ, ◌+◌, ◌-◌, ◌≤◌, Bool, List, [], ◌++◌, length, Option, Some, None, sym, ap, ◌∙◌, length-append, arith}
+use Rattle.std.proofs.Common.{◌≡◌, ◌⊎◌, inl, inr, ℕ, ◌+◌, ◌-◌, ◌<◌, ◌≤◌, Bool, List, [], ◌++◌, length, Option, Some, None, sym, ap, ◌∙◌, length-append, arith}
 use Rattle.wot_types.specs.Commands.Division.{over}
 use Rattle.wot_types.specs.LineByLine.{Position, after_lines}
 use Rattle.wot_site.specs.Seen.{Seen, Honestly}
@@ -74,7 +74,7 @@ module _ {s : Position} {first now : Option Seen} {session : Session} {most room
     running_over n refused size within ended refusals =
         honest_then _ _ _ first now next running.reached (said_known _ _ now next turned_here turned_at.holds)
         (λ x y z reached both. over_run s most refused (running.fed ++ piece) x z (omega (arith, fed_size n size, within, running.bound))
-        (is_over turned _ turned_at.at ended) (refusals _ turned_at.at) (heard_more s running.fed piece x y z reached both.0) both.1)
+        (is_over turned _ turned_at.at ended) (refusals _ turned_at.at) (heard_more s (y.taken + 1) running.fed piece x y z (omega arith) reached both.0) both.1)
 
     module _ (goes : IsOver turned → ⊥) (line : IsOver turned ⊎ (turned.line ≡ open_from session.line piece)) where
       turned_line : turned.line ≡ open_from (Some []) (running.fed ++ piece)
@@ -95,13 +95,13 @@ module _ {s : Position} {first now : Option Seen} {session : Session} {most room
       still = not_over turned _ turned_at.at goes
 
       -- a piece came
-      pub running_more : (n : ℕ) → length piece ≡ n → n ≤ room → Running s first next turned most (room - n)
-      running_more n size within = record {
+      pub running_more : (n : ℕ) → length piece ≡ n → n ≤ room → 0 < n → Running s first next turned most (room - n)
+      running_more n size within some = record {
         fed = running.fed ++ piece;
         at = turned_at;
         line = turned_line;
         bound = omega (arith, running.bound, fed_size n size, within);
-        reached = honest_then _ _ _ first now next running.reached turned_here (λ x y z reached there. reached_more s running.fed piece x y z reached there (took y z there) still);
+        reached = honest_then _ _ _ first now next running.reached turned_here (λ x y z reached there. reached_more s running.fed piece x y z (omega (arith, some, size)) reached there (took y z there) still);
       }
 
       -- none came
@@ -111,7 +111,7 @@ module _ {s : Position} {first now : Option Seen} {session : Session} {most room
         at = turned_at;
         line = turned_line;
         bound = omega (arith, running.bound, length-append running.fed piece, ap length none);
-        reached = honest_then _ _ _ first now next running.reached turned_here (λ x y z reached there. reached_end s running.fed piece x y z none reached there (took y z there) still);
+        reached = honest_then _ _ _ first now next running.reached turned_here (λ x y z reached there. reached_end s running.fed piece x y z none reached there (took y z there));
       }
 
 module _ {s : Position} {first now : Option Seen} {session : Session} {most : ℕ} (ending : Ending s first now session most) where

@@ -6,7 +6,7 @@ use Rattle.wot_types.specs.Grammar.{has_block}
 use Rattle.wot_types.specs.Lines.{lines, read_line}
 use Rattle.wot_types.specs.Store.{Store}
 use Rattle.wot_types.specs.Commands.{Command, begun_command, commands_from, first_division, takes_input}
-use Rattle.wot_types.specs.LineByLine.{at_first}
+use Rattle.wot_types.specs.LineByLine.{Position, at_first}
 use Rattle.wot_types.specs.Session.{Progress, after_all, at_start, commands_of, output_of, replies}
 use Rattle.wot_site.specs.Disk.{Disks, Image, reads_of}
 use Rattle.wot_site.specs.Seen.{Honestly, Moment, Seen}
@@ -26,7 +26,7 @@ use Rattle.wot_answer.specs.declared.division.Division.TheVariants.{Within}
 use Rattle.wot_answer.specs.declared.block.Block.{Block}
 use Rattle.wot_session.specs.Here.{Holds}
 use Rattle.wot_session.specs.Input as input
-use Rattle.wot_session.specs.Input.{HasQuit, IsOnTime, IsPunctual, IsRead, commands_at}
+use Rattle.wot_session.specs.Input.{HasQuit, IsFurther, IsOnTime, IsPunctual, IsRead, commands_at}
 use Rattle.wot_session.specs.Kept.{IsPrefixOf, IsSafe, IsWhole, Kept}
 use Rattle.wot_session.specs.Open.{IsOpen}
 use Rattle.wot_session.specs.Run.{RunEnded, IsCrashSafe, IsUntouched, IsWritten, Ran, RunStopped, Unopened, WritesForChanges}
@@ -38,12 +38,17 @@ use Rattle.wot_session.specs.declared.stop.Stop.{Stop}
 use Rattle.wot_session.specs.declared.stop.Stop.TheVariants.{DiskFault, Memory, ReadFault, TellFault, TooLong}
 use Rattle.wot_session.proofs.Keeping.{kept_here, stored_shows, whole_here}
 use Rattle.wot_session.proofs.Prefixes.{kept_safe, whole_exact}
+use Rattle.wot_session.proofs.Runs.{pairs_none}
 use Rattle.wot_session.proofs.Trails.{trail_still, written_start}
 use Rattle.wot_session.proofs.Turns.{is_memory, no_long, no_read}
 
 -- what left the input untouched since the opening left it so since the start
 unread_later : {x y z : Seen} → Opening x y → IsUnread y z → IsUnread x z
 unread_later opening unread = record { left = unread.left ∙ opening.left; taken = unread.taken ∙ opening.taken; asks = unread.asks ∙ opening.asks }
+
+-- `take` was not called
+not_asked : (s : Position) (x y : Seen) → y.asks ≡ x.asks → IsPunctual s x y
+not_asked s x y asks = record { since = []; asks = asks ∙ sym (append-nil x.asks); each = All-nil _; rising = pairs_none IsFurther }
 
 -- what shows as the sides read shows the one store
 shown : (store : Store) (reads image : Image) → Shows reads store → (image ≡ reads) ⊎ ShowsAs image reads → Shows image store
@@ -130,6 +135,7 @@ module _ {place : Place} (store : Store) (words : List (List ℕ)) (x y : Seen) 
         each = All-weaker (IsOnTime (at_first store words) y z) (IsOnTime (at_first store words) x z)
             (λ ask at. record { told = rw (← opening.told, ← opening.taken, ← opening.left) at.told; goes = rw (← opening.taken, ← opening.left) at.goes })
             punctual.since punctual.each;
+        rising = punctual.rising;
       }
 
   safe_later : (z : Seen) → Since (Kept (at_start store) (commands_of words y.left) y.told) y z → IsCrashSafe store (commands_of words x.left) x z
@@ -258,7 +264,7 @@ module _ (store : Store) (words : List (List ℕ)) (some : words ≡ [] → ⊥)
         refusals = refusals ∙ ap (λ commands. (after_all (at_start store) commands).refused) same;
         read = subst (λ b. Read (at_first store words) b most y z) (sym (takes_one words some none)) (record { left = said.told.left; taken = said.told.taken; asks = said.told.asks });
         stored = subst (λ commands. IsOpen (after_all (at_start store) commands).store z.disks) same (record { place = _; stored = stored });
-        punctual = record { since = []; asks = said.told.asks ∙ sym (append-nil y.asks); each = All-nil _ };
+        punctual = not_asked (at_first store words) y z said.told.asks;
         since = subst (λ commands. Since (Kept (at_start store) commands y.told) y z) same said.since;
         written = subst (λ commands. Written (at_start store) commands y z) same said.written;
       }
@@ -274,7 +280,7 @@ module _ (store : Store) (words : List (List ℕ)) (some : words ≡ [] → ⊥)
         unread = λ _. record { left = told.left; taken = told.taken; asks = told.asks };
         read_fault = λ is. absurd (no_read stop kind is);
         too_long = λ is. absurd (no_long stop kind is);
-        punctual = record { since = []; asks = told.asks ∙ sym (append-nil y.asks); each = All-nil _ };
+        punctual = not_asked (at_first store words) y z told.asks;
         since = subst (λ commands. Since (Kept (at_start store) commands y.told) y z) same said.since;
         here = subst (λ commands. Kept (at_start store) commands y.told (moment_of z)) same said.here;
         whole = λ between. subst (λ commands. IsWhole (at_start store) commands y.told z) same (said.whole (is_memory stop kind between));
@@ -292,7 +298,7 @@ words_nothing_at store words most x stored =
       unread = λ _. record { left = refl; taken = refl; asks = refl };
       read_fault = λ is. cc;
       too_long = λ is. cc;
-      punctual = record { since = []; asks = sym (append-nil x.asks); each = All-nil _ };
+      punctual = not_asked (at_first store words) x x refl;
       since = record { first = here; moments = []; is = sym (append-nil x.moments); each = All-nil _ };
       here = here;
       whole = λ _. whole_here (at_start store) (commands_of words x.left) x.told x refl stored;

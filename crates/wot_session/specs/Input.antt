@@ -1,5 +1,5 @@
 -- A session from where it stands to the end of its input, or to `quit`.
-use Rattle.std.specs.Prelude.{ℕ, Bool, ◌≡◌, ◌⊎◌, ◌-◌, ◌<◌, ◌≤◌, List, [], ◌++◌, length, map, take, All}
+use Rattle.std.specs.Prelude.{ℕ, Bool, ◌≡◌, ◌⊎◌, ◌-◌, ◌<◌, ◌≤◌, List, [], ◌++◌, length, map, take, All, AllPairs}
 use Rattle.wot_types.specs.Lines.{lines, read_line, whole_lines}
 use Rattle.wot_types.specs.Commands.{Command, Division, commands_from, division_after, whole_commands}
 use Rattle.wot_types.specs.Commands.Division.{over}
@@ -37,11 +37,16 @@ pub record IsOnTime (s : Position) (old new : Seen) (ask : Asked) : Type 0 where
   pub told : take ask.told new.told ≡ old.told ++ so_far_at s (take (ask.taken - old.taken) old.left)
   pub goes : division_at s (take (ask.taken - old.taken) old.left) ≡ over → ⊥
 
--- each call of `take` was
+-- more bytes were taken before the later call of `take` than before this one
+abbrev pub IsFurther : Asked → Asked → Type 0
+IsFurther ask later = ask.taken < later.taken
+
+-- each call of `take` was, and only the last may have moved nothing
 pub record IsPunctual (s : Position) (old new : Seen) : Type 0 where
   pub since : List Asked
   pub asks : new.asks ≡ old.asks ++ since
   pub each : All (IsOnTime s old new) since
+  pub rising : AllPairs IsFurther since
 
 -- an accepted `quit` is whole in these first bytes of the input, which were taken and are within the bound
 pub record HasQuit (s : Position) (most : ℕ) (old new : Seen) : Type 0 where

@@ -1,6 +1,7 @@
 //! The text of a reply, with the rows counted anew where it asks for that.
 
 ghost use Rattle.std.specs.Prelude.{◌≡◌, IfOk};
+ghost use Rattle.wot_types.specs.Payload.{IsInRange};
 ghost use Rattle.wot_answer.specs.Answer.{reply_of};
 
 use std::alloc::Global;
@@ -9,6 +10,7 @@ use wot_answer::Reply;
 use wot_check::rows_by;
 use wot_live::Engine;
 use wot_print::{ok_line, tally_by};
+use wot_table::LentState;
 use wot_types::Mem;
 use wot_workers::{Gate, Workers};
 
@@ -23,22 +25,21 @@ pub fn reply_text<R: Threads + Sync, G: Gate + Sync>(
 {
     match reply {
         Reply::Text(text) => Ok(text),
-        Reply::Recount => recounted_tally(workers, alloc, engine),
+        Reply::Recount => recounted_tally(workers, alloc, &engine.lent()),
     }
 }
 
-// The reply to `check`: the tally by rows that are counted anew.
+// The reply to `check`: the tally by rows that are counted anew. What the engine kept is not at hand here.
 fn recounted_tally<R: Threads + Sync, G: Gate + Sync>(
     workers: &Workers<'_, R, G>,
     alloc: Global,
-    engine: &Engine,
+    state: &LentState<'_>,
 ) -> Result<Vec<u8>, Mem>
-    ensures { IfOk result (λ text. text.items ≡ reply_of Reply.Recount engine.now) }
+    requires ranges { IsInRange state.now.options }
+    ensures { IfOk result (λ text. text.items ≡ reply_of Reply.Recount state.now) }
 {
-    // For the condition of the count: an engine's options are in their ranges.
-    let _options = engine.options();
-    let rows = rows_by(workers, alloc, &engine.lent())?;
-    let mut text = tally_by(workers, alloc, engine, &rows)?;
+    let rows = rows_by(workers, alloc, state)?;
+    let mut text = tally_by(workers, alloc, state, &rows)?;
     let last_line = ok_line(alloc)?;
     text.extend_from_slice(last_line.as_slice())?;
     Ok(text)

@@ -105,6 +105,19 @@ impl Session {
         Ok(true)
     }
 
+    // Keeps what an answer leaves, but for the division, which counts only where more lines may come; the answer is handed on.
+    fn keep(&mut self, engine: Engine, answer: Answer) -> Answer
+        ensures answer { result ≡ answer }
+        ensures engine { self.new.engine ≡ Some engine }
+        ensures place { self.new.place ≡ self.old.place }
+        ensures refused { self.new.refused ≡ (self.old.refused || answer.refused) }
+        ensures division { self.new.division ≡ self.old.division }
+    {
+        self.engine = Some(engine);
+        self.refused = self.refused || answer.refused;
+        answer
+    }
+
     // Answers the open line, which no block goes on with, and begins the next; the answer is to be given.
     fn reply(&mut self) -> Result<Answer, Mem>
         requires at { (p : Position) × IsAt self.old p }
@@ -118,18 +131,21 @@ impl Session {
             return Err(Mem::Memory);
         };
         let division = mem::replace(&mut self.division, Division::Over);
-        let answered = answer_line(
+        let Answered {
+            engine,
+            answer,
+            division,
+        } = answer_line(
             self.alloc,
             engine,
             self.place.end,
             division,
             self.line.get(),
         )?;
+        self.division = division;
+        let answer = self.keep(engine, answer);
         self.line.clear();
-        self.engine = Some(answered.engine);
-        self.division = answered.division;
-        self.refused = self.refused || answered.answer.refused;
-        Ok(answered.answer)
+        Ok(answer)
     }
 
     // Does to the store what the answer asks for, and only then tells the reply. Memory is taken before either.
@@ -266,22 +282,13 @@ impl Session {
         let Some(engine) = self.engine.take() else {
             return Err(Mem::Memory);
         };
-        let answered = answer_end(self.alloc, engine, self.place.end, block)?;
-        Ok(self.keep(answered))
-    }
-
-    // Keeps what the answer at the end leaves, but for the division: nothing is read after it.
-    fn keep(&mut self, answered: Answered) -> Answer
-        ensures answer { result ≡ answered.answer }
-        ensures engine { self.new.engine ≡ Some answered.engine }
-        ensures place { self.new.place ≡ self.old.place }
-        ensures refused { self.new.refused ≡ (self.old.refused || answered.answer.refused) }
-        ensures division { self.new.division ≡ self.old.division }
-    {
-        let Answered { engine, answer, .. } = answered;
-        self.engine = Some(engine);
-        self.refused = self.refused || answer.refused;
-        answer
+        let Answered { engine, answer, .. } = answer_end(
+            self.alloc,
+            engine,
+            self.place.end,
+            block,
+        )?;
+        Ok(self.keep(engine, answer))
     }
 
     // No reply.
@@ -347,10 +354,13 @@ impl Session {
         let Some(engine) = self.engine.take() else {
             return Err(Mem::Memory);
         };
-        let answered = answer_words(self.alloc, engine, self.place.end, words)?;
-        self.engine = Some(answered.engine);
-        self.refused = self.refused || answered.answer.refused;
-        Ok(answered.answer)
+        let Answered { engine, answer, .. } = answer_words(
+            self.alloc,
+            engine,
+            self.place.end,
+            words,
+        )?;
+        Ok(self.keep(engine, answer))
     }
 
     /// The same, and gives it.

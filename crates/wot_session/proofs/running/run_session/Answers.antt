@@ -1,4 +1,4 @@
-use Rattle.std.proofs.Common.{◌∙◌, ap, refl, rules, take}
+use Rattle.std.proofs.Common.{◌∙◌, ap, refl, arith, rules, take}
 use Rattle.std.proofs.lemmas.List.{length-take-le}
 use Rattle.wot_session.specs.Here.{IsOver}
 use Rattle.wot_session.proofs.Looping.{ending_ok, ending_stop, running_end, running_more, running_over, running_start, running_stop}
@@ -24,7 +24,7 @@ loop-n-preserved g c = record {
   running = λ s here.
       let goes : IsOver c.turn.new.self → ⊥ = search rules in
       running_more (c.loop-n.invariant.running s here) _ c.turn.new.self (take c.in-Ok.n c.turn.new.buf) c.in-Ok.ensures.at c.in-Ok.ensures.turned
-      goes c.in-Ok.ensures.line c.in-Ok.n (length-take-le c.in-Ok.n c.turn.new.buf c.in-Ok.ensures.fits) c.in-Ok.ensures.room;
+      goes c.in-Ok.ensures.line c.in-Ok.n (length-take-le c.in-Ok.n c.turn.new.buf c.in-Ok.ensures.fits) c.in-Ok.ensures.room (omega (arith, c.if-n-eq0.false));
   quiet = c.in-Ok.ensures.cause.quiet ∙ c.loop-n.invariant.quiet;
 }
 

@@ -5,7 +5,7 @@ use Rattle.wot_store.specs.Opening.{shown_of}
 use Rattle.wot_session.specs.Run.{Ran}
 use Rattle.wot_session.specs.Words.{WordsEnded}
 use Rattle.wot_session.proofs.Openings.{bad_ran, opened_ended, opened_stopped, opens_holds, stopped_ran, unopened}
-use Rattle.wot_session.proofs.run_words.Goals as goal
+use Rattle.wot_session.proofs.program.run_words.Goals as goal
 
 pub returns-in-Err-Bad-clause-ran : goal.returns-in-Err-Bad-clause-ran
 returns-in-Err-Bad-clause-ran g c = rw c.in-Err-Bad.bad-is
