@@ -3,6 +3,7 @@ import itertools
 import os
 import tempfile
 
+import keyrings
 from measure import Failed, in_turn, megabytes, ran, session, shown, table, times
 
 SIZES = (1_000, 10_000, 100_000)
@@ -123,10 +124,19 @@ def printing(program, floor, command):
     return f"`{command}`", megabytes(len(told)), shown(least), shown(took), times(took, least)
 
 
+def listed_store(bench):
+    """A store of the keys that `import` reads, each with ownertrust."""
+    listing = keyrings.written(bench.path("listed"), keyrings.gpg_key, bench.keys)
+    trusts = keyrings.written_ownertrust(bench.path("listed-trusts"), bench.keys)
+    return bench.store("listed", (["ownertrust"], trusts), (["import"], listing))
+
+
 def part_list(bench):
-    """Printing made keys in an open session, beside a program in C that holds them in structs and prints the same."""
-    where, listing = made_store(bench, bench.keys), bench.path("sigs")
-    ran([bench.program, "sigs"], where=where, told=listing)
-    with session([bench.program], where) as program, session([bench.floor("print"), listing], where) as floor:
-        rows = [printing(program, floor, command) for command in ("list", "sigs")]
-    table(f"Printing {bench.keys:,} made keys in an open session", ("", "size", "printed in C alone", "printed", "times that"), rows)
+    """Printing keys in an open session, beside a program in C that holds them in structs and prints the same."""
+    rows = []
+    for name, where in (("made keys", made_store(bench, bench.keys)), ("keys as gpg prints them", listed_store(bench))):
+        listing = bench.path("sigs")
+        ran([bench.program, "sigs"], where=where, told=listing)
+        with session([bench.program], where) as program, session([bench.floor("print"), listing], where) as floor:
+            rows += [(name, *printing(program, floor, command)) for command in ("list", "sigs")]
+    table(f"Printing {bench.keys:,} keys in an open session", ("", "", "size", "printed in C alone", "printed", "times that"), rows)

@@ -1,8 +1,10 @@
 """The listings that the bench gives to the program, written to files: keys with one user ID, and on it certifications by earlier keys."""
+import hashlib
 
 
 def fingerprint(number):
-    return f"{3735928559 + number:024X}{number + 1:016X}"
+    """As hashes are: two of them differ from the first bytes on."""
+    return f"{hashlib.sha1(b'%d' % number).hexdigest()[:24].upper()}{key_id(number)}"
 
 
 def key_id(number):
@@ -54,4 +56,12 @@ def written(path, key, count):
         file.write("tru::1:1700000000:0:3:1:5\n")
         for number in range(count):
             file.write(key(number))
+    return path
+
+
+def written_ownertrust(path, count):
+    """Ownertrust of so many keys in a file, as gpg exports it: the first is ultimate, and each other one full or marginal."""
+    with open(path, "w", encoding="utf-8") as file:
+        for number in range(count):
+            file.write(f"{fingerprint(number)}:{4 + number % 2 if number else 6}:\n")
     return path
