@@ -125,8 +125,8 @@ def printing(program, floor, command):
 
 
 def listed_store(bench):
-    """A store of the keys that `import` reads, each with ownertrust."""
-    listing = keyrings.written(bench.path("listed"), keyrings.gpg_key, bench.keys)
+    """A store of the keys that `import` reads, one in a hundred with ownertrust."""
+    listing = keyrings.written(bench.path("listed-keys"), keyrings.gpg_key, bench.keys)
     trusts = keyrings.written_ownertrust(bench.path("listed-trusts"), bench.keys)
     return bench.store("listed", (["ownertrust"], trusts), (["import"], listing))
 

@@ -60,8 +60,8 @@ def written(path, key, count):
 
 
 def written_ownertrust(path, count):
-    """Ownertrust of so many keys in a file, as gpg exports it: the first is ultimate, and each other one full or marginal."""
+    """Ownertrust of one key in a hundred in a file, as gpg exports it: the first is ultimate, the others full or marginal."""
     with open(path, "w", encoding="utf-8") as file:
-        for number in range(count):
-            file.write(f"{fingerprint(number)}:{4 + number % 2 if number else 6}:\n")
+        for number in range(0, count, 100):
+            file.write(f"{fingerprint(number)}:{4 + number // 100 % 2 if number else 6}:\n")
     return path
