@@ -1,7 +1,6 @@
 -- A merge of two walks, of which the keys that were met so far are a list.
 use Rattle.std.proofs.Common.{◌≡◌, ◌+◌, ◌-◌, ◌^◌, ◌<◌, ◌||◌, ℕ, Bool, List, [], ◌∷◌, ◌++◌, append_assoc, append-nil, Option, Some, None, refl, sym, ap, subst, ◌∙◌, arith}
 use Rattle.std.specs.Option.{option_map_or}
-use Rattle.wot_types.specs.declared.key.Key.{Key}
 use Rattle.wot_types.specs.Next.{IsAfter, IsNext}
 use Rattle.wot_check.specs.KeyWalk.{IsWalk, ids_left, lesser}
 use Rattle.wot_check.proofs.Walked.{next_of_two}
@@ -25,23 +24,24 @@ less_room : (after : Option ℕ) (id : ℕ) → IsAfter after id → id < 2 ^ 64
 less_room None id later small = omega (arith, small)
 less_room (Some a) id later small = omega (arith, later, small)
 
+-- the key at hand is the next
+first_left : {X : Type 0} (has : ℕ → Bool) (after key : Option ℕ) (walk : List (ℕ × X)) → IsWalk has after (ids_left key walk) → IsNext has after key
+first_left has after None walk is = is
+first_left has after (Some k) walk is = is.0
+
 module _ (a b : ℕ → Bool) where
   -- with the keys that are left of both those met so far are a walk over all, and what is left of each is what it has behind the last of them
-  pub record IsMerging (ids left : List ℕ) (row : Option ℕ) : Type 0 where
+  pub record IsMerging (ids keys rows : List ℕ) : Type 0 where
     pub so_far : (rest : List ℕ) → IsWalk (λ x. a x || b x) (last_of None ids) rest → IsWalk (λ x. a x || b x) None (ids ++ rest)
-    pub of_keys : IsWalk a (last_of None ids) left
-    pub of_rows : IsNext b (last_of None ids) row
+    pub of_keys : IsWalk a (last_of None ids) keys
+    pub of_rows : IsWalk b (last_of None ids) rows
 
-  pub merge_start : (ids left : List ℕ) (row : Option ℕ) → ids ≡ [] → IsWalk a None left → IsNext b None row → IsMerging ids left row
-  merge_start ids left row none keys rows = subst (λ xs. IsMerging xs left row) (sym none) (record { so_far = λ rest walk. walk; of_keys = keys; of_rows = rows })
+  pub merge_start : (ids keys rows : List ℕ) → ids ≡ [] → IsWalk a None keys → IsWalk b None rows → IsMerging ids keys rows
+  merge_start ids keys rows none of_keys of_rows = subst (λ xs. IsMerging xs keys rows) (sym none) (record { so_far = λ rest walk. walk; of_keys = of_keys; of_rows = of_rows })
 
-  first_left : (after key : Option ℕ) (walk : List (ℕ × Key)) → IsWalk a after (ids_left key walk) → IsNext a after key
-  first_left after None walk is = is
-  first_left after (Some k) walk is = is.0
-
-  module _ (ids : List ℕ) (key : Option ℕ) (walk : List (ℕ × Key)) (row : Option ℕ) (are : IsMerging ids (ids_left key walk) row) where
+  module _ {X Y : Type 0} (ids : List ℕ) (key : Option ℕ) (walk : List (ℕ × X)) (row : Option ℕ) (behind : List (ℕ × Y)) (are : IsMerging ids (ids_left key walk) (ids_left row behind)) where
     merge_next : IsNext (λ x. a x || b x) (last_of None ids) (lesser key row)
-    merge_next = next_of_two a b (last_of None ids) key row (first_left (last_of None ids) key walk are.of_keys) are.of_rows
+    merge_next = next_of_two a b (last_of None ids) key row (first_left a (last_of None ids) key walk are.of_keys) (first_left b (last_of None ids) row behind are.of_rows)
 
     pub merge_end : None ≡ lesser key row → IsWalk (λ x. a x || b x) None ids
     merge_end is = subst (IsWalk (λ x. a x || b x) None) (append-nil ids) (are.so_far [] (subst (IsNext (λ x. a x || b x) (last_of None ids)) (sym is) merge_next))
@@ -53,15 +53,15 @@ module _ (a b : ℕ → Bool) where
       pub merge_later : IsAfter (last_of None ids) id
       merge_later = met.1
 
-      pub merge_on : (more left : List ℕ) (next : Option ℕ) → more ≡ ids ++ id ∷ [] → IsWalk a (Some id) left → IsNext b (Some id) next → IsMerging more left next
-      merge_on more left next one keys rows =
+      pub merge_on : (more keys rows : List ℕ) → more ≡ ids ++ id ∷ [] → IsWalk a (Some id) keys → IsWalk b (Some id) rows → IsMerging more keys rows
+      merge_on more keys rows one of_keys of_rows =
           let last : Some id ≡ last_of None (ids ++ id ∷ []) = sym (last_more None ids id) in
-          subst (λ xs. IsMerging xs left next) (sym one) (record {
+          subst (λ xs. IsMerging xs keys rows) (sym one) (record {
             so_far = λ rest others.
                 subst (IsWalk (λ x. a x || b x) None) (sym (append_assoc ids (id ∷ []) rest))
                 (are.so_far (id ∷ rest) (met, subst (λ after. IsWalk (λ x. a x || b x) after rest) (sym last) others));
-            of_keys = subst (λ after. IsWalk a after left) last keys;
-            of_rows = subst (λ after. IsNext b after next) last rows;
+            of_keys = subst (λ after. IsWalk a after keys) last of_keys;
+            of_rows = subst (λ after. IsWalk b after rows) last of_rows;
           })
 
       pub merge_less : (more : List ℕ) → more ≡ ids ++ id ∷ [] → id < 2 ^ 64 → room_behind more < room_behind ids

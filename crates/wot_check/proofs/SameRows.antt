@@ -12,9 +12,10 @@ use Rattle.wot_types.specs.declared.trust.Trust.{Trust}
 use Rattle.wot_types.specs.declared.trust.Trust.TheVariants.{Unknown, Undefined, Never, Marginal, Full, Ultimate}
 use Rattle.wot_types.specs.State.{State}
 use Rattle.wot_types.specs.Candidates.{RowMap}
+use Rattle.wot_types.specs.Touched.{is_same_scope}
 use Rattle.wot_types.specs.Trust.{trust_number, trust_of_number}
 use Rattle.wot_check.specs.Stored.{Stands, counted_row}
-use Rattle.wot_check.specs.Comparison.{same_row, same_rows, same_scope, stands}
+use Rattle.wot_check.specs.Comparison.{same_row, same_rows, stands}
 
 number_read : (t : Trust) → trust_of_number (trust_number t) ≡ Some t
 number_read Unknown = refl
@@ -27,7 +28,7 @@ number_read Ultimate = refl
 same_trust : (a b : Trust) → (trust_number a == trust_number b) ≡ true → a ≡ b
 same_trust a b is = same_Some a b (sym (number_read a) ∙ ap trust_of_number ((Decides-eqb (trust_number a) (trust_number b)).0 is) ∙ number_read b)
 
-scopes_decided : (a b : Option (List ℕ)) → Decides (same_scope a b) (a ≡ b)
+scopes_decided : (a b : Option (List ℕ)) → Decides (is_same_scope a b) (a ≡ b)
 scopes_decided None None = (λ _. refl, λ _. refl)
 scopes_decided None (Some b) = (λ e. absurd (true≢false (sym e)), λ e. cc)
 scopes_decided (Some a) None = (λ e. absurd (true≢false (sym e)), λ e. cc)

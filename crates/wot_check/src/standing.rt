@@ -3,30 +3,17 @@
 ghost use Rattle.std.specs.Prelude.{◌≡◌, ◌≤◌, ◌+◌, ◌*◌, Some, None, is_some};
 ghost use Rattle.std.specs.Bool.{Decides};
 ghost use Rattle.std.specs.FinMap as map;
-ghost use Rattle.std.specs.Option.{option_copied};
 ghost use Rattle.wot_types.specs.declared.row.Row.{Row};
 ghost use Rattle.wot_types.specs.Keyring.{certs_at};
 ghost use Rattle.wot_levels.specs.Given.{given_row};
 ghost use Rattle.wot_levels.specs.Standings.{standing_row};
-ghost use Rattle.wot_check.specs.Comparison.{same_row, same_rows, same_scope};
+ghost use Rattle.wot_check.specs.Comparison.{same_row, same_rows};
 ghost use Rattle.wot_check.specs.Stored.{Stands, row_below};
 
 use std::sync::ledger::Ledger;
 use wot_levels::{Standing, given};
 use wot_table::LentState;
-use wot_types::{KeyId, Row, Rows, Scope, Steps};
-
-fn same_scope(a: Option<&Scope>, b: Option<&Scope>) -> bool
-    ensures { result ≡ same_scope (option_copied a.entry) (option_copied b.entry) }
-{
-    match a {
-        None => b.is_none(),
-        Some(a) => match b {
-            None => false,
-            Some(b) => a.as_text().as_bytes() == b.as_text().as_bytes(),
-        },
-    }
-}
+use wot_types::{KeyId, Row, Rows, Steps, is_same_scope};
 
 /// Whether a row has this standing.
 fn has_standing(row: &Row, standing: &Standing<'_>) -> bool
@@ -34,7 +21,7 @@ fn has_standing(row: &Row, standing: &Standing<'_>) -> bool
 {
     row.trust.number() == standing.trust.number()
         && row.left == standing.left
-        && same_scope(row.scope.as_ref(), standing.scope)
+        && is_same_scope(row.scope.as_ref(), standing.scope)
 }
 
 /// Whether the rows of lower levels give a key this row of its own.

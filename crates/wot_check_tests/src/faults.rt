@@ -55,16 +55,12 @@ fn row(id: KeyId, level: u8, trust: Trust) -> Row {
     }
 }
 
-/// The least key after this one that has a row of this level, with what is told of its row.
+/// The least key that has a row of this level, with what is told of its row.
 fn of_level(rows: &Rows, level: u8) -> Option<(KeyId, (u8, u8))> {
-    let mut after = None;
-    for _ in 0..u64::MAX {
-        let id = rows.next(after)?;
-        let row = rows.get(id)?;
+    for (id, row) in rows.iter() {
         if row.level == level {
-            return Some((id, (row.level, row.trust.number())));
+            return Some((*id, (row.level, row.trust.number())));
         }
-        after = Some(id);
     }
     None
 }

@@ -27,8 +27,5 @@ certs_within s id user t =
     omega (arith, one, on_key, all)
 
 module _ (s : State) (start mid end : ℕ) (levels : mid ≤ start + s.options.depth * cert_total s.keys) where
-  pub within_levels : mid ≤ start + (s.options.depth + 1) * cert_total s.keys
-  within_levels = omega (arith, levels, once_more s.options.depth (cert_total s.keys))
-
   pub within_recount : (id user : ℕ) (t : IsThere s id user) → end ≤ mid + length t.spot.certs → end ≤ start + (s.options.depth + 1) * cert_total s.keys
   within_recount id user t more = omega (arith, levels, more, certs_within s id user t, once_more s.options.depth (cert_total s.keys))

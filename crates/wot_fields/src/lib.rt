@@ -6,6 +6,7 @@ mod dates; // seconds since 1970, and civil dates
 mod fields; // a line split at its colons
 mod lines; // lines that say nothing
 mod numbers; // decimal numbers
+mod ownertrust; // a line of an ownertrust text as it is printed
 mod printed; // numbers and bytes as a field prints them
 mod quoting; // texts as a quoted field prints them
 mod unquoting; // the text that a quoted field spells
@@ -14,6 +15,7 @@ pub use dates::{date, date_or_0};
 pub use fields::{Fields, field};
 pub use lines::{is_blank, is_comment};
 pub use numbers::{long, number, number_or_0};
+pub use ownertrust::push_ownertrust_line;
 pub use printed::{push_hex, push_number};
 pub use quoting::{push_quoted, quote};
-pub use unquoting::{QuoteError, unquote};
+pub use unquoting::{QuoteError, decoder_is_the_quoting_relation, unquote};

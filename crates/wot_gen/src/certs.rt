@@ -8,9 +8,9 @@ use crate::dates::MADE;
 use crate::draws::draw;
 use crate::names::key_id;
 use std::alloc::Global;
-use wot_types::{Cert, Certs, Mem};
+use wot_types::{Cert, Certs, GENERIC, Mem};
 
-/// Certification `c` of key `i`. Its issuer is of the first third of the keys before it, and so never the key itself.
+/// Certification `c` of key `i`. Its issuer is one of the keys 0 to `i / 3`, rounded down, and so, of every key but the first, never the key itself.
 fn cert(seed: u64, i: u32, c: u8) -> Cert
     requires { c < 4 }
     ensures { result ≡ sample_cert seed i c }
@@ -24,7 +24,7 @@ fn cert(seed: u64, i: u32, c: u8) -> Cert
     };
     Cert {
         issuer: key_id(seed, issuer as u32),
-        class: 0x10,
+        class: GENERIC,
         local: false,
         made: MADE + made as u32,
         expires: 0,

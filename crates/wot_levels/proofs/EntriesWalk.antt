@@ -95,12 +95,12 @@ module _ (s : State) where
       id = key_id_of e.0
 
       abbrev put_at : ℕ → Option Row → Option Row
-      put_at x old = cond (id == x) (either (first_row s) s.keys found old) old
+      put_at x old = cond (id == x) (either found old) old
 
       -- where no row is found, what stands there stays
       no_row : (x : ℕ) (old : Option Row) → ((id == x) ≡ true → found ≡ None) → put_at x old ≡ old
-      no_row x old none = elim (id == x) as (λ b. (id == x) ≡ b → cond b (either (first_row s) s.keys found old) old ≡ old) [
-        | true ↦ λ same. ap (λ f. either (first_row s) s.keys f old) (none same) ∙ either_old (first_row s) s.keys old
+      no_row x old none = elim (id == x) as (λ b. (id == x) ≡ b → cond b (either found old) old ≡ old) [
+        | true ↦ λ same. ap (λ f. either f old) (none same) ∙ either_old old
         | false ↦ λ _. refl
       ] refl
 
@@ -118,7 +118,7 @@ module _ (s : State) where
                 let at : (id == x) ≡ true = subst (λ y. (id == y) ≡ true) (sym here) (self_equal id) in
                 let row : found ≡ first_row s x key = found_at x at ∙ ap (option_and_then (named_row s e.0 x)) there ∙ cond-true (pointwise nat_eq key.fpr e.0) (first_row s x key) None same in
                 let former : row_unless_left s (e ∷ rest) x key ≡ None = ap (λ b. cond (is_some (cond b (Some e.1) (find fpr_cmp key.fpr rest))) None (first_row s x key)) tied in
-                ap (put_at x) former ∙ ap (λ b. cond b (either (first_row s) s.keys found None) None) at ∙ either_none (first_row s) s.keys found ∙ row
+                ap (put_at x) former ∙ ap (λ b. cond b (either found None) None) at ∙ either_none found ∙ row
                 ∙ sym (ap (λ r. cond (is_some r) None (first_row s x key)) (not_again key.fpr tied))
             | false ↦ λ other.
                 let apart : eq_by_cmp fpr_cmp key.fpr e.0 ≡ false = fpr_eq key.fpr e.0 ∙ other in
@@ -132,6 +132,6 @@ module _ (s : State) where
         rising = second_part _ _ walk.rising;
         found = still_found;
         made = λ x.
-            get-with_found (first_row s) s.keys m id found x ∙ ap (put_at x) (walk.made x)
+            get-with_found m id found x ∙ ap (put_at x) (walk.made x)
             ∙ put_made x (finmap.get s.keys x) refl (IfSome-get nat_cmp_total nat_cmp-IsAntisymmetric IsFiled s.keys x filed);
       }

@@ -1,4 +1,5 @@
 pub mod RunsLemmas
+pub mod SameUsers
 pub mod Growing
 pub mod Stepping
 pub mod Checking

@@ -10,10 +10,9 @@ use crate::error::LineError;
 use crate::values::{class_in, date_in, is_local, key_id_in, text_in, trust_in};
 use std::alloc::Global;
 use wot_fields::Fields;
-use wot_types::{Cert, KeyId, Limit, ListingWhat, MOST_CERTS, Mem, Scope, Text, is_kept_class};
-
-/// The most bytes of a regular expression.
-const LONGEST_SCOPE: usize = 255;
+use wot_types::{
+    Cert, KeyId, Limit, ListingWhat, MOST_CERTS, MOST_SCOPE, Mem, Scope, Text, is_kept_class,
+};
 
 /// Reads a `sig` or `rev` record that was checked and is good, on the key with this key ID, which has so many certifications before it. One of another class or by the key itself gives None.
 pub fn read_cert(
@@ -57,7 +56,7 @@ fn read_values(
     let expires = date_in(line, 7)?;
     let (depth, amount) = trust_in(line)?;
     let text = text_in(alloc, line, 9)?;
-    if text.as_bytes().len() > LONGEST_SCOPE {
+    if text.as_bytes().len() > MOST_SCOPE {
         return Err(LineError::Failed(ListingWhat::LimitReached(Limit::Scope)));
     }
     Ok(Cert {

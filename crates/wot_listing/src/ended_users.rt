@@ -6,10 +6,9 @@ ghost use Rattle.wot_types.specs.Listing.{is_same_user};
 ghost use Rattle.wot_listing.specs.Marks.{AreMarked, mark_of};
 
 use crate::mark::{has_mark, mark_of};
-use crate::user::is_among;
 use std::alloc::Global;
 use std::marker::Model;
-use wot_types::{List, Mem, User, Users};
+use wot_types::{List, Mem, User, Users, is_among};
 
 /// User IDs in the order in which they came, with marks by which a new one is held against them.
 ///
@@ -93,6 +92,7 @@ fn push_mark(marks: &mut Vec<u32>, user: &User) -> Result<(), Mem>
 }
 
 /// Whether one of these user IDs, whose marks are among these, has the kind, text and hash of the other.
+#[tactic(auto, using(crate::proofs::SameUsers::one_agrees))]
 fn is_among_marked(marks: &[u32], users: &[User], user: &User) -> bool
     requires { AreMarked marks.now users.now }
     ensures { result ≡ list_any (λ earlier. is_same_user earlier user.now) users.now }

@@ -1,8 +1,7 @@
 //! User IDs of a block.
 
 ghost use Rattle.std.specs.Prelude.{◌≡◌};
-ghost use Rattle.std.specs.List.{list_any};
-ghost use Rattle.wot_types.specs.Listing.{first_failing, is_same_user, user_at, user_checks};
+ghost use Rattle.wot_types.specs.Listing.{first_failing, user_at, user_checks};
 ghost use Rattle.wot_listing.specs.Answer.{Answers};
 
 use crate::error::LineError;
@@ -36,11 +35,4 @@ pub fn read_user(
         revoked: is_marked_revoked(line) && !of_revoked,
         certs: List::new(alloc),
     })
-}
-
-/// Whether one of these user IDs has the kind, text and hash of the other.
-pub fn is_among(users: &[User], user: &User) -> bool
-    ensures { result ≡ list_any (λ earlier. is_same_user earlier user.now) users.now }
-{
-    users.iter().any(|earlier| earlier.is_same(user))
 }

@@ -14,7 +14,9 @@ use crate::error::LineError;
 use hex::FromHex;
 use std::alloc::Global;
 use wot_fields::{Fields, date_or_0, number, number_or_0, unquote};
-use wot_types::{Fpr, KeyId, ListingWhat, Mem, RecordKind, Text, UserKind};
+use wot_types::{
+    Fpr, KeyId, ListingWhat, Mem, RecordKind, Text, UserKind, is_capability, is_hash_byte,
+};
 
 /// The type of a record, by its first field.
 pub fn kind_of(line: &Fields<'_>) -> RecordKind
@@ -142,7 +144,7 @@ pub fn capabilities_in(alloc: Global, line: &Fields<'_>) -> Result<Text, Mem>
         .get_or_empty(12)
         .iter()
         .copied()
-        .filter(|b| b.is_ascii_alphabetic() && *b != b'D')
+        .filter(|b| is_capability(*b))
         .collect(alloc)?;
     Ok(Text::from_vec(caps))
 }
@@ -163,7 +165,7 @@ pub fn hash_in(alloc: Global, line: &Fields<'_>) -> Result<Text, Mem>
 fn is_hash(f: &[u8]) -> bool
     ensures { result ≡ list_all records.is_hash_byte f.now }
 {
-    f.iter().all(|b| b.is_ascii_alphanumeric())
+    f.iter().all(|b| is_hash_byte(*b))
 }
 
 /// The letters and digits of a field.
@@ -173,7 +175,7 @@ fn hash_bytes(alloc: Global, f: &[u8]) -> Result<Text, Mem>
     let hash = f
         .iter()
         .copied()
-        .filter(|b| b.is_ascii_alphanumeric())
+        .filter(|b| is_hash_byte(*b))
         .collect(alloc)?;
     Ok(Text::from_vec(hash))
 }

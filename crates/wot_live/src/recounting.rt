@@ -35,7 +35,6 @@ fn recount_key<L: Ledger>(
     level: u8,
     steps: &mut Steps<L>,
 ) -> Result<Course, Mem>
-    requires level { state.now.options.level ≤ 3 }
     ensures step { IfOk result (λ new. IsRecounted state.now level (id ∷ []) course.rows course.todo new.rows new.todo) }
     ensures due { IfOk result (λ new. (ids : List ℕ) → AreDue state.now.keys course.rows (level + 1) ids course.agenda → AreDue state.now.keys new.rows (level + 1) ids new.agenda) }
     ensures within { IfOk result (λ new. IsWithin course.todo course.agenda → IsWithin new.todo new.agenda) }
@@ -68,7 +67,6 @@ fn recount_all<L: Ledger>(
     level: u8,
     steps: &mut Steps<L>,
 ) -> Result<Course, Mem>
-    requires level { state.now.options.level ≤ 3 }
     requires distinct { IsDistinct nat_eq ids.now }
     ensures pass { IfOk result (λ new. IsRecounted state.now level ids.now course.rows course.todo new.rows new.todo) }
     ensures due { IfOk result (λ new. (ids : List ℕ) → AreDue state.now.keys course.rows (level + 1) ids course.agenda → AreDue state.now.keys new.rows (level + 1) ids new.agenda) }
@@ -90,7 +88,6 @@ fn recount_level<L: Ledger>(
     level: u8,
     steps: &mut Steps<L>,
 ) -> Result<Course, Mem>
-    requires level { state.now.options.level ≤ 3 }
     ensures pass { IfOk result (λ new. IsRecounted state.now level (due_at course.agenda level) course.rows course.todo new.rows new.todo) }
     ensures due { IfOk result (λ new. (ids : List ℕ) → AreDue state.now.keys course.rows level ids course.agenda → AreDue state.now.keys new.rows (level + 1) ids new.agenda) }
     ensures within { IfOk result (λ new. IsWithin course.todo course.agenda → IsWithin new.todo new.agenda) }

@@ -4,11 +4,11 @@ ghost use Rattle.std.specs.Prelude.{◌≡◌, ◌++◌, ◌∷◌, [], IfOk};
 ghost use Rattle.wot_types.specs.Fingerprint.{fingerprint};
 ghost use Rattle.wot_types.specs.Numbers.{number};
 ghost use Rattle.wot_types.specs.Ownertrust.{kept_of, ownertrust_line};
-ghost use Rattle.wot_types.specs.OwnertrustText.{entry_by, entry_of_line, ownertrust_of_number};
+ghost use Rattle.wot_types.specs.OwnertrustText.{entry_by, entry_of_line};
 
 use std::alloc::Global;
-use wot_fields::{Fields, is_blank, is_comment, number, push_hex, push_number};
-use wot_types::{Entry, Fpr, Mem, Ownertrust, OwnertrustFault, Text, Trust};
+use wot_fields::{Fields, is_blank, is_comment, number, push_ownertrust_line};
+use wot_types::{Entry, Fpr, Mem, Ownertrust, OwnertrustFault, Text};
 
 /// The entry of a line, and None for a blank line, a comment or the number 0. The line has no newline.
 #[tactic(auto, using(crate::proofs::Lines::three_fields))]
@@ -34,41 +34,19 @@ fn entry_by(fpr: &[u8], value: &[u8]) -> Result<Option<Entry>, OwnertrustFault>
     if number == 0 {
         return Ok(None);
     }
-    let Ownertrust { trust, disabled } = ownertrust_of(number).ok_or(OwnertrustFault::BadValue)?;
+    let kept = Ownertrust::from_number(number).ok_or(OwnertrustFault::BadValue)?;
     Ok(Some(Entry {
         fpr,
-        trust,
-        disabled,
+        trust: kept.trust,
+        disabled: kept.disabled,
     }))
-}
-
-/// What a number of an ownertrust text says; 128 and more is of a disabled key.
-fn ownertrust_of(number: u32) -> Option<Ownertrust>
-    ensures { result ≡ ownertrust_of_number number }
-{
-    let disabled = number >= 128;
-    let number = if disabled { number - 128 } else { number };
-    let trust = Trust::from_number(u8::try_from(number).ok()?)?;
-    Some(Ownertrust { trust, disabled })
 }
 
 /// The line of an entry, without a newline.
 pub fn write_line(alloc: Global, entry: &Entry) -> Result<Text, Mem>
     ensures printed { IfOk result (λ text. text ++ 10 ∷ [] ≡ ownertrust_line (entry.now.fpr, kept_of entry.now)) }
 {
-    let Entry {
-        fpr,
-        trust,
-        disabled,
-    } = entry;
-    let kept = Ownertrust {
-        trust: *trust,
-        disabled: *disabled,
-    };
     let mut text = Vec::new(alloc);
-    push_hex(&mut text, fpr.as_bytes())?;
-    text.push(b':')?;
-    push_number(&mut text, u64::from(kept.number()))?;
-    text.push(b':')?;
+    push_ownertrust_line(&mut text, &entry.fpr, entry.kept())?;
     Ok(Text::from_vec(text))
 }

@@ -20,7 +20,7 @@ use std::alloc::Global;
 use std::marker::Brand;
 use std::sync::ledger::{Blank, Ledger};
 use wot_levels::user_in;
-use wot_live::{Engine, Letters, ownertrust_of};
+use wot_live::{Engine, Letters};
 use wot_print_laws::printed_reads_back;
 use wot_table::Keyblock;
 use wot_types::{KeyId, Mem, Steps};
@@ -127,7 +127,7 @@ fn push_keyblock<L: Ledger>(
     let id = keyblock.id();
     let head = keyblock.key();
     let letters = engine.letters(id);
-    let kept = ownertrust_of(engine.trusts(), head.fpr);
+    let kept = engine.trusts().ownertrust_of(head.fpr);
     push_pub(text, letters.key_letter(keyblock), kept, id, &head)?;
     push_fpr(text, head.fpr)?;
     push_users(text, &letters, keyblock, head.users, sigs, steps)?;

@@ -8,18 +8,18 @@ ghost use Rattle.wot_types.specs.Selection.{is_disregarded, is_in_force, usable}
 ghost use Rattle.wot_select.specs.Run.{IsBy};
 
 use crate::expiry::expired;
-use wot_types::{Cert, Placed};
+use wot_types::{Cert, GENERIC, PERSONA, POSITIVE, Placed, REVOCATION};
 
 fn is_disregarded(level: u8, cert: &Cert) -> bool
     ensures { result ≡ is_disregarded level cert.now }
 {
-    0x11 <= cert.class && cert.class <= 0x13 && cert.class - 0x10 < level
+    matches!(cert.class, PERSONA..=POSITIVE) && cert.class - GENERIC < level
 }
 
 fn is_in_force(now: u32, placed: &Placed) -> bool
     ensures { result ≡ is_in_force now placed.now }
 {
-    placed.cert.class != 0x30 && !expired(placed.cert.expires, now)
+    placed.cert.class != REVOCATION && !expired(placed.cert.expires, now)
 }
 
 /// The place in a run of one issuer of the certification that decides, and None where there is none or it isn't in force.

@@ -73,6 +73,6 @@ are_rising_entries [] = true
 are_rising_entries (entry ∷ []) = true
 are_rising_entries (entry ∷ next ∷ entries) = is_lt (fpr_cmp entry.fpr next.fpr) && are_rising_entries (next ∷ entries)
 
--- entries of an ownertrust text
+-- entries that may be set
 unfoldable pub are_settable : List Entry → Bool
 are_settable entries = list_all (λ entry. not (is_unset (kept_of entry))) entries && are_rising_entries entries

@@ -1,36 +1,24 @@
 //! What is tested of the values that were read.
 
 ghost use Rattle.std.specs.Prelude.{◌≡◌, ◌==◌, ◌&&◌, not};
-ghost use Rattle.std.specs.List.{list_all, list_any};
-ghost use Rattle.wot_types.specs.Listing.{is_same_user};
+ghost use Rattle.std.specs.List.{list_all};
 ghost use Rattle.wot_types.specs.Ownertrust.{is_unset, kept_of};
 ghost use Rattle.wot_types.specs.Records.{is_capability, is_hash_byte};
 ghost use Rattle.wot_spelling.specs.Stored.{are_rising_rows, are_stored};
 ghost use Rattle.wot_spelling.specs.Checks.{are_rising_entries, are_settable, are_distinct, are_importable, has_few_certs, has_scope, is_cert, is_in_range, is_marked_once, is_rising, is_sample_count, is_user, is_well_formed};
 
 use wot_types::{
-    Cert, Entry, Key, KeyId, MOST_CERTS, MOST_SAMPLE, MOST_USERS, Options, Row, Scope, Trust, User,
-    is_kept_class,
+    Cert, Entry, Key, KeyId, LEAST_COMPLETES, LEAST_DEPTH, LEAST_LEVEL, LEAST_MARGINALS,
+    MOST_CERTS, MOST_LEVEL, MOST_SAMPLE, MOST_SCOPE, MOST_USERS, Options, Row, Scope, User,
+    is_among, is_capability, is_hash_byte, is_kept_class,
 };
-
-fn is_hash_byte(b: u8) -> bool
-    ensures { result ≡ is_hash_byte b }
-{
-    matches!(b, b'A'..=b'Z' | b'a'..=b'z' | b'0'..=b'9')
-}
-
-fn is_capability(b: u8) -> bool
-    ensures { result ≡ is_capability b }
-{
-    matches!(b, b'A'..=b'Z' | b'a'..=b'z') && b != b'D'
-}
 
 fn has_scope(scope: &Option<Scope>) -> bool
     ensures { result ≡ has_scope scope.now }
 {
     match scope {
         None => true,
-        Some(scope) => matches!(scope.as_text().as_bytes().len(), 1..=255),
+        Some(scope) => matches!(scope.as_text().as_bytes().len(), 1..=MOST_SCOPE),
     }
 }
 
@@ -76,12 +64,6 @@ fn are_unmarked(users: &[User]) -> bool
     ensures { result ≡ list_all (λ user. not user.revoked) users.now }
 {
     users.iter().all(|user| !user.revoked)
-}
-
-fn is_among(users: &[User], user: &User) -> bool
-    ensures { result ≡ list_any (is_same_user user.now) users.now }
-{
-    users.iter().any(|other| user.is_same(other))
 }
 
 /// Whether no two agree in kind, text and hash. Each is compared with all later ones: a key has at most 1,024.
@@ -166,10 +148,10 @@ pub fn are_importable(keys: &[Key]) -> bool
 pub fn is_in_range(options: &Options) -> bool
     ensures { result ≡ is_in_range options.now }
 {
-    options.completes >= 1
-        && options.marginals >= 2
-        && options.depth >= 1
-        && matches!(options.level, 1..=3)
+    options.completes >= LEAST_COMPLETES
+        && options.marginals >= LEAST_MARGINALS
+        && options.depth >= LEAST_DEPTH
+        && matches!(options.level, LEAST_LEVEL..=MOST_LEVEL)
 }
 
 #[tactic(auto, unfolding(crate::specs::Checks::is_sample_count))]
@@ -179,16 +161,10 @@ pub fn is_sample_count(count: u32) -> bool
     (1..=MOST_SAMPLE).contains(&count)
 }
 
-fn is_set(entry: &Entry) -> bool
-    ensures { result ≡ not (is_unset (kept_of entry.now)) }
-{
-    entry.disabled || !matches!(entry.trust, Trust::Unknown)
-}
-
 fn are_set(entries: &[Entry]) -> bool
     ensures { result ≡ list_all (λ entry. not (is_unset (kept_of entry))) entries.now }
 {
-    entries.iter().all(|entry| is_set(entry))
+    entries.iter().all(|entry| !entry.kept().is_unset())
 }
 
 #[tactic(auto, unfolding(crate::specs::Checks::are_rising_entries))]

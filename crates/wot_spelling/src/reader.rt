@@ -168,11 +168,7 @@ impl<'a> Reader<'a> {
         ensures { Gives (ownertrust_at self.old) result self.new }
     {
         let number = self.number_1()?;
-        let disabled = number >= 128;
-        let trust = Trust::from_number(if disabled { number - 128 } else { number }).ok_or(
-            Stop::NoSpelling,
-        )?;
-        Ok(Ownertrust { trust, disabled })
+        Ownertrust::from_number(u32::from(number)).ok_or(Stop::NoSpelling)
     }
 
     #[tactic(auto, unfolding(crate::specs::Reading::user_kind_at))]

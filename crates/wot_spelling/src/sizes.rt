@@ -7,13 +7,31 @@ ghost use Rattle.wot_spelling.specs.Sizes.{cert_size, entry_size, key_size, payl
 
 use wot_types::{Cert, Edit, Entry, Key, Scope, User};
 
+/// The bytes of a flag, a class, a depth, an amount, a trust number, the length of a fingerprint, or the kind of an edit.
+const BYTE: u64 = 1;
+
+/// The bytes of a number, a date, the length of a text, or the count of a list.
+const NUMBER: u64 = 4;
+
+/// The bytes of a key ID, or the seed of a sample.
+const LONG: u64 = 8;
+
+/// The bytes of a certification's issuer, class, local mark, two dates, depth and amount.
+const CERT: u64 = LONG + 2 * BYTE + 2 * NUMBER + 2 * BYTE;
+
+/// The bytes of a user ID's kind, the lengths of its text and hash, its two dates, its revoked mark, and the count of its certifications.
+const USER: u64 = BYTE + 2 * NUMBER + 2 * NUMBER + BYTE + NUMBER;
+
+/// The bytes of the length of a key's fingerprint, its bits, algorithm and two dates, its revoked mark, the length of its capabilities, and the count of its user IDs.
+const KEY: u64 = BYTE + 4 * NUMBER + BYTE + 2 * NUMBER;
+
 #[tactic(auto, unfolding(crate::specs::Sizes::scope_size))]
 fn scope_size(scope: &Option<Scope>) -> u64
     ensures { result ≡ capped (scope_size scope.now) }
 {
     match scope {
-        None => 1,
-        Some(scope) => 5u64.saturating_add(scope.as_text().as_bytes().len() as u64),
+        None => BYTE,
+        Some(scope) => (BYTE + NUMBER).saturating_add(scope.as_text().as_bytes().len() as u64),
     }
 }
 
@@ -21,7 +39,7 @@ fn scope_size(scope: &Option<Scope>) -> u64
 fn cert_size(cert: &Cert) -> u64
     ensures { result ≡ capped (cert_size cert.now) }
 {
-    20u64.saturating_add(scope_size(&cert.scope))
+    CERT.saturating_add(scope_size(&cert.scope))
 }
 
 fn certs_size(certs: &[Cert]) -> u64
@@ -38,8 +56,7 @@ fn certs_size(certs: &[Cert]) -> u64
 fn user_size(user: &User) -> u64
     ensures { result ≡ capped (user_size user.now) }
 {
-    22u64
-        .saturating_add(user.text.as_bytes().len() as u64)
+    USER.saturating_add(user.text.as_bytes().len() as u64)
         .saturating_add(user.hash.as_bytes().len() as u64)
         .saturating_add(certs_size(user.certs.as_slice()))
 }
@@ -58,8 +75,7 @@ fn users_size(users: &[User]) -> u64
 fn key_size(key: &Key) -> u64
     ensures { result ≡ capped (key_size key.now) }
 {
-    26u64
-        .saturating_add(key.fpr.as_bytes().len() as u64)
+    KEY.saturating_add(key.fpr.as_bytes().len() as u64)
         .saturating_add(key.caps.as_bytes().len() as u64)
         .saturating_add(users_size(key.users.as_slice()))
 }
@@ -78,7 +94,7 @@ fn keys_size(keys: &[Key]) -> u64
 fn entry_size(entry: &Entry) -> u64
     ensures { result ≡ capped (entry_size entry.now) }
 {
-    2u64.saturating_add(entry.fpr.as_bytes().len() as u64)
+    (BYTE + BYTE).saturating_add(entry.fpr.as_bytes().len() as u64)
 }
 
 fn entries_size(entries: &[Entry]) -> u64
@@ -96,14 +112,16 @@ fn edit_size(edit: &Edit) -> u64
     ensures { result ≡ capped (payload_size edit.now) }
 {
     match edit {
-        Edit::Import(keys) => 5u64.saturating_add(keys_size(keys.as_slice())),
-        Edit::Set(fpr, _) => 3 + fpr.as_bytes().len() as u64,
-        Edit::Ownertrust(entries) => 5u64.saturating_add(entries_size(entries.as_slice())),
-        Edit::Flag(fpr, _) => 3 + fpr.as_bytes().len() as u64,
-        Edit::Date(_) => 5,
-        Edit::Delete(_) => 9,
-        Edit::Options(_) => 12,
-        Edit::Sample(_, _) => 13,
+        Edit::Import(keys) => (BYTE + NUMBER).saturating_add(keys_size(keys.as_slice())),
+        Edit::Set(fpr, _) => 3 * BYTE + fpr.as_bytes().len() as u64,
+        Edit::Ownertrust(entries) => (BYTE + NUMBER).saturating_add(entries_size(
+            entries.as_slice(),
+        )),
+        Edit::Flag(fpr, _) => 3 * BYTE + fpr.as_bytes().len() as u64,
+        Edit::Date(_) => BYTE + NUMBER,
+        Edit::Delete(_) => BYTE + LONG,
+        Edit::Options(_) => 2 * BYTE + 2 * NUMBER + 2 * BYTE,
+        Edit::Sample(_, _) => BYTE + LONG + NUMBER,
     }
 }
 

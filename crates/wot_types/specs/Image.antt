@@ -38,7 +38,7 @@ pub record ImageFits (s : State) (stored : RowMap) : Type 0 where
   pub rows : ListFits RowFits (finmap.values stored)
 
 -- a row that is stored: it stands under its own key ID, and its regular expression has 1 to 255 bytes
-pub record IsStored (entry : ℕ × Row) : Type 0 where
+pub record IsStoredRow (entry : ℕ × Row) : Type 0 where
   pub own : IsOwnRow entry
   pub scope : IsScope entry.1.scope
 
@@ -46,14 +46,14 @@ pub record IsStored (entry : ℕ × Row) : Type 0 where
 pub record IsImage (bytes : List ℕ) (s : State) (rows : RowMap) : Type 0 where
   pub fits : ImageFits s rows
   pub sound : IsWellFormedState s
-  pub stored : All IsStored (finmap.entries rows)
+  pub stored : All IsStoredRow (finmap.entries rows)
   pub is : bytes ≡ image_bytes s rows
 
--- the contents of a base whose pages have so many bytes each: an image, and then fewer bytes 00 than a page has
-pub record IsBase (page : ℕ) (contents : List ℕ) (s : State) (rows : RowMap) : Type 0 where
+-- the contents of a base whose pages have so many bytes of content each: an image, and then fewer bytes 00 than that
+pub record IsBase (size : ℕ) (contents : List ℕ) (s : State) (rows : RowMap) : Type 0 where
   pub image : List ℕ
   pub rest : List ℕ
   pub spelled : IsImage image s rows
   pub zeros : All (λ byte. byte ≡ 0) rest
-  pub few : length rest < page
+  pub few : length rest < size
   pub is : contents ≡ image ++ rest

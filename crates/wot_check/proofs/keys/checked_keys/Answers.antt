@@ -9,15 +9,17 @@ pub loop-id-init : goal.loop-id-init
 loop-id-init c =
     let keys = c.args.table.now in
     let rows = c.args.rows.now in
-    let left = ids_left c.next_of-key.result c.next_of-key.new.walk in
-    let walked = subst (IsWalk (λ x. finmap.contains_key keys x) None) (sym (ap (map (λ e. e.0)) c.walk-walk.ensures.whole) ∙ c.next_of-key.ensures) (keys_walk keys) in
-    merge_start (λ x. finmap.contains_key keys x) (λ x. finmap.contains_key rows x) c.new-ids.result.items left c.next-row.result c.new-ids.ensures.items walked c.next-row.ensures.next
+    let of_keys = λ (x : ℕ). finmap.contains_key keys x in
+    let of_rows = λ (x : ℕ). finmap.contains_key rows x in
+    let walked = subst (IsWalk of_keys None) (sym (ap (map (λ e. e.0)) c.walk-walk.ensures.whole) ∙ c.next_of-key.ensures) (keys_walk keys) in
+    let rowed = subst (IsWalk of_rows None) (sym (ap (map (λ e. e.0)) c.iter-left.ensures.rows) ∙ c.next_row-row.ensures) (keys_walk rows) in
+    merge_start of_keys of_rows c.new-ids.result.items (ids_left c.next_of-key.result c.next_of-key.new.walk) (ids_left c.next_row-row.result c.next_row-row.new.rows) c.new-ids.ensures.items walked rowed
 
 pub loop-id-smaller : goal.loop-id-smaller
 loop-id-smaller c =
     let l = c.loop-id in
     let small : c.in-Some.id < 2 ^ 64 = search rules in
-    merge_less (λ x. finmap.contains_key c.args.table.now x) (λ x. finmap.contains_key c.args.rows.now x) l.ids.items l.key l.walk l.row l.invariant c.in-Some.id c.in-Some.ensures c.push.new.self.items
+    merge_less (λ x. finmap.contains_key c.args.table.now x) (λ x. finmap.contains_key c.args.rows.now x) l.ids.items l.key l.walk l.row l.left l.invariant c.in-Some.id c.in-Some.ensures c.push.new.self.items
     c.in_ok-push.ensures.items small
 
 pub loop-id-preserved : goal.loop-id-preserved
@@ -26,11 +28,12 @@ loop-id-preserved c =
     let of_keys = λ (x : ℕ). finmap.contains_key c.args.table.now x in
     let of_rows = λ (x : ℕ). finmap.contains_key c.args.rows.now x in
     let before = last_of None l.ids.items in
-    let later = merge_later of_keys of_rows l.ids.items l.key l.walk l.row l.invariant c.in-Some.id c.in-Some.ensures in
-    merge_on of_keys of_rows l.ids.items l.key l.walk l.row l.invariant c.in-Some.id c.in-Some.ensures c.push.new.self.items (ids_left c.key_behind-key.result c.key_behind-key.new.walk) c.row_behind-row.result
-    c.in_ok-push.ensures.items (c.key_behind-key.ensures of_keys before later l.invariant.of_keys) (c.row_behind-row.ensures before later l.invariant.of_rows)
+    let later = merge_later of_keys of_rows l.ids.items l.key l.walk l.row l.left l.invariant c.in-Some.id c.in-Some.ensures in
+    merge_on of_keys of_rows l.ids.items l.key l.walk l.row l.left l.invariant c.in-Some.id c.in-Some.ensures c.push.new.self.items
+    (ids_left c.key_behind-key.result c.key_behind-key.new.walk) (ids_left c.row_behind-row.result c.row_behind-row.new.rows)
+    c.in_ok-push.ensures.items (c.key_behind-key.ensures of_keys before later l.invariant.of_keys) (c.row_behind-row.ensures of_rows before later l.invariant.of_rows)
 
 pub returns : goal.returns
 returns c =
     let l = c.loop-id in
-    merge_end (λ x. finmap.contains_key c.args.table.now x) (λ x. finmap.contains_key c.args.rows.now x) l.ids.items l.key l.walk l.row l.invariant c.in_default.ensures
+    merge_end (λ x. finmap.contains_key c.args.table.now x) (λ x. finmap.contains_key c.args.rows.now x) l.ids.items l.key l.walk l.row l.left l.invariant c.in_default.ensures

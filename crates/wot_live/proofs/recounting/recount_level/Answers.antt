@@ -9,7 +9,7 @@ use Rattle.wot_live.proofs.Weights.{weight_within}
 use Rattle.wot_live.proofs.recounting.recount_level.Goals as goal
 
 pub recount_all-requires : goal.recount_all-requires
-recount_all-requires g c = record { level = c.requires.level; distinct = subst (IsDistinct nat_eq) (sym c.deref.ensures.value) c.each_once-ids.ensures.distinct }
+recount_all-requires g c = record { distinct = subst (IsDistinct nat_eq) (sym c.deref.ensures.value) c.each_once-ids.ensures.distinct }
 
 pub returns-clause-pass : goal.returns-clause-pass
 returns-clause-pass g c =
