@@ -101,8 +101,8 @@ module _ (s : BTreeSet (ℕ × ℕ)) (above upto : ℕ) where
 
 module _ (s : BTreeSet (ℕ × ℕ)) (above : ℕ) where
   pub soonest_found : (m k : ℕ) (rest : List (ℕ × ℕ)) → set.IsKeyRangeOf pair_cmp (Included (above + 1, 0)) Unbounded s ((m, k) ∷ rest)
-      → (least : ℕ) × (above < least) × (set.contains pair_cmp s (least, k) ≡ true) × ((n id : ℕ) → above < n → n < least → set.contains pair_cmp s (n, id) ≡ false)
-  soonest_found m k rest range = (m, more above m k range.1.0.0, range.1.1, λ n id a b. false_from_ne_true _ (λ has. lower m k n id (range.2 (n, id) (within above n id a, tt) has) b))
+      → (above < m) × ((key : ℕ) × (set.contains pair_cmp s (m, key) ≡ true)) × ((n id : ℕ) → above < n → n < m → set.contains pair_cmp s (n, id) ≡ false)
+  soonest_found m k rest range = (more above m k range.1.0.0, (k, range.1.1), λ n id a b. false_from_ne_true _ (λ has. lower m k n id (range.2 (n, id) (within above n id a, tt) has) b))
     where
       more : (a m k : ℕ) → is_gt (pair_cmp (a + 1, 0) (m, k)) ≡ false → a < m
       more a m k e = grind (arith, nat_tests)

@@ -27,10 +27,10 @@ every_other taken [] = []
 every_other true (x ∷ xs) = x ∷ every_other false xs
 every_other false (x ∷ xs) = every_other true xs
 
--- a key under the least number above this one; None where there is no such number
+-- the least number above this one that a key stands under; None where there is no such number
 abbrev pub IsSoonest : Index → ℕ → Option ℕ → Type 0
 IsSoonest index number None = (n id : ℕ) → number < n → has index n id ≡ false
-IsSoonest index number (Some key) = (least : ℕ) × (number < least) × (has index least key ≡ true) × ((n id : ℕ) → number < n → n < least → has index n id ≡ false)
+IsSoonest index number (Some least) = (number < least) × ((key : ℕ) × (has index least key ≡ true)) × ((n id : ℕ) → number < n → n < least → has index n id ≡ false)
 
 -- the key stands under a number above the first and not above the second
 abbrev pub StandsBetween : Index → ℕ → ℕ → ℕ → Type 0

@@ -140,15 +140,15 @@ impl Index {
         }
     }
 
-    /// A key under the least number above this one, if there is such a number.
-    pub fn soonest_after(&self, number: u32) -> Option<KeyId>
+    /// The least number above this one that a key stands under, if there is such a number.
+    pub fn soonest_after(&self, number: u32) -> Option<u64>
         ensures { IsSoonest self.now number result }
     {
         let mut pairs = self
             .pairs
             .range((Bound::Included(from(number)), Bound::Unbounded));
         match pairs.next() {
-            Some(pair) => Some(pair.1),
+            Some(pair) => Some(pair.0),
             None => None,
         }
     }

@@ -1,11 +1,11 @@
 -- Under which numbers a key is filed, part by part.
-use Rattle.std.proofs.Common.{◌≡◌, ℕ, ◌==◌, ◌&&◌, ◌||◌, not, Bool, true, false, cond, List, [], ◌∷◌, ◌++◌, map, nat_lt, nat_cmp, Option, Some, None, IsPermutation, refl, sym, ap, ap₂, ◌∙◌, arith}
+use Rattle.std.proofs.Common.{◌≡◌, ℕ, ◌<◌, ◌^◌, ◌==◌, ◌&&◌, ◌||◌, not, Bool, true, false, cond, List, [], ◌∷◌, ◌++◌, map, nat_lt, nat_cmp, Option, Some, None, IsPermutation, refl, sym, ap, ap₂, subst, ◌∙◌, arith}
 use Rattle.std.specs.Cmp.{nat_cmp_total}
 use Rattle.std.specs.FinMap as finmap
 use Rattle.std.specs.Ordering.{eq_by_cmp}
 use Rattle.std.proofs.lemmas.Bool.Decides.{nat_tests}
 use Rattle.std.specs.List.{flat_map, list_any}
-use Rattle.std.proofs.lemmas.List.Folds.{list_any-append}
+use Rattle.std.proofs.lemmas.List.Folds.{Any-from_list_any, list_any-append}
 use Rattle.std.proofs.lemmas.List.Sorted.{IsPermutation-map, list_any-IsPermutation}
 use Rattle.wot_types.specs.declared.placed.Placed.{Placed}
 use Rattle.wot_types.specs.declared.key.Key.{Key}
@@ -14,9 +14,10 @@ use Rattle.wot_types.specs.Indexes.{user_issuers}
 use Rattle.wot_types.specs.Keyring.{Keyring}
 use Rattle.wot_types.specs.NextCheck.{user_expiries}
 use Rattle.wot_types.specs.Selection.{Spot}
+use Rattle.wot_index.specs.Indexed.{has_pair}
 use Rattle.wot_table.specs.declared.heading.Heading.{Heading}
 use Rattle.wot_table.specs.declared.heading.Heading.TheVariants.{Issuer, Expiry}
-use Rattle.wot_table.specs.Headings.{certs_under, is_among, is_filed_by, is_under, key_under, user_under, users_under}
+use Rattle.wot_table.specs.Headings.{AreInRange, IsInRange, certs_under, is_one_of, is_filed_by, is_under, key_under, user_under, users_under}
 
 each_of : (a b c : Bool) → (a && (b || c)) ≡ ((a && b) || (a && c))
 each_of true b c = refl
@@ -24,7 +25,7 @@ each_of false b c = refl
 
 pub filed_append : (heading : Heading) (n : ℕ) (is es js fs : List ℕ) → is_filed_by heading n (is ++ js) (es ++ fs) ≡ (is_filed_by heading n is es || is_filed_by heading n js fs)
 filed_append Issuer n is es js fs = list_any-append (λ m. m == n) is js
-filed_append Expiry n is es js fs = ap (λ b. nat_lt 0 n && b) (list_any-append (λ m. m == n) es fs) ∙ each_of (nat_lt 0 n) (is_among n es) (is_among n fs)
+filed_append Expiry n is es js fs = ap (λ b. nat_lt 0 n && b) (list_any-append (λ m. m == n) es fs) ∙ each_of (nat_lt 0 n) (is_one_of n es) (is_one_of n fs)
 
 not_filed : (heading : Heading) (n : ℕ) → is_filed_by heading n [] [] ≡ false
 not_filed Issuer n = refl
@@ -79,13 +80,6 @@ two_parts heading n expires is es old own one rest two e f g =
     g ∙ ap₂ (λ a b. a || (own && b)) e f ∙ together old own (is_filed_by heading n [] (expires ∷ [])) (is_filed_by heading n is es)
     ∙ ap (λ b. old || (own && b)) (sym (filed_append heading n [] (expires ∷ []) is es))
 
--- the certification at the head, and the others
-pub next_part : (old own one : Bool) (heading : Heading) (n : ℕ) (p : Placed) (ps : List Placed) → one ≡ (old || (own && certs_under heading n (p ∷ [])))
-    → (one || (own && certs_under heading n ps)) ≡ (old || (own && certs_under heading n (p ∷ ps)))
-next_part old own one heading n p ps e =
-    ap (λ b. b || (own && certs_under heading n ps)) e ∙ together old own (certs_under heading n (p ∷ [])) (certs_under heading n ps)
-    ∙ ap (λ b. old || (own && b)) (sym (filed_append heading n (p.cert.issuer ∷ []) (p.cert.expires ∷ []) (map (λ p. p.cert.issuer) ps) (map (λ p. p.cert.expires) ps)))
-
 -- where a key's own pairs come in place of those that it had
 pub given_way : (own had come under : Bool) → come ≡ (own && under) → ((had && not own) || come) ≡ cond own under had
 given_way own had come under e = ap (λ b. (had && not own) || b) e ∙ each own had under
@@ -138,3 +132,21 @@ filed_remove heading keys id n k had gone e f =
 
 pub none_filed : (heading : Heading) (n k : ℕ) → is_under heading n (finmap.get (finmap.empty {R = nat_cmp}) k) ≡ false
 none_filed heading n k = ap (is_under heading n) (finmap.get-empty nat_cmp k)
+
+-- the number under which a pair stands
+pub number_in_range : (heading : Heading) (n k : ℕ) (pairs : List (ℕ × ℕ)) → AreInRange heading pairs → has_pair n k pairs ≡ true → IsInRange heading n
+number_in_range heading n k pairs all there =
+    let found = Any-from_list_any (λ pair. (pair.0 == n) && (pair.1 == k)) pairs there in
+    subst (IsInRange heading) (same found.1.0 found.1.1 n k found.4) (subst (λ (pair : ℕ × ℕ). IsInRange heading pair.0) found.3 (all found.0 found.1 found.2))
+  where
+    same : (a b n k : ℕ) → ((a == n) && (b == k)) ≡ true → a ≡ n
+    same a b n k t = grind (arith, nat_tests)
+
+-- a date that stands in the index after others came in place of some, and after some went
+pub date_after_put : (n : ℕ) (had gone come : Bool) → (had ≡ true → n < 2 ^ 32) → (come ≡ true → n < 2 ^ 32) → ((had && not gone) || come) ≡ true → n < 2 ^ 32
+date_after_put n true gone come old new there = old refl
+date_after_put n false gone come old new there = new there
+
+pub date_after_removal : (n : ℕ) (had gone : Bool) → (had ≡ true → n < 2 ^ 32) → (had && not gone) ≡ true → n < 2 ^ 32
+date_after_removal n true gone old there = old refl
+date_after_removal n false gone old there = cc

@@ -1,5 +1,5 @@
 -- The next expiry and the keys with an expiry between two dates, as the index by expiry tells them.
-use Rattle.std.proofs.Common.{◌≡◌, ◌==◌, ◌&&◌, ◌||◌, ℕ, ◌<◌, ◌≤◌, Bool, true, false, List, [], ◌∷◌, nat_lt, nat_le, Option, Some, None, option_and_then, refl, sym, ap, ◌∙◌, arith}
+use Rattle.std.proofs.Common.{◌≡◌, ◌==◌, ◌&&◌, ◌||◌, ℕ, ◌<◌, ◌≤◌, Bool, true, false, cond, List, [], ◌∷◌, filter, nat_lt, nat_le, Option, Some, None, refl, sym, ap, ◌∙◌, arith}
 use Rattle.std.proofs.Math.Bool.{or-true}
 use Rattle.std.specs.FinMap as finmap
 use Rattle.std.specs.List.{flat_map, list_any}
@@ -9,29 +9,51 @@ use Rattle.std.proofs.lemmas.List.Folds.{list_any-append}
 use Rattle.wot_types.specs.declared.key.Key.{Key}
 use Rattle.wot_types.specs.Indexes.{has_expiry_between, is_between}
 use Rattle.wot_types.specs.Keyring.{Keyring}
-use Rattle.wot_types.specs.NextCheck.{key_expiries, soonest_after}
-use Rattle.wot_types.specs.Soonest.{next_expiry, none_at_0}
+use Rattle.wot_types.specs.NextCheck.{key_expiries, sooner_of, soonest_after, soonest_of}
+use Rattle.wot_types.specs.Soonest.{if_after, next_expiry, none_at_0}
 use Rattle.wot_table.specs.declared.heading.Heading.TheVariants.{Expiry}
-use Rattle.wot_table.specs.Headings.{AgreesWith, is_among, is_under}
-use Rattle.wot_table.proofs.Expiries.{reached, same_reach}
+use Rattle.wot_table.specs.Headings.{AgreesWith, is_one_of, is_under}
 use Rattle.wot_table.proofs.Values.{value_found, value_passes}
 
--- a number that passes, and that it is among them
-number_found : (test : ℕ → Bool) (es : List ℕ) → list_any test es ≡ true → (e : ℕ) × (test e ≡ true) × (is_among e es ≡ true)
+-- the first expiry, if it comes after the date, and the others
+soonest_after-cons : (date e : ℕ) (es : List ℕ) → soonest_after date (e ∷ es) ≡ sooner_of (if_after date e) (soonest_after date es)
+soonest_after-cons date e es =
+    elim (nat_lt date e) as (λ b. soonest_of (cond b (e ∷ filter (λ x. nat_lt date x) es) (filter (λ x. nat_lt date x) es)) ≡ sooner_of (cond b e 0) (soonest_after date es)) [ true ↦ refl | false ↦ refl ]
+
+-- whether an expiry lies between two dates, told by the soonest after the first
+reached : (date limit : ℕ) (es : List ℕ) → (nat_lt 0 (soonest_after date es) && nat_le (soonest_after date es) limit) ≡ list_any (is_between date limit) es
+reached date limit [] = refl
+reached date limit (e ∷ es) =
+    ap (λ n. nat_lt 0 n && nat_le n limit) (soonest_after-cons date e es)
+    ∙ step date limit e (soonest_after date es) (list_any (is_between date limit) es) (reached date limit es)
+  where
+    step : (d l e s : ℕ) (any : Bool) → (nat_lt 0 s && nat_le s l) ≡ any
+        → (nat_lt 0 (sooner_of (if_after d e) s) && nat_le (sooner_of (if_after d e) s) l) ≡ ((nat_lt d e && nat_le e l) || any)
+    step d l e s true h = grind (arith, nat_tests)
+    step d l e s false h = grind (arith, nat_tests)
+
+same_reach : (s t : ℕ) → ((l : ℕ) → (nat_lt 0 s && nat_le s l) ≡ (nat_lt 0 t && nat_le t l)) → s ≡ t
+same_reach s t h = both s t (h s) (h t)
+  where
+    both : (s t : ℕ) → (nat_lt 0 s && nat_le s s) ≡ (nat_lt 0 t && nat_le t s) → (nat_lt 0 s && nat_le s t) ≡ (nat_lt 0 t && nat_le t t) → s ≡ t
+    both s t a b = grind (arith, nat_tests)
+
+-- a number that passes and is one of them
+number_found : (test : ℕ → Bool) (es : List ℕ) → list_any test es ≡ true → (e : ℕ) × (test e ≡ true) × (is_one_of e es ≡ true)
 number_found test [] any = cc
 number_found test (e ∷ es) any =
-    elim (test e) as (λ b. test e ≡ b → (b || list_any test es) ≡ true → (n : ℕ) × (test n ≡ true) × (is_among n (e ∷ es) ≡ true)) [
-      | true ↦ λ t _. (e, t, ap (λ b. b || is_among e es) (itself e))
+    elim (test e) as (λ b. test e ≡ b → (b || list_any test es) ≡ true → (n : ℕ) × (test n ≡ true) × (is_one_of n (e ∷ es) ≡ true)) [
+      | true ↦ λ t _. (e, t, ap (λ b. b || is_one_of e es) (itself e))
       | false ↦ λ _ g. let rest = number_found test es g in (rest.0, rest.1, ap (λ b. (e == rest.0) || b) rest.2 ∙ or-true (e == rest.0))
     ] refl any
   where
     itself : (n : ℕ) → (n == n) ≡ true
     itself n = grind (arith, nat_tests)
 
-number_passes : (test : ℕ → Bool) (es : List ℕ) (n : ℕ) → is_among n es ≡ true → test n ≡ true → list_any test es ≡ true
+number_passes : (test : ℕ → Bool) (es : List ℕ) (n : ℕ) → is_one_of n es ≡ true → test n ≡ true → list_any test es ≡ true
 number_passes test [] n among passes = cc
 number_passes test (e ∷ es) n among passes =
-    elim (e == n) as (λ b. (e == n) ≡ b → (b || is_among n es) ≡ true → (test e || list_any test es) ≡ true) [
+    elim (e == n) as (λ b. (e == n) ≡ b → (b || is_one_of n es) ≡ true → (test e || list_any test es) ≡ true) [
       | true ↦ λ t _. ap (λ m. test m || list_any test es) (same e n t) ∙ ap (λ b. b || list_any test es) passes
       | false ↦ λ _ g. ap (λ b. test e || b) (number_passes test es n g passes) ∙ or-true (test e)
     ] refl among
@@ -78,14 +100,14 @@ zero s false e f = grind (arith, nat_tests)
 
 module _ (keys : Keyring) (has : ℕ → ℕ → Bool) (agrees : AgreesWith has Expiry keys) where
   -- the key under a number
-  under_found : (n : ℕ) (found : Option Key) → is_under Expiry n found ≡ true → (key : Key) × (found ≡ Some key) × (is_among n (key_expiries key) ≡ true)
+  under_found : (n : ℕ) (found : Option Key) → is_under Expiry n found ≡ true → (key : Key) × (found ≡ Some key) × (is_one_of n (key_expiries key) ≡ true)
   under_found n None h = cc
   under_found n (Some key) h = (key, refl, second_test _ _ h)
 
-  stands : (n id : ℕ) → has n id ≡ true → (key : Key) × (finmap.get keys id ≡ Some key) × (is_among n (key_expiries key) ≡ true)
+  stands : (n id : ℕ) → has n id ≡ true → (key : Key) × (finmap.get keys id ≡ Some key) × (is_one_of n (key_expiries key) ≡ true)
   stands n id h = under_found n (finmap.get keys id) (sym (agrees n id) ∙ h)
 
-  has_from : (now n id : ℕ) (key : Key) → now < n → finmap.get keys id ≡ Some key → is_among n (key_expiries key) ≡ true → has n id ≡ true
+  has_from : (now n id : ℕ) (key : Key) → now < n → finmap.get keys id ≡ Some key → is_one_of n (key_expiries key) ≡ true → has n id ≡ true
   has_from now n id key above there among = agrees n id ∙ ap (is_under Expiry n) there ∙ both_tests _ _ (positive now n above) among
 
   pub between_found : (from to n id : ℕ) → from < n → n ≤ to → has n id ≡ true → has_expiry_between keys from to id ≡ true
@@ -118,27 +140,37 @@ module _ (keys : Keyring) (has : ℕ → ℕ → Bool) (agrees : AgreesWith has 
       let s = soonest_after now es in
       sym (ap none_at_0 (zero s _ (reached now s es) (λ h. let e = some_stands now s h in absurd_from (has e.0 e.1) e.4 (none e.0 e.1 e.2))))
 
-  pub next_is_on : (now id least : ℕ) → now < least → has least id ≡ true → ((n k : ℕ) → now < n → n < least → has n k ≡ false)
-      → option_and_then (λ key. none_at_0 (soonest_after now (key_expiries key))) (finmap.get keys id) ≡ next_expiry now keys
-  next_is_on now id least above there none =
-      let key = stands least id there in
+  pub next_is : (now least : ℕ) → now < least → (id : ℕ) × (has least id ≡ true) → ((n id : ℕ) → now < n → n < least → has n id ≡ false) → Some least ≡ next_expiry now keys
+  next_is now least above there none =
+      let key = stands least there.0 there.1 in
       let es = flat_map key_expiries (finmap.values keys) in
-      let one : (limit : ℕ) → list_any (is_between now limit) (key_expiries key.0) ≡ true → list_any (is_between now limit) es ≡ true = λ limit h. any_of_all (is_between now limit) (finmap.values keys) ∙ value_passes (λ k. list_any (is_between now limit) (key_expiries k)) keys id key.0 key.1 h in
-      let other : (limit : ℕ) → list_any (is_between now limit) es ≡ true → list_any (is_between now limit) (key_expiries key.0) ≡ true = λ limit h.
+      let one : (limit : ℕ) → (nat_lt 0 least && nat_le least limit) ≡ true → list_any (is_between now limit) es ≡ true = λ limit h.
+      any_of_all (is_between now limit) (finmap.values keys)
+      ∙ value_passes (λ k. list_any (is_between now limit) (key_expiries k)) keys there.0 key.0 key.1
+      (number_passes (is_between now limit) (key_expiries key.0) least key.2 (between_from now limit least above (upto limit h))) in
+      let other : (limit : ℕ) → list_any (is_between now limit) es ≡ true → (nat_lt 0 least && nat_le least limit) ≡ true = λ limit h.
       let e = some_stands now limit h in
-      number_passes (is_between now limit) (key_expiries key.0) least key.2 (between_from now limit least above (not_later limit e.0 e.3 (not_sooner e.0 e.1 e.2 e.4))) in
-      ap (option_and_then (λ k. none_at_0 (soonest_after now (key_expiries k)))) key.1
-      ∙ ap none_at_0 (same_reach _ _ (λ limit. reached now limit (key_expiries key.0) ∙ both_ways _ _ (one limit) (other limit) ∙ sym (reached now limit es)))
+      reaches limit e.0 e.3 (not_sooner e.0 e.1 e.2 e.4) in
+      some_at now least above ∙ ap none_at_0 (same_reach _ _ (λ limit. both_ways _ _ (one limit) (other limit) ∙ sym (reached now limit es)))
     where
-      not_sooner : (n k : ℕ) → now < n → has n k ≡ true → nat_lt n least ≡ false
-      not_sooner n k a h = go (nat_lt n least) refl
+      some_at : (now least : ℕ) → now < least → Some least ≡ none_at_0 least
+      some_at now least a = grind (arith, nat_tests)
+
+      upto : (limit : ℕ) → (nat_lt 0 least && nat_le least limit) ≡ true → least ≤ limit
+      upto limit h = grind (arith, nat_tests)
+
+      reaches : (limit n : ℕ) → n ≤ limit → least ≤ n → (nat_lt 0 least && nat_le least limit) ≡ true
+      reaches limit n a b = grind (arith, nat_tests)
+
+      not_sooner : (n id : ℕ) → now < n → has n id ≡ true → least ≤ n
+      not_sooner n id a h = go (nat_lt n least) refl
         where
           below : (n least : ℕ) → nat_lt n least ≡ true → n < least
           below n least e = grind (arith, nat_tests)
 
-          go : (b : Bool) → nat_lt n least ≡ b → nat_lt n least ≡ false
-          go true e = absurd (absurd_from (has n k) h (none n k a (below n least e)))
-          go false e = e
+          from : (n least : ℕ) → nat_lt n least ≡ false → least ≤ n
+          from n least e = grind (arith, nat_tests)
 
-      not_later : (limit n : ℕ) → n ≤ limit → nat_lt n least ≡ false → least ≤ limit
-      not_later limit n a b = grind (arith, nat_tests)
+          go : (b : Bool) → nat_lt n least ≡ b → least ≤ n
+          go true e = absurd (absurd_from (has n id) h (none n id a (below n least e)))
+          go false e = from n least e

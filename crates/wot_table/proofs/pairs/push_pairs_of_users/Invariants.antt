@@ -1,10 +1,13 @@
 use Rattle.std.proofs.Common.{◌≡◌, ℕ, ◌==◌, ◌&&◌, ◌||◌, drop}
 use Rattle.std.specs.List.{list_any}
-use Rattle.wot_table.specs.Headings.{user_under}
+use Rattle.wot_table.specs.Headings.{AreInRange, user_under}
 use Rattle.wot_index.specs.Indexed.{has_pair}
 use Rattle.wot_table.proofs.pairs.push_pairs_of_users.Given as goal
 
 abbrev pub invariant-loop-user : goal.invariant-loop-user
-invariant-loop-user l = (n k : ℕ)
-    → (has_pair n k l.to.items || ((k == l.id) && list_any (user_under l.heading n) (drop l.user-index l.users)))
-    ≡ (has_pair n k l.fn.to.items || ((k == l.id) && list_any (user_under l.heading n) l.users))
+invariant-loop-user l = record {
+  added : (n k : ℕ)
+      → (has_pair n k l.to.items || ((k == l.id) && list_any (user_under l.heading n) (drop l.user-index l.users)))
+      ≡ (has_pair n k l.fn.to.items || ((k == l.id) && list_any (user_under l.heading n) l.users));
+  in_range : AreInRange l.heading l.fn.to.items → AreInRange l.heading l.to.items;
+}

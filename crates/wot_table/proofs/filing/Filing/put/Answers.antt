@@ -7,7 +7,7 @@ use Rattle.wot_types.proofs.Maps.{get_entries, inserted}
 use Rattle.wot_table.specs.declared.heading.Heading.TheVariants.{Issuer, Expiry}
 use Rattle.wot_table.specs.Headings.{is_under}
 use Rattle.wot_table.specs.Weights.{HasRoom, IsSummed, minus, plus, sums_of, weight_of, weight_or_none}
-use Rattle.wot_table.proofs.Filed.{filed_put, given_way}
+use Rattle.wot_table.proofs.Filed.{date_after_put, filed_put, given_way, number_in_range}
 use Rattle.wot_table.proofs.Summing.{len_seen, room, summed_with_key}
 use Rattle.wot_table.proofs.filing.Filing.put.Goals as goal
 
@@ -54,12 +54,14 @@ invariant_of-result c =
           (summed_with_key c.args.self c.args.key summed.kept c.requires.well_formed));
       signed = λ n k.
           c.in_ok-file.ensures n k
-          ∙ given_way (k == c.key_id-id.result) _ _ _ (c.in_ok-issuers.ensures n k)
+          ∙ given_way (k == c.key_id-id.result) _ _ _ (c.in_ok-issuers.ensures.exact n k)
           ∙ filed_put Issuer (map.from_entries filed) c.key_id-id.result c.in_ok-held.held n k _ (c.self.invariant.signed n k)
           ∙ ap (λ m. is_under Issuer n (map.get m k)) put;
       dated = λ n k.
           c.in_ok-file-2.ensures n k
-          ∙ given_way (k == c.key_id-id.result) _ _ _ (c.in_ok-expiries.ensures n k)
+          ∙ given_way (k == c.key_id-id.result) _ _ _ (c.in_ok-expiries.ensures.exact n k)
           ∙ filed_put Expiry (map.from_entries filed) c.key_id-id.result c.in_ok-held.held n k _ (c.self.invariant.dated n k)
           ∙ ap (λ m. is_under Expiry n (map.get m k)) put;
+      dates = λ n k there.
+          date_after_put n _ _ _ (c.self.invariant.dates n k) (number_in_range Expiry n k c.in_ok-expiries.expiries.items c.in_ok-expiries.ensures.in_range) (sym (c.in_ok-file-2.ensures n k) ∙ there);
     }

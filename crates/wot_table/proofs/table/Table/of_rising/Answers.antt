@@ -24,11 +24,12 @@ invariant_of-result c =
     record {
       summed = subst (λ m. IsSummed m c.keys-2.inside.sums) (sym same) c.keys-2.invariant;
       signed = λ n k.
-          c.in_ok-signed.ensures n k ∙ ap (keys_under Issuer n k) c.as_slice.ensures
+          c.in_ok-signed.ensures.exact n k ∙ ap (keys_under Issuer n k) c.as_slice.ensures
           ∙ filed_alone Issuer n k c.args.keys sorted ∙ ap (λ m. is_under Issuer n (finmap.get m k)) (sym whole);
       dated = λ n k.
-          c.in_ok-dated.ensures n k ∙ ap (keys_under Expiry n k) c.as_slice-2.ensures
+          c.in_ok-dated.ensures.exact n k ∙ ap (keys_under Expiry n k) c.as_slice-2.ensures
           ∙ filed_alone Expiry n k c.args.keys sorted ∙ ap (λ m. is_under Expiry n (finmap.get m k)) (sym whole);
+      dates = c.in_ok-dated.ensures.in_range;
     }
 
 pub returns : goal.returns
