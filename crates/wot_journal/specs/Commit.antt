@@ -1,10 +1,10 @@
 -- What putting a record onto the disk does.
-use Rattle.std.specs.Prelude.{ℕ, ◌≡◌, ◌⊎◌, ◌+◌, List, length, take}
+use Rattle.std.specs.Prelude.{ℕ, ◌≡◌, ◌⊎◌, ◌+◌, List, [], ◌∷◌, length, take}
 use Rattle.wot_site.specs.Disk.{Disk, Disks, IsImage, disk_of, with_disk, after_write, after_sync, settled_disk}
 use Rattle.wot_site.specs.Seen.{Seen}
 use Rattle.wot_site.specs.Site.{on_disk}
 use Rattle.wot_site.specs.declared.side.Side.{Side}
-use Rattle.wot_journal.specs.Record.{Framed, IsClosed, with_record}
+use Rattle.wot_journal.specs.Record.{Framed, IsClosed, behind_gate, open_gate, with_record}
 
 -- so many calls wrote or synced, where nothing was told: each has its moment
 abbrev pub MakesCalls : ℕ → Seen → Seen → Type 0
@@ -26,6 +26,11 @@ pub record IsEnd (at : ℕ) (d : Disk) : Type 0 where
 -- the record stands on the side with a closed gate behind it, nothing is pending there, and the other side is as it was
 abbrev pub Commits : Side → Framed → Seen → Seen → Type 0
 Commits side built old new = new.disks ≡ with_disk side (settled_disk (with_record (disk_of side old.disks).reads built.end built.payload)) old.disks
+
+-- it stopped at the record, or behind it at its gate, and nothing was done after the call that failed
+abbrev pub CommitsNot : Side → Framed → Seen → Seen → Type 0
+CommitsNot side built old new = PutsNot side (built.end + 1) (behind_gate built.payload) old new
+    ⊎ ((between : Seen) × Puts side (built.end + 1) (behind_gate built.payload) old between × PutsNot side built.end (open_gate ∷ []) between new)
 
 -- the bytes before the journal's end are these, and its gate is closed
 pub record IsUnchanged (bytes : List ℕ) (end : ℕ) (c : List ℕ) : Type 0 where

@@ -6,7 +6,7 @@ ghost use Rattle.wot_site.specs.Seen.{Honestly, IfHonest};
 ghost use Rattle.wot_site.specs.Site.{HasCause, disk_faults};
 ghost use Rattle.wot_site.specs.Work.{Works};
 ghost use Rattle.wot_journal.specs.Record.{most};
-ghost use Rattle.wot_journal.specs.Commit.{MakesCalls, Puts, PutsNot, IsEnd, Commits, IsCommitting};
+ghost use Rattle.wot_journal.specs.Commit.{MakesCalls, Puts, PutsNot, IsEnd, Commits, CommitsNot, IsCommitting};
 
 use crate::record::Built;
 use wot_site::{DiskFault, Failed, OPEN, Side, Site};
@@ -37,6 +37,7 @@ pub fn commit<S: Site>(site: &mut S, side: Side, built: &Built) -> Result<u64, D
     ensures room { built.now.end + length built.now.payload + 6 ≤ most }
     ensures committed { OnOk result (Honestly (S.seen site.old) (S.seen site.new) (Commits side built.now)) }
     ensures calls { OnOk result (Honestly (S.seen site.old) (S.seen site.new) (MakesCalls 4)) }
+    ensures failed { OnErr result (Honestly (S.seen site.old) (S.seen site.new) (CommitsNot side built.now)) }
     // At each moment of it each image has the journal as it was, or the record too.
     ensures any_moment { Honestly (S.seen site.old) (S.seen site.new) (λ old new. Works (IsCommitting side built.now old.disks) old new) }
     ensures cause { HasCause disk_faults (S.faults site.old) (S.faults site.new) result }

@@ -1,33 +1,26 @@
 -- What a crash leaves while pages are written.
-use Rattle.std.proofs.Common.{◌≡◌, ◌≢◌, ◌⊎◌, inl, inr, ℕ, ◌+◌, ◌-◌, ◌*◌, ◌<◌, ◌≤◌, Option, Some, None, List, [], ◌∷◌, ◌++◌, length, get_or, take, drop, refl, sym, ◌∙◌, ap, subst, arith, append_assoc, flat_map}
+use Rattle.std.proofs.Common.{◌≡◌, ◌⊎◌, inl, inr, ℕ, suc, ◌+◌, ◌-◌, ◌*◌, ◌<◌, ◌≤◌, Option, Some, None, List, [], ◌∷◌, ◌++◌, length, get_or, take, drop, refl, sym, ◌∙◌, ap, subst, arith, append_assoc, flat_map}
 use Rattle.std.specs.List.{range_with_len}
 use Rattle.std.proofs.lemmas.Bool.{cases_lt}
 use Rattle.std.proofs.lemmas.List.{append-nil, length-append, length-take-le, length-drop, take-take, take_at, take-append-drop, drop-drop, get_or-take, get_or-drop, get_or_append_left, get_or-append_right}
 use Rattle.std.proofs.lemmas.List.Elements.{All-nil, All-push, All-append, All-weaker}
 use Rattle.wot_site.specs.declared.range.Range.{Range}
 use Rattle.wot_site.specs.declared.side.Side.{Side}
-use Rattle.wot_site.specs.Disk.{Disk, Disks, IsImage, IsOutside, disk_of, with_disk, after_write, settled_disk, bytes_after_write}
+use Rattle.wot_site.specs.Disk.{Disk, Disks, IsImage, IsOutside, disk_of, with_disk, after_write, bytes_after_write}
 use Rattle.wot_site.specs.Seen.{Seen, IfHonest, Honestly}
-use Rattle.wot_site.specs.Site.{Writes, WritesOrNot}
+use Rattle.wot_site.specs.Site.{Writes, WritesOrNot, on_disk}
 use Rattle.wot_site.specs.Work.{Works}
 use Rattle.wot_site.proofs.Calls.{writes_not_work}
-use Rattle.wot_site.proofs.Images.{settled_image, take_written, length_written, length_written_end, back_written}
+use Rattle.wot_site.proofs.Images.{take_written, length_written, length_written_end, back_written}
 use Rattle.wot_site.proofs.Sides.{disk_with, with_with, with_same}
 use Rattle.wot_site.proofs.Works.{works_start, works_push, works_then}
-use Rattle.wot_site.specs.Gate.{IsClosed, open_gate}
+use Rattle.wot_site.specs.Gate.{IsClosed}
 use Rattle.wot_types.specs.PagePlaces.{pages_needed}
 use Rattle.wot_pages.specs.Page.{page}
 use Rattle.wot_pages.specs.Pages.{contents_for, content_in}
 use Rattle.wot_pages.proofs.Held.{content_long, page_long}
 use Rattle.wot_pages.proofs.Runs.{flat_length, flat_more}
-use Rattle.wot_pages.specs.Writing.{IsShut, IsWrittenFrom, HasHeaderOf, FillsPages, WritesPages}
-
--- a settled side with a header behind a closed gate
-pub shut_settled : (bytes : List ℕ) → 24 ≤ length bytes → get_or bytes 0 0 ≢ open_gate → IsShut (settled_disk bytes)
-shut_settled bytes long gate = record {
-  long = long;
-  images = λ c image. subst (λ (l : List ℕ). IsClosed l 0) (sym (settled_image bytes c image)) (record { within = omega (arith, long); closed = gate });
-}
+use Rattle.wot_pages.specs.Writing.{IsShut, IsWrittenFrom, HasHeaderOf, FillsPages, StopsAtPage, WritesPages, after_pages}
 
 -- ---- one write behind the header
 
@@ -158,6 +151,7 @@ written_end old at bytes low = elim (cases_lt (length old) (at + length bytes)) 
 
 -- the first pages were written, in one call each
 pub record Filled (side : Side) (epoch : ℕ) (image : List ℕ) (k : ℕ) (old new : Seen) : Type 0 where
+  pub steps : new ≡ after_pages side epoch image k old
   pub works : Works (FillsPages side old.disks) old new
   pub calls : length new.moments ≡ length old.moments + k
   pub reads : (disk_of side new.disks).reads ≡ bytes_after_write (disk_of side old.disks).reads 24 (first_pages epoch image k)
@@ -165,6 +159,7 @@ pub record Filled (side : Side) (epoch : ℕ) (image : List ℕ) (k : ℕ) (old 
 module _ (side : Side) (epoch : ℕ) (image : List ℕ) (x : Seen) (known : IsShut (disk_of side x.disks)) where
   pub filled_start : Filled side epoch image 0 x x
   filled_start = record {
+    steps = refl;
     works = works_start (FillsPages side x.disks) x (fills side x.disks x.disks known (sym (with_same side x.disks)) (written_none 24 (disk_of side x.disks)));
     calls = omega arith;
     reads = sym (take-append-drop 24 (disk_of side x.disks).reads);
@@ -195,17 +190,34 @@ module _ (side : Side) (epoch : ℕ) (image : List ℕ) (x : Seen) (known : IsSh
     filled_not z writes = works_then (FillsPages side x.disks) x y z before.works
         (writes_not_work (FillsPages side x.disks) side (24 + 4096 * k) (page epoch k (content_in (contents_for image) k)) y z before.works.last while_filled writes)
 
+    pub filled_stopped : k < pages_needed (length image) → (z : Seen) → WritesOrNot side (24 + 4096 * k) (page epoch k (content_in (contents_for image) k)) y z → StopsAtPage side epoch image x z
+    filled_stopped within z writes = record {
+      page = k;
+      within = within;
+      is = elim writes [
+        | inl wrote ↦ inl (wrote ∙ ap (λ (s : Seen). on_disk side (after_write (24 + 4096 * k) (page epoch k (content_in (contents_for image) k))) s) before.steps)
+        | inr not ↦ inr (not ∙ before.steps)
+      ];
+    }
+
     pub filled_calls : (z : Seen) → WritesOrNot side (24 + 4096 * k) (page epoch k (content_in (contents_for image) k)) y z → length z.moments ≤ length x.moments + (k + 1)
     filled_calls z (inl wrote) = omega (arith, ap (λ (s : Seen). length s.moments) wrote, length-append y.moments (record { disks = with_disk side more y.disks; told = y.told } ∷ []), before.calls)
     filled_calls z (inr not) = omega (arith, ap (λ (s : Seen). length s.moments) not, before.calls)
 
     pub filled_more : (z : Seen) → Writes side (24 + 4096 * k) (page epoch k (content_in (contents_for image) k)) y z → Filled side epoch image (k + 1) x z
     filled_more z writes = subst (λ (s : Seen). Filled side epoch image (k + 1) x s) (sym writes) record {
+      steps = ap (λ (s : Seen). on_disk side (after_write (24 + 4096 * k) (page epoch k (content_in (contents_for image) k))) s) before.steps ∙ one_more;
       works = works_push (FillsPages side x.disks) x y (with_disk side more y.disks) before.works while_filled;
       calls = length-append y.moments (record { disks = with_disk side more y.disks; told = y.told } ∷ []) ∙ omega (arith, before.calls);
       reads = ap (λ (d : Disk). d.reads) same ∙ grown;
     }
       where
+        next : suc k ≡ k + 1
+        next = omega arith
+
+        one_more : after_pages side epoch image (suc k) x ≡ after_pages side epoch image (k + 1) x
+        one_more = ap (λ (n : ℕ). after_pages side epoch image n x) next
+
         grown : bytes_after_write (disk_of side y.disks).reads (24 + 4096 * k) (page epoch k (content_in (contents_for image) k)) ≡ bytes_after_write (disk_of side x.disks).reads 24 (first_pages epoch image (k + 1))
         grown =
             let place : 24 + 4096 * k ≡ 24 + length (first_pages epoch image k) = omega (arith, firsts_long epoch image k few) in
@@ -215,6 +227,7 @@ module _ (side : Side) (epoch : ℕ) (image : List ℕ) (x : Seen) (known : IsSh
 
 pub filled_whole : (side : Side) (epoch : ℕ) (image : List ℕ) (k : ℕ) (x y : Seen) → k ≡ pages_needed (length image) → Filled side epoch image k x y → WritesPages side epoch image x y
 filled_whole side epoch image k x y is filled = record {
+  steps = filled.steps ∙ ap (λ (n : ℕ). after_pages side epoch image n x) is;
   works = filled.works;
   calls = filled.calls ∙ ap (λ (n : ℕ). length x.moments + n) is;
   reads = filled.reads ∙ ap (λ (n : ℕ). bytes_after_write (disk_of side x.disks).reads 24 (first_pages epoch image n)) is;

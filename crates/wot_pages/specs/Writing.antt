@@ -1,13 +1,15 @@
 -- What writing pages does.
-use Rattle.std.specs.Prelude.{ℕ, ◌≡◌, ◌+◌, ◌≤◌, List, ◌++◌, length, take, All}
+use Rattle.std.specs.Prelude.{ℕ, zero, suc, ◌≡◌, ◌⊎◌, ◌+◌, ◌<◌, ◌≤◌, List, ◌++◌, length, take, All}
 use Rattle.wot_site.specs.declared.range.Range.{Range}
 use Rattle.wot_site.specs.declared.side.Side.{Side}
-use Rattle.wot_site.specs.Disk.{Disk, Disks, IsImage, disk_of, with_disk, bytes_after_write}
+use Rattle.wot_site.specs.Disk.{Disk, Disks, IsImage, disk_of, with_disk, after_write, bytes_after_write}
 use Rattle.wot_site.specs.Seen.{Seen}
+use Rattle.wot_site.specs.Site.{on_disk}
 use Rattle.wot_site.specs.Work.{Works}
 use Rattle.wot_site.specs.Gate.{IsClosed}
-use Rattle.wot_types.specs.PagePlaces.{first_page, pages_needed}
-use Rattle.wot_pages.specs.Pages.{pages_for}
+use Rattle.wot_types.specs.PagePlaces.{first_page, page_place, pages_needed}
+use Rattle.wot_pages.specs.Page.{page}
+use Rattle.wot_pages.specs.Pages.{content_in, contents_for, pages_for}
 
 -- a side has a header, and in each image the gate in front of it is closed
 pub record IsShut (d : Disk) : Type 0 where
@@ -37,12 +39,24 @@ pub record FillsPages (side : Side) (old new : Disks) : Type 0 where
   pub header : (c : List ℕ) → IsImage (disk_of side new) c → HasHeaderOf (disk_of side old) c
   pub shut : (c : List ℕ) → IsImage (disk_of side new) c → IsClosed c 0
 
--- no more calls were made than there are pages
+-- no more calls wrote or synced than there are pages
 abbrev pub WritesAtMost : ℕ → Seen → Seen → Type 0
 WritesAtMost pages old new = length new.moments ≤ length old.moments + pages
 
--- the pages of an image were written over what stood behind the header, in one call each
+-- the first k pages of an image are written, one behind the other, each in a call of its own
+abbrev pub after_pages : Side → ℕ → List ℕ → ℕ → Seen → Seen
+after_pages side epoch image zero old = old
+after_pages side epoch image (suc k) old = on_disk side (after_write (page_place k) (page epoch k (content_in (contents_for image) k))) (after_pages side epoch image k old)
+
+-- it stopped at a page, whose call counts as made or as not made, and nothing was done after it
+pub record StopsAtPage (side : Side) (epoch : ℕ) (image : List ℕ) (old new : Seen) : Type 0 where
+  pub page : ℕ
+  pub within : page < pages_needed (length image)
+  pub is : (new ≡ after_pages side epoch image (suc page) old) ⊎ (new ≡ after_pages side epoch image page old)
+
+-- all pages of an image were written over what stood behind the header, in one call each and no other call that writes or syncs
 pub record WritesPages (side : Side) (epoch : ℕ) (image : List ℕ) (old new : Seen) : Type 0 where
+  pub steps : new ≡ after_pages side epoch image (pages_needed (length image)) old
   pub works : Works (FillsPages side old.disks) old new
   pub calls : length new.moments ≡ length old.moments + pages_needed (length image)
   pub reads : (disk_of side new.disks).reads ≡ bytes_after_write (disk_of side old.disks).reads first_page (pages_for epoch image)

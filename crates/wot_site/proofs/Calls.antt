@@ -18,10 +18,6 @@ alone_disk side d x y alone = ap (λ (e : Disks). disk_of side e) alone ∙ disk
 pub alone_over : (side : Side) (d e : Disk) (x y : Seen) → IsAlone side d x y → with_disk side e y.disks ≡ with_disk side e x.disks
 alone_over side d e x y alone = ap (λ (f : Disks). with_disk side e f) alone ∙ with_with side d e x.disks
 
-pub alone_then : (side : Side) (d : Disk) (f : Disk → Disk) (x y z : Seen) → IsAlone side d x y → IsAlone side (f (disk_of side y.disks)) y z → IsAlone side (f d) x z
-alone_then side d f x y z before after =
-    after ∙ alone_over side d (f (disk_of side y.disks)) x y before ∙ ap (λ (e : Disk). with_disk side (f e) x.disks) (alone_disk side d x y before)
-
 pub wrote_alone : (side : Side) (at : ℕ) (bytes : List ℕ) (x y : Seen) → Writes side at bytes x y → IsAlone side (after_write at bytes (disk_of side x.disks)) x y
 wrote_alone side at bytes x y writes = ap (λ (s : Seen). s.disks) writes
 

@@ -1,5 +1,4 @@
 pub mod Calls
-pub mod Counts
 pub mod Honest
 pub mod Images
 pub mod Outcome

@@ -3,7 +3,7 @@ use Rattle.std.proofs.Common.{◌≡◌, ◌⊎◌, inl, inr, ℕ, ◌+◌, ◌<
 use Rattle.std.specs.Prelude.{slice_index, Some}
 use Rattle.std.proofs.lemmas.Bool.{cases_lt}
 use Rattle.std.proofs.lemmas.List.{take_more, take_all}
-use Rattle.std.proofs.lemmas.List.Elements.{All-nil, All-pop, All-push}
+use Rattle.std.proofs.lemmas.List.Elements.{All-pop, All-push}
 use Rattle.wot_site.specs.Disk.{Range, Disk, IsImage, IsOutside, bytes_after_write}
 use Rattle.wot_site.specs.MemorySide.{IsFilled}
 use Rattle.wot_site.proofs.Images.{image_kept}
@@ -20,9 +20,6 @@ pub record Filling (byte : ℕ) (reads : List ℕ) (ranges : List Range) (image 
   pub long : length image ≡ length reads
   pub outside : (i : ℕ) → IsOutside i ranges → slice_index image i ≡ slice_index reads i
   pub inside : (i : ℕ) → i < length image → (IsOutside i ranges → ⊥) → slice_index image i ≡ byte
-
-pub filling_none : (byte : ℕ) (reads : List ℕ) → Filling byte reads [] reads
-filling_none byte reads = record { long = refl; outside = λ i _. refl; inside = λ i _ not. absurd (not (All-nil (λ (r : Range). (i < r.at) ⊎ (r.at + r.len ≤ i)))) }
 
 -- one range more
 pub filling_more : (byte : ℕ) (reads image next : List ℕ) (ranges : List Range) (r : Range) → Filling byte reads ranges image → length next ≡ length image

@@ -1,12 +1,12 @@
 -- Bytes of a side that are read piece by piece.
-use Rattle.std.proofs.Common.{◌≡◌, ℕ, ◌+◌, ◌<◌, ◌≤◌, List, [], ◌++◌, length, take, drop, refl, sym, ◌∙◌, ap, arith}
+use Rattle.std.proofs.Common.{◌≡◌, ℕ, ◌+◌, ◌≤◌, List, [], ◌++◌, length, take, drop, refl, sym, ◌∙◌, ap, arith}
 use Rattle.std.proofs.lemmas.List.{length-append, length-take-le, take-take, drop-drop}
 use Rattle.std.proofs.Math.Seq.{take-add}
 use Rattle.wot_site.specs.Disk.{disk_of}
 use Rattle.wot_site.specs.Seen.{Seen}
 use Rattle.wot_site.specs.Site.{Reads}
 use Rattle.wot_site.specs.declared.side.Side.{Side}
-use Rattle.wot_site.specs.Reading.{IsRange, IsShort}
+use Rattle.wot_site.specs.Reading.{IsRange}
 
 pub range_start : (side : Side) (at : ℕ) (x : Seen) → IsRange side at 0 [] x x
 range_start side at x = record { stays = refl; these = refl; long = refl }
@@ -26,8 +26,3 @@ module _ (side : Side) (at : ℕ) (xs buf : List ℕ) (n fits : ℕ) (x y z : Se
         these = (λ i. before.these i ++ piece i) ∙ sym (take-add (length xs) fits (drop at R)) ∙ ap (λ (k : ℕ). take k (drop at R)) (sym both);
         long = refl;
       }
-
-  pub range_short : (len : ℕ) → n ≡ 0 → 0 < length buf → length xs < len → IsShort side at len x z
-  range_short len none some left =
-      let same : length (disk_of side y.disks).reads ≡ length (disk_of side x.disks).reads = ap (λ (s : Seen). length (disk_of side s.disks).reads) before.stays in
-      record { stays = reads.stays ∙ before.stays; short = omega (arith, same, reads.last none some) }

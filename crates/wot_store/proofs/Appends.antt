@@ -22,7 +22,8 @@ use Rattle.wot_store.specs.Base.{base_fault, bytes_of, has_closed_gate, header_o
 use Rattle.wot_store.specs.Journal.{Ends, Reaches, HasPayload, records, after_edit}
 use Rattle.wot_types.specs.Store.{Store}
 use Rattle.wot_store.specs.Shows.{Shows, ShowsBase, IsStored}
-use Rattle.wot_store.specs.Appending.{Appending, Appends, IsRecordOf, place_after}
+use Rattle.wot_store.specs.Appending.{IsRecordOf, place_after}
+use Rattle.wot_store.specs.Changing.{IsStoredAfter, ShowsEither}
 use Rattle.wot_store.proofs.Headers.{IsWhole, base_whole, header_front, shown_header, whole_base}
 use Rattle.wot_pages.proofs.Held.{same_contents, same_fault}
 use Rattle.wot_store.proofs.Pairs.{IsShown, base_here, image_on, reads_bytes, replaced, shown_kept, shows_here}
@@ -215,7 +216,7 @@ module _ (place : Place) (built : Framed) (shown : Store) (edit : Edit) (is_reco
       (still_shows place.side (bytes_of place.side (reads_of x.disks)) stored.header is_header shown base (bytes_of place.side c) at_end))
   image_shows c other (inr whole) = inr (recorded_image c other whole)
 
-  pub append_moments : Works (IsCommitting place.side built x.disks) x y → Appending shown (edited_store shown edit) x y
+  pub append_moments : Works (IsCommitting place.side built x.disks) x y → ShowsEither shown (edited_store shown edit) x y
   append_moments works = works_weaker _ _ x y (λ d on c image.
       let left = image_on place.side P x.disks d stored.settled (record { other = on.other; images = λ b is. reads b (on.images b is) }) c image in
       image_shows c left.other left.here) works
@@ -226,7 +227,7 @@ module _ (place : Place) (built : Framed) (shown : Store) (edit : Edit) (is_reco
       reads : (b : List ℕ) → IsUnchanged (disk_of place.side x.disks).reads built.end b ⊎ (b ≡ with_record (disk_of place.side x.disks).reads built.end built.payload) → P b
       reads b h = subst (λ (l : List ℕ). IsUnchanged l built.end b ⊎ (b ≡ with_record l built.end built.payload)) (reads_bytes place.side x.disks) h
 
-  pub append_done : Commits place.side built x y → Appends (place_after place built) (edited_store shown edit) x y
+  pub append_done : Commits place.side built x y → IsStoredAfter (place_after place built) (edited_store shown edit) x y
   append_done commits =
       let now = replaced place.side (with_record (disk_of place.side x.disks).reads built.end built.payload) x.disks y.disks stored.settled commits in
       let whole : bytes_of place.side (reads_of y.disks) ≡ recorded = now.here ∙ ap (λ (l : List ℕ). with_record l built.end built.payload) (reads_bytes place.side x.disks) in

@@ -15,11 +15,11 @@ use Rattle.wot_journal.specs.Record.{most}
 use Rattle.wot_types.specs.PagePlaces.{page_place, pages_needed}
 use Rattle.wot_pages.specs.Pages.{contents_for}
 use Rattle.wot_store.specs.declared.place.Place.{Place}
-use Rattle.wot_store.specs.Appending.{Appending, Appends}
+use Rattle.wot_store.specs.Changing.{IsStoredAfter, ShowsEither}
 use Rattle.wot_store.specs.Base.{bytes_of, has_closed_gate, header_of, other_side}
 use Rattle.wot_store.specs.Compacting.{compacted_place}
 use Rattle.wot_store.specs.Shows.{IsStored, Shows, ShowsBase}
-use Rattle.wot_store.specs.Writing.{Becomes, IsKnown, IsWriting, Writing, base_bytes}
+use Rattle.wot_store.specs.Writing.{Becomes, IsWriting, Writing, base_bytes}
 use Rattle.wot_store.proofs.Headers.{shown_header}
 use Rattle.wot_store.proofs.Unwritten.{settled_images}
 use Rattle.wot_store.proofs.Pairs.{IsShown, base_here, image_on, opened_not_closed, reads_bytes, replaced, shown_alone, shown_kept, shown_magic, shown_next, shows_here}
@@ -28,14 +28,6 @@ use Rattle.wot_store.proofs.Wholes.{base_header, whole_header, whole_shows}
 twice : (side : Side) → other_side (other_side side) ≡ side
 twice Zero = refl
 twice One = refl
-
--- the gate of the side that is written over is known
-pub other_known : (place : Place) (shown : Store) (d : Disks) → IsStored place shown d → IsKnown place.other_closed (disk_of (other_side place.side) d)
-other_known place shown d stored = by_side place.side stored.closed
-  where
-    by_side : (side : Side) → place.other_closed ≡ has_closed_gate (bytes_of (other_side side) (reads_of d)) → IsKnown place.other_closed (disk_of (other_side side) d)
-    by_side Zero closed = record { settled = ap (λ (e : Disks). e.one) stored.settled; closed = closed }
-    by_side One closed = record { settled = ap (λ (e : Disks). e.zero) stored.settled; closed = closed }
 
 -- the compacted store, before the last epoch and in it
 compacted_before : (s : Store) → nat_eq s.epoch last_epoch ≡ false → compacted_store s ≡ record { state = s.state; epoch = s.epoch + 1; end = base_end s.state }
@@ -49,10 +41,10 @@ compacted_last s last =
     λ i. record { state = s.state; epoch = if same i then s.epoch else s.epoch + 1; end = if same i then s.end else base_end s.state }
 
 -- nothing was done
-pub unmoved : (place : Place) (shown : Store) (x : Seen) → IsStored place shown x.disks → Appending shown shown x x
+pub unmoved : (place : Place) (shown : Store) (x : Seen) → IsStored place shown x.disks → ShowsEither shown shown x x
 unmoved place shown x stored = works_start _ x (λ c image. inl (subst (λ (k : Image). Shows k shown) (sym (settled_images x.disks c (subst (λ (d : Disks). IsImageOf d c) stored.settled image))) stored.shows))
 
-pub still_stored : (place : Place) (shown : Store) (after : Store) (seen : Option Seen) → IfHonest seen (λ x. IsStored place shown x.disks) → Honestly seen seen (Appending shown after)
+pub still_stored : (place : Place) (shown : Store) (after : Store) (seen : Option Seen) → IfHonest seen (λ x. IsStored place shown x.disks) → Honestly seen seen (ShowsEither shown after)
 still_stored place shown after None stored = tt
 still_stored place shown after (Some x) stored = works_weaker _ _ x x (λ d shows c image. ⊎_elim (λ h. inl h) (λ h. inl h) (shows c image)) (unmoved place shown x stored)
 
@@ -103,13 +95,13 @@ module _ (place : Place) (shown : Store) (image : List ℕ) (x y : Seen) (stored
       (shown_alone c place.side stored.header (shown_magic (reads_of x.disks) place.side stored.header here) (kept_header c same) blank) (kept_base c same))
   image_shows c same (inr (inr whole)) = inr (whole_image c same whole)
 
-  moments : Writing (other_side place.side) (place.epoch + 1) image x y → Appending shown after x y
+  moments : Writing (other_side place.side) (place.epoch + 1) image x y → ShowsEither shown after x y
   moments works = works_weaker _ _ x y (λ d on c left.
       let seen = image_on (other_side place.side) (IsWriting (disk_of (other_side place.side) x.disks).reads (place.epoch + 1) image) x.disks d stored.settled on c left in
       image_shows c (kept c seen.other) seen.here) works
 
   done : Becomes (other_side place.side) (base_bytes (place.epoch + 1) image) x y
-      → Appends (record { side = other_side place.side; epoch = place.epoch + 1; end = page_place (pages_needed (length image)); other_closed = false }) after x y
+      → IsStoredAfter (record { side = other_side place.side; epoch = place.epoch + 1; end = page_place (pages_needed (length image)); other_closed = false }) after x y
   done becomes =
       let now = replaced (other_side place.side) written x.disks y.disks stored.settled becomes in
       let same = kept (reads_of y.disks) now.other in
@@ -130,13 +122,13 @@ module _ (place : Place) (shown : Store) (image : List ℕ) (x y : Seen) (stored
     after_is : after ≡ compacted_store shown
     after_is = (λ i. record { state = shown.state; epoch = stored.epoch i + 1; end = page_place (pages_needed (long i)) }) ∙ sym (compacted_before shown (ap (λ (n : ℕ). nat_eq n last_epoch) (sym stored.epoch) ∙ not_last))
 
-    pub compact_moments : Writing (other_side place.side) (place.epoch + 1) image x y → Appending shown (compacted_store shown) x y
-    compact_moments works = subst (λ (s : Store). Appending shown s x y) after_is (moments works)
+    pub compact_moments : Writing (other_side place.side) (place.epoch + 1) image x y → ShowsEither shown (compacted_store shown) x y
+    compact_moments works = subst (λ (s : Store). ShowsEither shown s x y) after_is (moments works)
 
     pub compact_done : (new : Place) → new ≡ record { side = other_side place.side; epoch = place.epoch + 1; end = page_place (pages_needed (length image)); other_closed = false }
-        → Becomes (other_side place.side) (base_bytes (place.epoch + 1) image) x y → Appends new (compacted_store shown) x y
-    compact_done new is becomes = subst (λ (p : Place). Appends p (compacted_store shown) x y) (sym is)
-        (subst (λ (s : Store). Appends (record { side = other_side place.side; epoch = place.epoch + 1; end = page_place (pages_needed (length image)); other_closed = false }) s x y) after_is (done becomes))
+        → Becomes (other_side place.side) (base_bytes (place.epoch + 1) image) x y → IsStoredAfter new (compacted_store shown) x y
+    compact_done new is becomes = subst (λ (p : Place). IsStoredAfter p (compacted_store shown) x y) (sym is)
+        (subst (λ (s : Store). IsStoredAfter (record { side = other_side place.side; epoch = place.epoch + 1; end = page_place (pages_needed (length image)); other_closed = false }) s x y) after_is (done becomes))
 
 -- the place on the other side
 pub place_next : (place : Place) (s : State) (n : ℕ) → place.epoch + 1 < 2 ^ 64 → n ≡ image_length s
@@ -154,11 +146,11 @@ module _ (place : Place) (shown : Store) (last : place.epoch ≡ last_epoch) whe
   store_last : (d : Disks) → IsStored place shown d → compacted_store shown ≡ shown
   store_last d stored = compacted_last shown (sym stored.epoch ∙ last)
 
-  pub still_compacted : (s : State) (seen : Option Seen) → IfHonest seen (λ x. IsStored place shown x.disks) → Honestly seen seen (Appends (compacted_place place s) (compacted_store shown))
+  pub still_compacted : (s : State) (seen : Option Seen) → IfHonest seen (λ x. IsStored place shown x.disks) → Honestly seen seen (IsStoredAfter (compacted_place place s) (compacted_store shown))
   still_compacted s None stored = tt
   still_compacted s (Some x) stored = subst (λ (p : Place). IsStored p (compacted_store shown) x.disks) (sym (place_last s))
       (subst (λ (t : Store). IsStored place t x.disks) (sym (store_last x.disks stored)) stored)
 
-  pub still_compacting : (seen : Option Seen) → IfHonest seen (λ x. IsStored place shown x.disks) → Honestly seen seen (Appending shown (compacted_store shown))
+  pub still_compacting : (seen : Option Seen) → IfHonest seen (λ x. IsStored place shown x.disks) → Honestly seen seen (ShowsEither shown (compacted_store shown))
   still_compacting None stored = tt
-  still_compacting (Some x) stored = subst (λ (t : Store). Appending shown t x x) (sym (store_last x.disks stored)) (unmoved place shown x stored)
+  still_compacting (Some x) stored = subst (λ (t : Store). ShowsEither shown t x x) (sym (store_last x.disks stored)) (unmoved place shown x stored)

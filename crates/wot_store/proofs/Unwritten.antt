@@ -21,9 +21,6 @@ settled_images d c image =
     let one : c.one ≡ d.one.reads = settled_image d.one.reads c.one image.one in
     λ i. record { zero = zero i; one = one i }
 
-pub unwritten_reads : (d e : Disks) → AreUnwritten d e → reads_of e ≡ reads_of d
-unwritten_reads d e same = λ i. record { zero = same.zero.reads i; one = same.one.reads i }
-
 pub unwritten_images : (d e : Disks) → AreUnwritten d e → Leaves (IsImageOf d) e
 unwritten_images d e same c image = record { zero = same.zero.images c.zero image.zero; one = same.one.images c.one image.one }
 

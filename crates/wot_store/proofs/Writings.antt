@@ -17,7 +17,7 @@ use Rattle.wot_journal.specs.Commit.{Puts, PutsNot, IsEnd}
 use Rattle.wot_journal.proofs.Commits.{puts_work, puts_not_work}
 use Rattle.wot_types.specs.PagePlaces.{page_place, pages_needed}
 use Rattle.wot_pages.specs.Pages.{pages_for}
-use Rattle.wot_pages.specs.Writing.{FillsPages, IsShut, WritesPages}
+use Rattle.wot_pages.specs.Writing.{FillsPages, WritesPages}
 use Rattle.wot_store.specs.Base.{IsBlank, header_tail}
 use Rattle.wot_store.specs.Writing.{OnSide, Becomes, IsKnown, ClosingGate, Filling, OpeningGate, Writing, closed_bytes, with_base, with_open_gate, base_bytes}
 use Rattle.wot_store.proofs.Filled.{IsFront, front_closed, front_pages, front_settled, front_synced, front_write, three_writes}
@@ -158,10 +158,6 @@ module _ (side : Side) (epoch : ℕ) (image : List ℕ) (x : Seen) (known : IsEn
       | inl lt ↦ omega (arith, ap length reads_first, length_written_end (disk_of side x.disks).reads 1 tail low (omega arith))
       | inr le ↦ omega (arith, ap length reads_first, length_written (disk_of side x.disks).reads 1 tail low (omega arith))
     ]
-
-    -- its pages may be written
-    pub is_shut : IsShut (disk_of side y.disks)
-    is_shut = record { long = long_first; images = (shut y.disks one_work.last).images }
 
     -- while pages are written
     paging : (d : Disks) → FillsPages side y.disks d → InFilling d

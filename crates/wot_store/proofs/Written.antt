@@ -2,7 +2,6 @@
 use Rattle.std.proofs.Common.{◌≡◌, ◌⊎◌, inl, inr, ℕ, ◌+◌, ◌≤◌, List, ◌∷◌, ◌++◌, length, take, drop, Option, None, Some, refl, sym, ◌∙◌, ap, subst, arith}
 use Rattle.std.specs.Prelude.{option_map}
 use Rattle.std.proofs.lemmas.List.{length-take-le, take_at}
-use Rattle.std.proofs.lemmas.Option.{same_Some}
 use Rattle.wot_site.specs.Disk.{Disks, disk_of, reads_of, with_disk}
 use Rattle.wot_site.specs.Seen.{Honestly, Seen}
 use Rattle.wot_site.specs.Work.{Works}
@@ -24,9 +23,6 @@ use Rattle.wot_store.proofs.Pairs.{base_here, reads_bytes}
 -- the side of a place where a store is stored is shown, and no other one is
 pub stored_side : (place : Place) (shown : Store) (d : Disks) → IsStored place shown d → IsShownSide place.side d
 stored_side place shown d stored = ap (λ (o : Option (Side × Header)). option_map (λ (s : Side × Header). s.0) o) stored.side
-
-pub one_side : (a b : Side) (d : Disks) → IsShownSide a d → IsShownSide b d → a ≡ b
-one_side a b d x y = same_Some a b (sym x ∙ y)
 
 -- where this side alone is other than it was, the other is as it was
 pub other_kept : (side : Side) (old new : Disks) → new ≡ with_disk side (disk_of side new) old → disk_of (other_side side) new ≡ disk_of (other_side side) old

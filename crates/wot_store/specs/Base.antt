@@ -78,7 +78,7 @@ abbrev pub base_fault : Side → List ℕ → Header → Option BadStore
 base_fault side bytes header =
     if nat_lt (page_place header.pages) (min (length bytes) most) then option_map Seal (seal_fault header.epoch header.pages bytes) else Some (Short side 24)
 
--- the contents of a base: an image of this state with its rows, and fewer bytes 00 than a page has
+-- the contents of a base: an image of this state with its rows, and fewer bytes 00 than a page has of content
 abbrev pub IsBaseOf : List ℕ → State → Type 0
 IsBaseOf contents s = IsBase content_size contents s (rows_of s)
 

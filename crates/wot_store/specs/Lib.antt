@@ -4,5 +4,6 @@ pub mod Shows
 pub mod Writing
 pub mod Opening
 pub mod Appending
+pub mod Changing
 pub mod Compacting
 pub mod Written

@@ -1,16 +1,17 @@
 //! Appending edits.
 
-ghost use Rattle.std.specs.Prelude.{◌≡◌, ◌+◌, length, IfOk, OnOk};
+ghost use Rattle.std.specs.Prelude.{◌≡◌, ◌+◌, length, IfOk, OnErr, OnOk};
 ghost use Rattle.wot_site.specs.Seen.{Honestly, IfHonest};
 ghost use Rattle.wot_site.specs.Site.{HasCause, disk_faults};
 ghost use Rattle.wot_site.specs.Work.{Works};
-ghost use Rattle.wot_journal.specs.Commit.{Commits, MakesCalls};
+ghost use Rattle.wot_journal.specs.Commit.{Commits, CommitsNot, MakesCalls};
 ghost use Rattle.wot_types.specs.Outcome.{edited_store};
 ghost use Rattle.wot_types.specs.Store.{Store};
 ghost use Rattle.wot_types.specs.declared.edit.Edit.{Edit};
 ghost use Rattle.wot_store.specs.Shows.{IsStored};
 ghost use Rattle.wot_store.specs.Written.{WritesBehind};
-ghost use Rattle.wot_store.specs.Appending.{Appending, Appends, IsNext, IsRecordOf, place_after};
+ghost use Rattle.wot_store.specs.Appending.{IsNext, IsRecordOf, place_after};
+ghost use Rattle.wot_store.specs.Changing.{IsStoredAfter, ShowsEither};
 
 use crate::place::Place;
 use wot_journal::{Built, commit};
@@ -23,13 +24,14 @@ pub fn append<S: Site>(place: Place, site: &mut S, built: &Built) -> Result<Plac
     ensures place { IfOk result (λ new. new ≡ place_after place built.now) }
     ensures appended { OnOk result ((shown : Store) (edit : Edit) → IsRecordOf built.now shown edit
         → IfHonest (S.seen site.old) (λ s. IsStored place shown s.disks)
-        → Honestly (S.seen site.old) (S.seen site.new) (Appends (place_after place built.now) (edited_store shown edit))) }
+        → Honestly (S.seen site.old) (S.seen site.new) (IsStoredAfter (place_after place built.now) (edited_store shown edit))) }
     ensures any_moment { (shown : Store) (edit : Edit) → IsRecordOf built.now shown edit
         → IfHonest (S.seen site.old) (λ s. IsStored place shown s.disks)
-        → Honestly (S.seen site.old) (S.seen site.new) (Appending shown (edited_store shown edit)) }
+        → Honestly (S.seen site.old) (S.seen site.new) (ShowsEither shown (edited_store shown edit)) }
     ensures written { Honestly (S.seen site.old) (S.seen site.new) (λ old new. Works (WritesBehind place.side place.end old.disks) old new) }
     ensures bytes { OnOk result (Honestly (S.seen site.old) (S.seen site.new) (Commits place.side built.now)) }
     ensures calls { OnOk result (Honestly (S.seen site.old) (S.seen site.new) (MakesCalls 4)) }
+    ensures failed { OnErr result (Honestly (S.seen site.old) (S.seen site.new) (CommitsNot place.side built.now)) }
     ensures cause { HasCause disk_faults (S.faults site.old) (S.faults site.new) result }
 {
     match commit(site, place.side, built) {

@@ -11,7 +11,7 @@ ghost use Rattle.wot_types.specs.PagePlaces.{pages_needed};
 ghost use Rattle.wot_types.specs.WellFormedState.{IsWellFormedState};
 ghost use Rattle.wot_types.specs.Store.{Store};
 ghost use Rattle.wot_store.specs.Base.{other_side};
-ghost use Rattle.wot_store.specs.Appending.{Appending, Appends};
+ghost use Rattle.wot_store.specs.Changing.{IsStoredAfter, ShowsEither};
 ghost use Rattle.wot_types.specs.Compaction.{compacted_store, image_length, last_epoch};
 ghost use Rattle.wot_store.specs.Compacting.{IsCompactable, compacted_place};
 ghost use Rattle.wot_store.specs.Shows.{IsStored};
@@ -58,9 +58,9 @@ pub fn compact<S: Site>(
     requires stored { IfHonest (S.seen site.old) (λ s. IsCompactable place engine.now s.disks) }
     ensures place { IfOk result (λ new. new ≡ compacted_place place engine.now) }
     ensures compacted { OnOk result ((shown : Store) → shown.state ≡ engine.now → IfHonest (S.seen site.old) (λ s. IsStored place shown s.disks)
-        → Honestly (S.seen site.old) (S.seen site.new) (Appends (compacted_place place engine.now) (compacted_store shown))) }
+        → Honestly (S.seen site.old) (S.seen site.new) (IsStoredAfter (compacted_place place engine.now) (compacted_store shown))) }
     ensures any_moment { (shown : Store) → shown.state ≡ engine.now → IfHonest (S.seen site.old) (λ s. IsStored place shown s.disks)
-        → Honestly (S.seen site.old) (S.seen site.new) (Appending shown (compacted_store shown)) }
+        → Honestly (S.seen site.old) (S.seen site.new) (ShowsEither shown (compacted_store shown)) }
     ensures written { Honestly (S.seen site.old) (S.seen site.new) (λ old new. Works (Spares place.side old.disks) old new) }
     ensures bytes { place.epoch < last_epoch → OnOk result (Honestly (S.seen site.old) (S.seen site.new)
         (Becomes (other_side place.side) (base_bytes (place.epoch + 1) (image_bytes engine.now (rows_of engine.now))))) }

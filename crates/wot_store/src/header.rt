@@ -19,7 +19,7 @@ pub struct Header {
 }
 
 /// What 24 bytes say; None where their gate is closed.
-pub fn look_at(bytes: &[u8]) -> Option<Header>
+pub fn header_in(bytes: &[u8]) -> Option<Header>
     requires { length bytes.now ≡ 24 }
     ensures { result ≡ (if slice_index bytes.now 0 == open_gate then Some (header_in bytes.now) else None) }
 {

@@ -15,7 +15,7 @@ ghost use Rattle.wot_store.specs.Written.{Spares};
 
 use crate::base::resume;
 use crate::error::{BadStore, StoreError};
-use crate::header::{Header, look_at};
+use crate::header::{Header, header_in};
 use crate::image::spell_state;
 use crate::pair::{Headers, headers_fault, shown_side};
 use crate::place::Place;
@@ -85,7 +85,7 @@ fn inspect_side<S: Site>(
         return Ok(None);
     }
     match read_range(alloc, site, side, 0, 24) {
-        Ok(bytes) => Ok(look_at(&bytes)),
+        Ok(bytes) => Ok(header_in(&bytes)),
         Err(RangeError::DiskFault) => Err(StoreError::DiskFault),
         Err(RangeError::Short) => Err(StoreError::Bad(BadStore::Short(side, 0))),
         Err(RangeError::Memory) => Err(StoreError::Memory),

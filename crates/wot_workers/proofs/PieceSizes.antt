@@ -1,8 +1,8 @@
 -- The least size that makes few enough pieces.
-use Rattle.std.proofs.Common.{◌≡◌, ◌≤◌, ◌<◌, ◌*◌, ◌+◌, ◌/◌, ℕ, suc, arith}
+use Rattle.std.proofs.Common.{◌≡◌, ◌≤◌, ◌<◌, ◌*◌, ◌+◌, ℕ, suc, arith}
 use Rattle.std.specs.Int.{div_ceil}
 use Rattle.std.proofs.lemmas.Grind.{div_ceil_times}
-use Rattle.std.proofs.Math.Nat.{div-lt_iff_lt-mul, lt_of_mul-lt-mul_right, mul-le-mul_right, mul_comm}
+use Rattle.std.proofs.Math.Nat.{lt_of_mul-lt-mul_right, mul-le-mul_right, mul_comm}
 
 -- so many pieces of a size cover a list
 covered : (len size count : ℕ) → 1 ≤ size → div_ceil len size ≤ count → len ≤ count * size
@@ -23,9 +23,3 @@ few_pieces len workers size some positive enough =
 
 pub least_size : (len workers size : ℕ) → 1 ≤ workers → 1 ≤ size → div_ceil len size ≤ workers → div_ceil len workers ≤ size
 least_size len workers size some positive few = few_pieces len size workers positive some few
-
--- the number of a piece
-pub piece_within : (len size start count : ℕ) → 1 ≤ size → div_ceil len size ≤ count → start < len → start / size < count
-piece_within len size start count positive few inside =
-    let all = covered len size count positive few in
-    (div-lt_iff_lt-mul {k = size} {x = start} {y = count} positive).1 (omega (arith, all, inside))

@@ -16,9 +16,8 @@ pub record IsByPlace {X R : Type 0} (make : ℕ → List X → R) (size : ℕ) (
   pub each : (n : ℕ) (r : R) → slice_get made n ≡ Some r → r ≡ make (n * size) (slice_chunk xs size n)
 
 -- what was made of each piece, in order
-pub record IsByPiece {X R : Type 0} (make : List X → R) (size : ℕ) (xs : List X) (made : List R) : Type 0 where
-  pub count : length made ≡ div_ceil (length xs) size
-  pub each : (n : ℕ) (r : R) → slice_get made n ≡ Some r → r ≡ make (slice_chunk xs size n)
+abbrev pub IsByPiece : {X R : Type 0} → (List X → R) → ℕ → List X → List R → Type 0
+IsByPiece make = IsByPlace (λ _ piece. make piece)
 
 abbrev pub first_some : {X : Type 0} → List (Option X) → Option X
 first_some [] = None

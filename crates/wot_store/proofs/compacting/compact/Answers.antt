@@ -10,7 +10,7 @@ use Rattle.wot_site.proofs.Honest.{honest_weaker, honest_with}
 use Rattle.wot_journal.specs.Record.{most}
 use Rattle.wot_types.specs.PagePlaces.{page_place, pages_needed}
 use Rattle.wot_pages.specs.Pages.{contents_for}
-use Rattle.wot_store.specs.Appending.{Appending, Appends}
+use Rattle.wot_store.specs.Changing.{IsStoredAfter, ShowsEither}
 use Rattle.wot_store.specs.Base.{other_side}
 use Rattle.wot_store.specs.Compacting.{compacted_place}
 use Rattle.wot_store.specs.Shows.{IsStored}
@@ -37,7 +37,7 @@ returns-in-Ok-write_side-clause-compacted g c shown is stored =
     let base : IsBaseOf (contents_for image) shown.state = subst (λ (s : State). IsBaseOf (contents_for image) s) (sym is) c.in-Ok.ensures.base in
     let room : page_place (pages_needed (length image)) < most = omega (arith, c.in-Ok.ensures.few) in
     let long : length image ≡ image_length shown.state = c.in-Ok.ensures.long ∙ ap image_length (sym is) in
-    honest_with (λ (s : Seen). IsStored place shown s.disks) (Becomes (other_side place.side) (base_bytes (place.epoch + 1) image)) (Appends (compacted_place place c.args.engine.now) (compacted_store shown)) _ _ stored
+    honest_with (λ (s : Seen). IsStored place shown s.disks) (Becomes (other_side place.side) (base_bytes (place.epoch + 1) image)) (IsStoredAfter (compacted_place place c.args.engine.now) (compacted_store shown)) _ _ stored
     (rw (c.other_side-side.ensures, c.deref.ensures.value) at c.in-Ok-write_side.ensures.written)
     (λ x y k p. compact_done place shown image x y k base room c.write_side.ensures.small long (compacted_place place c.args.engine.now) (place_next place c.args.engine.now (length image) c.write_side.ensures.small c.in-Ok.ensures.long) p)
 
@@ -48,7 +48,7 @@ returns-in-Ok-write_side-clause-any_moment g c shown is stored =
     let base : IsBaseOf (contents_for image) shown.state = subst (λ (s : State). IsBaseOf (contents_for image) s) (sym is) c.in-Ok.ensures.base in
     let room : page_place (pages_needed (length image)) < most = omega (arith, c.in-Ok.ensures.few) in
     let long : length image ≡ image_length shown.state = c.in-Ok.ensures.long ∙ ap image_length (sym is) in
-    honest_with (λ (s : Seen). IsStored place shown s.disks) (Writing (other_side place.side) (place.epoch + 1) image) (Appending shown (compacted_store shown)) _ _ stored
+    honest_with (λ (s : Seen). IsStored place shown s.disks) (Writing (other_side place.side) (place.epoch + 1) image) (ShowsEither shown (compacted_store shown)) _ _ stored
     (rw (c.other_side-side.ensures, c.deref.ensures.value) at c.write_side.ensures.any_moment) (λ x y k p. compact_moments place shown image x y k base room c.write_side.ensures.small long p)
 
 pub returns-clause-any_moment : goal.returns-clause-any_moment
@@ -58,7 +58,7 @@ returns-clause-any_moment g c shown is stored =
     let base : IsBaseOf (contents_for image) shown.state = subst (λ (s : State). IsBaseOf (contents_for image) s) (sym is) c.in-Ok.ensures.base in
     let room : page_place (pages_needed (length image)) < most = omega (arith, c.in-Ok.ensures.few) in
     let long : length image ≡ image_length shown.state = c.in-Ok.ensures.long ∙ ap image_length (sym is) in
-    honest_with (λ (s : Seen). IsStored place shown s.disks) (Writing (other_side place.side) (place.epoch + 1) image) (Appending shown (compacted_store shown)) _ _ stored
+    honest_with (λ (s : Seen). IsStored place shown s.disks) (Writing (other_side place.side) (place.epoch + 1) image) (ShowsEither shown (compacted_store shown)) _ _ stored
     (rw (c.other_side-side.ensures, c.deref.ensures.value) at c.write_side.ensures.any_moment) (λ x y k p. compact_moments place shown image x y k base room c.write_side.ensures.small long p)
 
 pub returns-then-place-eq18446744073709551615-clause-written : goal.returns-then-place-eq18446744073709551615-clause-written
