@@ -58,7 +58,8 @@ impl Body {
         match read_head(words) {
             Err(refusal) => Ok(Body::Refused(refusal)),
             Ok(Head::Ownertrust) => Ok(Body::Ownertrust(OwnertrustText::new(alloc))),
-            Ok(_) => Ok(Body::Listing(Listing::new(alloc)?)),
+            Ok(Head::Import) => Ok(Body::Listing(Listing::new(alloc)?)),
+            Ok(Head::Edit(_) | Head::Query(_) | Head::DeleteKey(_)) => unreachable!(),
         }
     }
 

@@ -16,7 +16,7 @@ pub enum Division {
     Between,
     /// The next line belongs to this block, or ends it.
     Within(Block),
-    /// `quit` was answered: no further line is read.
+    /// No further line is read: `quit` was answered, or the input is at its end.
     Over,
 }
 

@@ -22,7 +22,8 @@ use Rattle.wot_site.specs.Work.{Quiet, Since, Works, moment_of}
 use Rattle.wot_site.proofs.Honest.{And, honest_after, honest_then, honest_weaker, honest_with}
 use Rattle.wot_site.proofs.Works.{since_then, since_weaker, works_start, works_weaker}
 use Rattle.wot_site.specs.Site.{Stays}
-use Rattle.wot_store.specs.Appending.{Appending, Appends, IsNext, IsRecordOf, place_after}
+use Rattle.wot_store.specs.Appending.{IsNext, IsRecordOf, place_after}
+use Rattle.wot_store.specs.Changing.{IsStoredAfter, ShowsEither}
 use Rattle.wot_store.specs.Compacting.{IsCompactable, compacted_place}
 use Rattle.wot_store.specs.Shows.{IsStored}
 use Rattle.wot_store.specs.Written.{Spares, WritesBehind}
@@ -38,7 +39,7 @@ use Rattle.wot_session.proofs.Compactings.{epoch_moves, place_moves, same_true}
 use Rattle.wot_session.proofs.Trails.{writes_still}
 
 -- nothing is done to the store
-pub undone : (place : Place) (s t : Store) (seen : Option Seen) → Holds place seen s → Honestly seen seen (Appending s t)
+pub undone : (place : Place) (s t : Store) (seen : Option Seen) → Holds place seen s → Honestly seen seen (ShowsEither s t)
 undone place s t None holds = tt
 undone place s t (Some x) holds = works_start (AllShowEither s t) x (λ image is. inl (stored_shows s x.disks holds image is))
 
@@ -98,22 +99,22 @@ record_written place built s t a b leads holds written =
 
 -- what is stored after it
 pub appending_is : (built : Framed) (s t : Store) (a b : Option Seen) → Leads built s t
-    → ((edit : Edit) → IsRecordOf built s edit → Honestly a b (Appending s (edited_store s edit))) → Honestly a b (Appending s t)
-appending_is built s t a b leads all = subst (λ t. Honestly a b (Appending s t)) (sym leads.after) (all leads.edit (record_of built s t leads))
+    → ((edit : Edit) → IsRecordOf built s edit → Honestly a b (ShowsEither s (edited_store s edit))) → Honestly a b (ShowsEither s t)
+appending_is built s t a b leads all = subst (λ t. Honestly a b (ShowsEither s t)) (sym leads.after) (all leads.edit (record_of built s t leads))
 
 -- and the place
 pub appended_place : (place : Place) (built : Framed) (s t : Store) → IsPlace place s → Leads built s t → IsPlace (place_after place built) t
 appended_place place built s t at leads =
     subst (IsPlace (place_after place built)) (sym leads.after) (record { epoch = at.epoch; end = omega (arith, leads.place, ap length leads.payload.is) })
 
-held : (place : Place) (store : Store) (a b : Option Seen) → Honestly a b (Appends place store) → Holds place b store
+held : (place : Place) (store : Store) (a b : Option Seen) → Honestly a b (IsStoredAfter place store) → Holds place b store
 held place store None None appends = tt
 held place store None (Some y) appends = absurd appends
 held place store (Some x) None appends = absurd appends
 held place store (Some x) (Some y) appends = appends
 
 pub appended_is : (place : Place) (built : Framed) (s t : Store) (a b : Option Seen) → Leads built s t
-    → ((edit : Edit) → IsRecordOf built s edit → Honestly a b (Appends place (edited_store s edit))) → Holds place b t
+    → ((edit : Edit) → IsRecordOf built s edit → Honestly a b (IsStoredAfter place (edited_store s edit))) → Holds place b t
 appended_is place built s t a b leads all = subst (Holds place b) (sym leads.after) (held place _ a b (all leads.edit (record_of built s t leads)))
 
 -- the store may be compacted
@@ -133,16 +134,16 @@ compacted_at place engine s t performs =
     subst (IsPlace (compacted_place place engine)) (sym performs.does) (place_moves place engine s performs.at (compact_state place engine s t performs))
 
 pub compacted_is : (place : Place) (engine : State) (s t : Store) (a b : Option Seen) → Performs place engine Compact s t → Holds place a s
-    → ((shown : Store) → shown.state ≡ engine → Holds place a shown → Honestly a b (Appends (compacted_place place engine) (compacted_store shown)))
+    → ((shown : Store) → shown.state ≡ engine → Holds place a shown → Honestly a b (IsStoredAfter (compacted_place place engine) (compacted_store shown)))
     → Holds (compacted_place place engine) b t
 compacted_is place engine s t a b performs holds all =
     subst (Holds (compacted_place place engine) b) (sym performs.does)
     (held (compacted_place place engine) (compacted_store s) a b (all s (sym (compact_state place engine s t performs)) holds))
 
 pub compacting_is : (place : Place) (engine : State) (s t : Store) (a b : Option Seen) → Performs place engine Compact s t → Holds place a s
-    → ((shown : Store) → shown.state ≡ engine → Holds place a shown → Honestly a b (Appending shown (compacted_store shown))) → Honestly a b (Appending s t)
+    → ((shown : Store) → shown.state ≡ engine → Holds place a shown → Honestly a b (ShowsEither shown (compacted_store shown))) → Honestly a b (ShowsEither s t)
 compacting_is place engine s t a b performs holds all =
-    subst (λ t. Honestly a b (Appending s t)) (sym performs.does) (all s (sym (compact_state place engine s t performs)) holds)
+    subst (λ t. Honestly a b (ShowsEither s t)) (sym performs.does) (all s (sym (compact_state place engine s t performs)) holds)
 
 -- before the last epoch the other side is written, and in it nothing is
 writes_other : (place : Place) (s t : Store) (d e : Disks) → (t.epoch ≡ s.epoch → ⊥) → IsStored place s d → Spares place.side d e → WritesTo s t d e
@@ -186,7 +187,7 @@ telling_around s t reply x y m same stored is =
       answered = inl shows;
     }
 
-module _ (s t : Store) (reply : List ℕ) (x y : Seen) (works : Appending s t x y) (leading : Leading s t x y) where
+module _ (s t : Store) (reply : List ℕ) (x y : Seen) (works : ShowsEither s t x y) (leading : Leading s t x y) where
   before_reply : Since (IsAround s t reply x.told) x y
   before_reply = since_weaker _ _ x y (λ m at. working_around s t reply x.told m at.told at.disks) works.since
 
@@ -272,7 +273,7 @@ still_holds place t reply a b holds telling =
 
 -- what is done to the store
 abbrev pub Doing : Store → Store → Seen → Seen → Type 0
-Doing s t = And (Appending s t) (Leading s t)
+Doing s t = And (ShowsEither s t) (Leading s t)
 
 -- both steps of a site: the store, and then the reply
 module _ (place : Place) (s t : Store) (a b c : Option Seen) (holds : Holds place b t) (does : Honestly a b (Doing s t)) where

@@ -40,7 +40,7 @@ pub record IsHere (session : Session) (seen : Option Seen) (p : Position) : Type
 abbrev pub IsSomewhere : Session → Option Seen → Type 0
 IsSomewhere session seen = (p : Position) × IsHere session seen p
 
--- `quit` was answered
+-- no further line is read: `quit` was answered, or the input is at its end
 abbrev pub IsOver : Session → Type 0
 IsOver session = session.division ≡ Over
 

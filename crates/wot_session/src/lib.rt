@@ -17,4 +17,3 @@ mod tell; // a whole text is told
 
 pub use program::{run, run_within};
 pub use status::Status;
-pub use stop::Stop;

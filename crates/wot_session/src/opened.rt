@@ -50,7 +50,10 @@ pub fn run_opened<R: Threads + Sync, S: Site, G: Gate + Sync>(
                 leave(session);
                 return Ok(refused);
             }
-            Err(stop) => return Err(stop),
+            Err(stop) => {
+                leave(session);
+                return Err(stop);
+            }
         }
     }
     let block = match begin_block(alloc, words) {

@@ -5,7 +5,7 @@ ghost use Rattle.wot_types.specs.Store.{Store};
 ghost use Rattle.wot_site.specs.Seen.{Honestly};
 ghost use Rattle.wot_site.specs.Site.{Stays};
 ghost use Rattle.wot_site.specs.Work.{Works};
-ghost use Rattle.wot_store.specs.Appending.{Appending};
+ghost use Rattle.wot_store.specs.Changing.{ShowsEither};
 ghost use Rattle.wot_session.specs.Here.{Holds, IsPlace, IsReadyFor, Performs};
 ghost use Rattle.wot_session.specs.Told.{StopsTelling};
 ghost use Rattle.wot_session.specs.Written.{WritesTo};
@@ -30,7 +30,7 @@ pub fn do_effect<S: Site>(
     ensures place { IfOk result (λ after. (s t : Store) → Performs place engine.now effect.now s t → IsPlace after t) }
     ensures holds { IfOk result (λ after. (s t : Store) → Performs place engine.now effect.now s t → Holds place (S.seen site.old) s → Holds after (S.seen site.new) t) }
     ensures any_moment { (s t : Store) → Performs place engine.now effect.now s t → Holds place (S.seen site.old) s
-        → Honestly (S.seen site.old) (S.seen site.new) (Appending s t) }
+        → Honestly (S.seen site.old) (S.seen site.new) (ShowsEither s t) }
     ensures written { (s t : Store) → Performs place engine.now effect.now s t → Holds place (S.seen site.old) s
         → Honestly (S.seen site.old) (S.seen site.new) (λ old new. Works (WritesTo s t old.disks) old new) }
     ensures memory { IsErrOf result Stop.Memory → Honestly (S.seen site.old) (S.seen site.new) Stays }

@@ -18,8 +18,9 @@ use wot_workers::{Gate, Workers};
 /// The longest input of the program, in bytes.
 const LONGEST_INPUT: u64 = 1 << 36;
 
-/// Opens the store and runs the commands of the input, or the one command that the words are. Rows are checked and counted anew by as many
-/// workers as the words say, each of which calls the gate first; what is promised is the same for every gate and every number of workers.
+/// Opens the store and runs the commands of the input, or the one command that the words are. Seals and rows are checked, and rows and letters
+/// counted anew, by as many workers as the words say, of which those at rows call the gate first; what is promised is the same for every gate
+/// and every number of workers.
 /// What a session held at its end is not freed: the system takes it back with the process.
 pub fn run<R: Threads + Sync, S: Site, G: Gate + Sync>(
     rt: &R,

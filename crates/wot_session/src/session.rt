@@ -48,7 +48,7 @@ pub struct Session {
 }
 
 impl Session {
-    /// The session at its start, over the store that was opened; a run of one command begins within it.
+    /// The session at its start, over the store that was opened; a run of one command with a block begins within that block.
     pub fn new(alloc: Global, opened: Opened, division: Division) -> Session
         ensures at { (p : Position) → opened.engine ≡ p.progress.store.state → IsWellFormedState p.progress.store.state → IsPlace opened.place p.progress.store
             → p.progress.refused ≡ false → IsDivision division p.division → IsAt result p }
@@ -73,7 +73,7 @@ impl Session {
         self.refused
     }
 
-    /// Whether `quit` was answered.
+    /// Whether no further line is read: `quit` was answered, or the input is at its end.
     pub fn is_over(&self) -> bool
         ensures { IsTrue result ↔ IsOver self.now }
     {

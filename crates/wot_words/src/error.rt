@@ -14,7 +14,7 @@ use wot_types::Mem;
 #[derive(Clone, Copy, Debug, PartialEq, Eq, Drop, Error)]
 pub enum WordsError {
     /// The words aren't in the word grammar.
-    #[error("usage: wot [--workers N] [WORD]...")]
+    #[error("the words are not in the word grammar")]
     Usage,
     #[error("out of memory")]
     Memory,
