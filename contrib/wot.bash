@@ -18,7 +18,8 @@ _wot() {
   for ((at = 1; at < COMP_CWORD; at++)); do
     word=${COMP_WORDS[at]}
     case $word in
-      --workers) at=$((at + 1)) ;;
+      # bash splits words at =
+      --workers) at=$((at + 1)); [ "${COMP_WORDS[at]}" != = ] || at=$((at + 1)) ;;
       --workers=* | --) ;;
       *) if [ -z "$command" ]; then command=$word; else place=$((place + 1)); fi ;;
     esac

@@ -6,16 +6,20 @@
             for fingerprint in store.encrypt_to("alice@example.org"):
                 ...
 
-A run holds its store, so leave the block as soon as you have your answers. Answers are as of the store's date and keyring.
+A run holds its store, so leave the block as soon as you have your answers; who asks by this module meanwhile waits for some seconds.
+Answers are as of the store's date and keyring.
 What goes wrong is a `WotError`: a command that is refused a `Refused`, with a class for each reason, the end of the program an `Ended`.
 As a program, `wot.py ADDRESS` prints the letter and the fingerprint of each key that has a user ID of this address.
 """
 import argparse
+import fcntl
 import os
 import re
 import subprocess
 import sys
+import time
 import traceback
+import weakref
 from typing import NamedTuple
 
 BEST_FIRST = "ufmq-er"
@@ -169,17 +173,19 @@ class Why(NamedTuple):
 
 
 class Wot:
-    """A session on the store of a folder, which must have one, unless `new` is set."""
+    """A session on the store of a folder, which must have one, unless `new` is set; it waits so many seconds for others that ask by this module."""
 
-    def __init__(self, folder, program="wot", new=False):
+    def __init__(self, folder, program="wot", new=False, wait=5.0):
         if not new and not has_store(folder):
             raise NoStore(f"{folder}: no store there")
         # a path is meant from here, and not from the store's folder
         program = os.path.abspath(program) if os.sep in program else program
         pipe = subprocess.PIPE
+        self.leave = weakref.finalize(self, close_turn, take_turn(folder, wait))
         try:
             self.child = subprocess.Popen([program], stdin=pipe, stdout=pipe, stderr=pipe, cwd=folder)
         except OSError as fault:
+            self.leave()
             raise Ended(None, f"{program}: {fault.strerror}") from fault
 
     def __enter__(self):
@@ -195,7 +201,9 @@ class Wot:
                 stream.close()
             except BrokenPipeError:
                 pass
-        return self.child.wait()
+        status = self.child.wait()
+        self.leave()
+        return status
 
     def ask(self, command, block=None):
         """The lines of the reply before its last one; `block` has the lines of a block, for `import` and `ownertrust`."""
@@ -254,6 +262,29 @@ class Wot:
             key.fingerprint for key in self.keyring().keys
             if key.can_encrypt and any(user.letter in VALID and address_of(user) == wanted for user in key.users)
         ]
+
+
+def take_turn(folder, wait):
+    """A lock on the folder, which no run of `wot` looks at. Who doesn't get it in that time goes on without, and is told by `wot` that it is held."""
+    try:
+        turn = os.open(folder, os.O_RDONLY)
+    except OSError:
+        return None
+    end = time.monotonic() + wait
+    while True:
+        try:
+            fcntl.flock(turn, fcntl.LOCK_EX | fcntl.LOCK_NB)
+            return turn
+        except OSError as fault:
+            # elsewhere folders may have no locks
+            if not isinstance(fault, BlockingIOError) or time.monotonic() >= end:
+                return turn
+        time.sleep(0.05)
+
+
+def close_turn(turn):
+    if turn is not None:
+        os.close(turn)
 
 
 def command_lines(command, block):
@@ -361,6 +392,8 @@ def parsed_why(lines):
 def end_with(name, main):
     """Ends a program with the status that its main returns, or with 2 where it fails; the fault goes to standard error."""
     try:
+        # what the terminal has no letter for is an escape, and no fault
+        sys.stdout.reconfigure(errors="backslashreplace")
         status = main()
         sys.stdout.flush()
     except BrokenPipeError:

@@ -167,13 +167,13 @@ class Explained:
         return certifiers if delegation is None or delegation.issuer in certifiers else [*certifiers, delegation.issuer]
 
     def few(self, key_id):
-        """As few of them as are enough, those first that need few others."""
+        """The fewest of them that are enough, and of those the ones that need the fewest others."""
         choices, certifiers = [], self.certifiers.get(key_id, [])
         for trust, needed in (("u", 1), ("f", self.people.keyring.completes), ("m", self.people.keyring.marginals)):
             those = sorted((k for k in certifiers if self.why.rows[k].trust == trust), key=lambda k: (len(self.support[k]), k))
             if len(those) >= needed:
                 choices.append(those[:needed])
-        chosen = min(choices, key=lambda those: len(set().union(*(self.support[k] for k in those))), default=certifiers)
+        chosen = min(choices, key=lambda those: (len(those), len(set().union(*(self.support[k] for k in those)))), default=certifiers)
         return self.with_delegation(key_id, chosen)
 
     def lines(self, key, place, whole=False):
@@ -189,7 +189,7 @@ class Explained:
         else:
             cut = len(self.why.rows) > MANY and not whole
             if cut:
-                yield f"  rests on {len(self.why.rows)} introducers; of those who certify a key as few are shown as are enough"
+                yield f"  rests on {len(self.why.rows)} introducers; of those who certify a key the fewest are shown that are enough"
             yield from self.below(None, 1, set(), cut)
 
     def below(self, key_id, depth, told, cut):

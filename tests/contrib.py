@@ -78,13 +78,16 @@ class Place:
         return self.run(*words, **names).returncode
 
     @contextlib.contextmanager
-    def failing_gpg(self, option, action):
-        """A gpg that does something else where it is called with this option."""
-        real, stand_in = shutil.which("gpg"), self.tools / "gpg"
-        stand_in.write_text(f'#!/bin/sh\ncase " $* " in\n*" {option} "*) {action.replace("REAL", real)} ;;\n*) exec {real} "$@" ;;\nesac\n', encoding="utf-8")
-        stand_in.chmod(0o755)
+    def stand_in(self, name, option, action):
+        """A program that does something else where it is called with this option."""
+        real, path = shutil.which(name), self.tools / name
+        path.write_text(f'#!/bin/sh\ncase " $* " in\n*{option}*) {action.replace("REAL", real)} ;;\n*) exec {real} "$@" ;;\nesac\n', encoding="utf-8")
+        path.chmod(0o755)
         yield
-        stand_in.unlink()
+        path.unlink()
+
+    def failing_gpg(self, option, action):
+        return self.stand_in("gpg", f'" {option} "', action)
 
     def letters(self):
         """The letters of the store, by the first word of the text."""
@@ -93,7 +96,11 @@ class Place:
 
     def beside(self):
         """What stands in the folder, the random ends of names left out."""
-        return sorted({re.sub(r"\.sync\..*", ".sync", path.name) for path in self.here.iterdir()})
+        return sorted({re.sub(r"\.sync-made\..{10}\Z", ".sync-made", path.name) for path in self.here.iterdir()})
+
+    def made(self):
+        """How many folders of syncs there are."""
+        return len(list(self.here.glob("store.sync-made.??????????")))
 
 
 @contextlib.contextmanager
@@ -150,11 +157,15 @@ def asked():
                 yield name, raised(lambda command=command: store.ask(command)), wanted
             yield "a bad listing", raised(lambda: store.ask("import", ["", "pub:"])), ("BadListing", "listing 2 ShortRecord", None)
             yield "an end in a block", raised(lambda: store.ask("import", ["."]))[0], "ValueError"
-            yield "another run", raised(lambda: wot.Wot(where, PROGRAM).ask("list")), ("Ended", "wot: disk fault", 5)
+            yield "another run", raised(lambda: wot.Wot(where, PROGRAM, wait=0.1).ask("list")), ("Ended", "wot: disk fault", 5)
             yield "the session goes on", store.letter("b@example.org"), "f"
             store.ask("quit")
             yield "after quit", [raised(lambda: store.ask("list")) for _ in range(2)], [("Ended", "wot ended with status 1", 1)] * 2
         yield "closed", raised(lambda: store.ask("list"))[0], "Ended"
+        asks = "import sys, wot\nfor _ in range(6):\n    with wot.Wot(sys.argv[1], sys.argv[2], wait=30) as store: store.ask('list')"
+        words = [sys.executable, "-c", asks, where, PROGRAM]
+        others = [subprocess.Popen(words, cwd=CONTRIB, stderr=subprocess.PIPE) for _ in range(4)]
+        yield "several at once wait for each other", [(other.communicate(timeout=120)[1], other.returncode) for other in others], [(b"", 0)] * 4
         shutil.copy(where + "/wot.0", where + "/wot.1")
         yield "a bad store", raised(lambda: wot.Wot(where, PROGRAM).ask("list")), ("Ended", "wot: bad store: SameEpoch", 6)
     yield "no folder", raised(lambda: wot.Wot("/nowhere", PROGRAM))[0], "NoStore"
@@ -224,6 +235,10 @@ def told():
             "uid           [  full  ] Finn <finn@example.org>\n", 0)
         yield "list, of nobody", ask("wot-list", "nobody").returncode, 1
         yield "list, without a store", ask("wot-list", "--store", "none").returncode, 2
+    with place() as at:
+        run(imported(key("A", text="\u4e2d")), where=at.here)
+        done = at.run("wot-list", "--store", ".", PYTHONIOENCODING="latin-1")
+        yield "letters that the terminal doesn't have", (done.stdout.splitlines()[-1:], done.returncode), (["uid           [ unknown] \\u4e2d"], 0)
     with store_of(session("domain")) as ask:
         yield "why, by a scope", ask("wot-why", "C <").stdout, (
             "[  full  ] C <c@example.org>\n  certified by B <b@example.org>, fully trusted by a trust signature of A <a@example.org>, for example.org alone\n"
@@ -239,11 +254,11 @@ def many():
     given += imported(key("A"), key("B", *names[:30]), *(key(name, "A") for name in names), key("C", "B", *names))
     with store_of(given) as ask:
         short, whole = ask("wot-why", "c@example.org").stdout.splitlines(), ask("wot-why", "--all", "c@example.org").stdout
-        yield "few", short[:3] + short[-1:], [
-            "[  full  ] C <c@example.org>", "  rests on 34 introducers; of those who certify a key as few are shown as are enough", "  certified by 20 <20@example.org>, marginally trusted",
-            "  and by 30 more who count",
+        yield "few", short[:4] + short[-2:], [
+            "[  full  ] C <c@example.org>", "  rests on 34 introducers; of those who certify a key the fewest are shown that are enough", "  certified by B <b@example.org>, fully trusted",
+            "    certified by 20 <20@example.org>, marginally trusted", "    and by 27 more who count", "  and by 32 more who count",
         ]
-        yield "all", (len(short), whole.count("certified by"), "as told above" in whole), (9, 33 + 30 + 32, True)
+        yield "all", (len(short), whole.count("certified by"), "as told above" in whole), (11, 33 + 30 + 32, True)
 
 
 def blocks_of(lines):
@@ -378,6 +393,7 @@ def completion():
             return at.run("bash", "-c", script, "bash", str(CONTRIB / "wot.bash"), *words).stdout.split()
         yield "a command", offered("wot", "--workers", "2", "e"), ["enable", "export"]
         yield "a letter", offered("wot", "trust", "AA", ""), list("oqnmfu")
+        yield "a command behind what bash splits", offered("wot", "--workers", "=", "4", "tr"), ["trust"]
         yield "no store", (offered("wot", "list", ""), at.beside()), ([], [])
         run(imported(key("A"), key("B")), where=at.here)
         yield "a fingerprint", offered("wot", "why", "0" * 38 + "b"), [fingerprint("B")]
@@ -427,14 +443,16 @@ def sync():
         done = at.run("wot-sync")
         yield "the first", (done.returncode, done.stdout, done.stderr), (0, "", "")
         yield "its letters", at.letters(), wanted
-        yield "its folder", at.beside(), ["store", "store.lock", "store.sync"]
+        yield "its folder", at.beside(), ["store", "store.lock", "store.sync-made"]
         yield "its files", sorted(os.listdir(at.here / "store")), ["wot.0", "wot.1"]
         run(f"trust {carol} u\n" + imported(key("A")), where=at.here / "store")
         first = os.readlink(at.here / "store")
         yield "the second", at.status("wot-sync"), 0
         yield "what gpg doesn't have is gone", at.letters(), wanted
         yield "the former one stays", (at.here / first).exists() and os.readlink(at.here / "store") != first, True
-        yield "until the next", (at.status("wot-sync"), (at.here / first).exists(), len(list(at.here.glob("store.sync.*")))), (0, False, 2)
+        yield "until the next", (at.status("wot-sync"), (at.here / first).exists(), at.made()), (0, False, 2)
+        yield from kept_beside(at)
+        yield from stopped_syncs(at)
         yield from refused_syncs(at, wanted)
         yield "options", (at.status("wot-sync", "--options", "pgp 1 3 1 2"), at.letters()["Bob"]), (0, "-")
         yield "which differ from gpg's", "give --options" in at.run("wot-sync", "--options", "pgp 1 3 1 2").stderr, True
@@ -444,6 +462,46 @@ def sync():
         yield "and of ownertrust", at.status("wot-sync", "--keyring", "keys.gpg", "--ownertrust", "trusts", "store/"), 0
         yield "their letters", at.letters(), {"Me": "-", "Alice": "u"}
         yield "a named root that is none", at.run("wot-sync", "--root", bob).stderr, f"wot-sync: {bob} is not ultimately trusted\n"
+        (at.here / "trusts").write_text(f"{me}:6:\n{me}:5:\n", encoding="utf-8")
+        done = at.run("wot-sync", "--ownertrust", "trusts", "--root", me)
+        yield "a root that a later line takes back", (done.returncode, done.stderr), (2, f"wot-sync: {me} is not ultimately trusted\nno key is ultimately trusted\n")
+        for name in ("HOME", "WOT_STORE"):
+            del at.environment[name]
+        yield "no home", (at.status("wot-sync", "store"), at.run("wot-sync").stderr), (0, "wot-sync: no HOME: name the store\n")
+
+
+def kept_beside(at):
+    """A sync takes away what syncs made, also the former version, and nothing else."""
+    mine = ["store.sync.mine", "store.sync.copied", "store.sync-made.mine", "store.sync-made.my-backups", "store.sync-made.AAAAAAAAAAA"]
+    for name in mine:
+        (at.here / name).mkdir()
+    left = at.here / "store.sync-made.AAAAAAAAAA.link"
+    left.symlink_to("store")
+    former = at.here / os.readlink(at.here / "store")
+    former.rename(at.here / "store.sync.AbCd12")
+    (at.here / "store").unlink()
+    (at.here / "store").symlink_to("store.sync.AbCd12")
+    yield "what is left of a sync that was killed", (at.status("wot-sync"), left.is_symlink()), (0, False)
+    yield "a former version's stays", (at.here / "store.sync-made.0000AbCd12" / "wot.0").exists(), True
+    yield "until the next, which keeps what others made", (
+        at.status("wot-sync"), at.made(), sorted(path.name for path in at.here.glob("store.sync*") if path.name in mine or "Cd12" in path.name),
+    ), (0, 3, sorted(mine))
+    for name in mine:
+        shutil.rmtree(at.here / name, ignore_errors=True)
+
+
+def stopped_syncs(at):
+    """A signal while the fresh store takes its place, and a disk that is full."""
+    for signal, action in (("TERM", "$PPID"), ("INT", "$PPID"), ("KILL", "$$")):
+        before = os.readlink(at.here / "store")
+        with at.stand_in("mv", ".link", f'REAL "$@"; kill -{signal} {action}'):
+            status = at.status("wot-sync")
+        yield f"{signal} when it is in place", (status, os.readlink(at.here / "store") != before, (at.here / "store" / "wot.0").exists()), (0, True, True)
+    before = os.readlink(at.here / "store")
+    with at.stand_in("cat", "", "REAL | head -n 20; exit 1"):
+        done = at.run("wot-sync")
+    yield "a full disk", (done.returncode, "can't be written" in done.stderr, os.readlink(at.here / "store") == before), (2, True, True)
+    at.status("wot-sync")
 
 
 def refused_syncs(at, wanted):
@@ -458,13 +516,13 @@ def refused_syncs(at, wanted):
         ("an unchecked listing", "--check-sigs", 'REAL "$@" | sed "s/^sig:!/sig:/"', r"no certification was kept: .* \(ok keys 4 kept 0 passed \d+\)"),
         ("a listing without my key", "--check-sigs", f"REAL \"$@\" | awk -F: '$1 == \"pub\" {{ mine = $5 == \"{primaries()[0][-16:]}\" }} !mine'", "the ultimately trusted key .* is not in the keyring"),
         ("no root", "--export-ownertrust", 'REAL "$@" | sed "s/:6:/:5:/"', "no key is ultimately trusted"),
-        ("a bad listing", "--check-sigs", 'REAL "$@"; echo pub:', r"wot import: err listing \d+ ShortRecord"),
-        ("a bad ownertrust", "--export-ownertrust", "echo x", "wot ownertrust: err ownertrust 1 BadShape"),
+        ("a bad listing", "--check-sigs", 'REAL "$@"; echo pub:', r"wot import: err listing \d+ ShortRecord: pub:"),
+        ("a bad ownertrust", "--export-ownertrust", "printf 'x\\033\\n'", r"wot ownertrust: err ownertrust 1 BadShape: x\?"),
     ):
         with at.failing_gpg(option, action):
             done = at.run("wot-sync")
         found = done.returncode, re.fullmatch(f"wot-sync: {told_of}\n", done.stderr) is not None
-        yield f"{name}: {done.stderr}", (found, at.letters() == wanted, len(list(at.here.glob("store.sync.*")))), ((2, True), True, 2)
+        yield f"{name}: {done.stderr}", (found, at.letters() == wanted, at.made()), ((2, True), True, 2)
     for name, words in (
         ("a program that isn't there", {"WOT": "none"}),
         ("a program that fails", {"WOT": "false"}),
@@ -517,7 +575,10 @@ def nightly():
         worse = re.findall(r"^(\[.{8}\] -> \[.{8}\]) (\w+)", text, re.M)
         yield "what got worse", (status, sorted(worse)), (1, [("[  full  ] -> [marginal]", "Bob"), ("[  full  ] -> [marginal]", "Carol")])
         yield "an option that is none", night("--", "--frob")[0], 2
-    yield from ()
+        yield "a help, which syncs nothing", night("--", "--help")[0], 2
+        done = at.run("wot-nightly", WOT_STORE="keys/mine")
+        yield "the store that is named", (done.returncode, sorted(re.sub(r"\..{10}\Z", "", name) for name in os.listdir(at.here / "keys"))), (
+            1, ["mine", "mine.letters", "mine.lock", "mine.sync-made"])
 
 
 def verify():
@@ -539,12 +600,19 @@ def verify():
         yield "the names", f"{alice}: [  full  ]\n  [  full  ] Alice <alice@example.org>\nfile: a good signature" in done.stdout, True
         yield "letters", [verified("--want", letter, "file") for letter in "ufmq-"], [1, 0, 0, 0, 0]
         yield "who it is", [verified("--by", f"{who}@EXAMPLE.org", "file", "file.sig") for who in ("alice", "bob")], [0, 1]
+        yield "who it is, of any letter", [verified("--want", "-", "--by", f"{who}@example.org", "file") for who in ("alice", "bob", "nobody")], [0, 1, 1]
+        yield "no letter", [verified("--want", letter, "file") for letter in ("fm", "", "r")], [2, 2, 2]
+        with at.failing_gpg("--verify", 'REAL "$@"; kill -KILL $$'):
+            yield "gpg was killed", verified("file"), 2
+        yield "no keyring", verified("--keyring", "/nowhere/ring", "file"), 2
         file.write_bytes(b"other\n")
         yield "another content", verified("file"), 1
         sign(alice, "--clearsign")
         yield "a signature of something else", verified("file", "file.sig"), 1
         yield "one that holds its content", (verified("--output", "out", "file.sig"), (at.here / "out").read_bytes()), (0, b"content\n")
         yield "and needs an output", verified("file.sig"), 2
+        yield from cut_content(at, alice)
+        sign(alice, "--clearsign")
         (at.here / "twice").write_bytes(signature.read_bytes() * 2)
         (at.here / "out").unlink()
         yield "more than was signed", (verified("--output", "out", "twice"), (at.here / "out").exists()), (1, False)
@@ -553,10 +621,42 @@ def verify():
         yield "no signature", (verified("file", "file"), verified("none", "file.sig"), verified("file", "none")), (1, 2, 2)
         yield "no store", verified("--store", "none", "file"), 2
         run(f"delete {carol}\n", where=at.here / "store")
-        yield "a key that isn't in the store", verified("file"), 1
+        yield "a key that isn't in the store", (verified("file"), verified("--want", "-", "file")), (1, 1)
         run("date 500\n" + imported(key("A", expires=1000)), where=at.here / "store")
         done = at.run("wot-verify", "--want", "-", "file")
         yield "a store past its next check", (done.returncode, "run wot-sync" in done.stderr), (2, True)
+
+
+def cut_content(at, signer):
+    """What can't be written whole isn't put in place: the size of a file is limited, which gpg meets as a full disk."""
+    (at.here / "long").write_bytes(os.urandom(6000))
+    gpg("-u", signer, "--output", str(at.here / "long.gpg"), "--sign", str(at.here / "long"))
+    (at.here / "out").write_bytes(b"former")
+    with at.failing_gpg("--decrypt", 'trap "" XFSZ; exec REAL "$@"'):
+        status = at.status("sh", "-c", "ulimit -f 4; exec wot-verify --output out long.gpg")
+    yield "a full disk", (status, (at.here / "out").read_bytes()), (2, b"former")
+    yield "and with room", (at.status("wot-verify", "--output", "out", "long.gpg"), (at.here / "out").stat().st_size), (0, 6000)
+
+
+def people():
+    """The programs for people and the module over what a sync made of gpg's keyring."""
+    _, alice, bob, _ = primaries()
+    with synced() as at:
+        def said(*words):
+            done = at.run(*words)
+            return done.stdout, done.returncode
+        listed, status = said("wot-list", "bob@example.org")
+        shown = rf"as of .*\n\npub   ed25519 \d{{4}}-\d\d-\d\d \[SC\] \[expires: .*\] \[ownertrust: undefined\]\n      {bob}\nuid           \[  full  \] Bob <bob@example.org>\n"
+        yield "list", (re.fullmatch(shown, listed) is not None, status), (True, 0)
+        why = "[  full  ] Bob <bob@example.org>\n  certified by Alice <alice@example.org>, fully trusted\n    certified by Me <me@example.org>, ultimately trusted\n"
+        yield "why", said("wot-why", bob), (why, 0)
+        yield "why not", said("wot-why-not", "Carol"), ("[ unknown] Carol <carol@example.org>\n  no key certified it, or gpg could check no certification of it\n", 0)
+        yield "report", said("wot-report", "--why", "Bob", "page.html"), ("", 0)
+        page = Page((at.here / "page.html").read_text(encoding="utf-8"))
+        yield "its page", (page.open, page.asked), ([], [])
+        yield "the module, as a program", said("wot.py", "alice@example.org"), (f"f {alice}\n", 0)
+        with wot.Wot(at.here / "store", PROGRAM) as store:
+            yield "to encrypt to", [store.encrypt_to(f"{name}@example.org") for name in ("bob", "alice", "carol")], [[bob], [], []]
 
 
 def git():
@@ -579,6 +679,10 @@ def git():
         yield "no store, in a log", call("log", "--format=%G?", WOT_STORE="/nowhere").stdout, "E\nE\n"
         run(imported(key("A")) + f"trust {carol} u\n", where=at.here / "store")
         yield "by the store alone", call("log", "-1", "--format=%G? %GT").stdout, "G ultimate\n"
+        listing = run(f"sigs {alice}\n", where=at.here / "store").stdout.decode().replace("ok\n", "")
+        first = re.search("^uid:.*\n", listing, re.M)[0]
+        run("import\n" + listing.replace(first, first + first.replace("Alice", "Alias")) + ".\n", where=at.here / "store")
+        yield "the name that has the letter", call("log", "-1", "--skip=1", "--format=%G? %GS").stdout, "G Alias <alice@example.org>\n"
         run(f"delete {alice}\n", where=at.here / "store")
         yield "a key that isn't in the store", call("verify-tag", "alice").returncode, 1
 
@@ -607,7 +711,7 @@ def alone():
 
 def over_gpg():
     """What needs a keyring of gpg, and what is left out."""
-    checks, left = [sync, verify], []
+    checks, left = [sync, verify, people], []
     if shutil.which("git"):
         checks.append(git)
     else:

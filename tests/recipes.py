@@ -1,6 +1,8 @@
 #!/usr/bin/env python3
 """Runs the blocks of docs/RECIPES.md and docs/SEQUOIA.md, and the first sync of README.md, as they stand, from top to bottom, each in a fresh folder with a made gpg keyring.
 
+A block of docs/RECIPES.md leaves the shell in the folder that it began in, so that one can be pasted after the other.
+
 It skips where there is no gpg that can make a keyring, and a block that names a file, a tool or a command which is not there.
 """
 import os
@@ -98,7 +100,7 @@ def blocks(document):
 def lacking(text):
     """What a block needs and the machine or the program lacks, or nothing."""
     files = [file for file in re.findall(r"=(/\S+)", text) if not os.path.exists(file)]
-    tools = [tool for tool in ("git", "sq-wot", "dpkg-deb") if re.search(rf"^{tool} ", text, re.M) and not shutil.which(tool)]
+    tools = [tool for tool in ("git", "sq-wot", "dpkg-deb") if re.search(rf"^ *{tool} ", text, re.M) and not shutil.which(tool)]
     return next(iter([*files, *tools, *(["check and compact"] if NEEDS_CHECK.search(text) and not KNOWS_CHECK else [])]), None)
 
 
@@ -112,7 +114,8 @@ def run_all(document, here, tools):
         if missing:
             skipped.append(f"{title}: no {missing}")
             continue
-        done = subprocess.run(["sh", "-eu"], input=text, capture_output=True, text=True, cwd=here, env=environment, timeout=120, check=False)
+        stays = f'[ . -ef "{here}" ]\n' if document.name == "RECIPES.md" else ""
+        done = subprocess.run(["sh", "-eu"], input=text + stays, capture_output=True, text=True, cwd=here, env=environment, timeout=120, check=False)
         ran += 1
         if done.returncode or not re.search(SHOWN[title][number], done.stdout, re.M):
             faults.append(f"recipes: {title}, block {number + 1}: status {done.returncode}\n{done.stdout}{done.stderr}")
