@@ -103,12 +103,14 @@ def usages():
 
 
 def threads():
-    """More workers are more threads, also where a store is opened; one is none."""
+    """Four workers are three threads beside the first for the seals and three for the rows where a store is opened, and at `check` three more for the rows,
+    which have one level here, and three for the letters; one worker is none.
+    """
     if not shutil.which("strace"):
         print("check: threads: skipped: no strace")
         return
     with folder() as where, tempfile.NamedTemporaryFile() as log:
-        run("sample 7 700\ncompact\n", where=where)
+        run("sample 7 700\noptions pgp 1 3 1 2\ncompact\n", where=where)
         started = []
         for workers, words in ((1, ["check"]), (4, ["check"]), (1, ["export"]), (4, ["export"])):
             traced = ["strace", "-f", "-o", log.name, "-e", "trace=clone,clone3", PROGRAM, "--workers", str(workers), *words]
@@ -117,8 +119,9 @@ def threads():
                 print(f"check: threads: skipped: no run under strace: {done.returncode}")
                 return
             with open(log.name, encoding="utf-8", errors="replace") as file:
-                started.append(len(re.findall(r"clone3?\(.*= \d+", file.read())))
-        yield f"threads of {started}", (started[0], started[2], started[1] >= 3, started[3] >= 3), (0, 0, True, True)
+                # each line begins with the number of its thread, and each thread has one where it ends
+                started.append(len({line.split()[0] for line in file}) - 1)
+        yield "threads of check and of export, by one worker and by four", started, [0, 12, 0, 6]
 
 
 def no_threads():

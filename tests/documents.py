@@ -1,6 +1,6 @@
 #!/usr/bin/env python3
 """Looks at the documents: links lead somewhere, a block of shell that an output follows prints it, the man page names what the manual does,
-the picture of the crates is that of crates.txt, and the definitions that are named stand where it is said.
+the picture of the crates is that of crates.txt, and the definitions and files that are named stand where it is said.
 
 The man page is also read by mandoc or by man, where there is one.
 """
@@ -104,6 +104,22 @@ def definitions():
     return f"{count} definitions", wrong
 
 
+def places():
+    """The files that the table of places to change names are there, each in a crate of its cell, with what is named behind it."""
+    count, wrong = 0, []
+    for line in re.findall(r"^\| .* \|$", (TOP / "CONTRIBUTING.md").read_text(encoding="utf-8"), re.M):
+        for cell in line.strip("|").split("|"):
+            named = set(re.findall(r"`(wot_\w+)`", cell)) or {"wot_types"}
+            wrong += [f"CONTRIBUTING.md: no crate {crate}" for crate in named if not (TOP / "crates" / crate).is_dir()]
+            for file, words in re.findall(r"`(\w+\.(?:rt|antt)|(?:tests|contrib|examples)/[\w./-]*)`(?: \(([^)]*)\))?", cell):
+                paths = [TOP / file] if "/" in file else [path for crate in named for path in TOP.glob(f"crates/{crate}/[sp]*/{file}")]
+                texts = [path.read_text(encoding="utf-8") if path.is_file() else "" for path in paths if path.exists()]
+                count += 1
+                wrong += [] if texts else [f"CONTRIBUTING.md: no {file}"]
+                wrong += [f"CONTRIBUTING.md: no {word} in {file}" for word in re.findall(r"`([\w-]+)`", words) if not any(word in text for text in texts)]
+    return f"{count} places", wrong
+
+
 def man_is_read():
     """The man page has no warnings."""
     page = str(TOP / "docs" / "wot.1")
@@ -117,7 +133,7 @@ def man_is_read():
 
 
 if __name__ == "__main__":
-    found = [check() for check in (dead_links, sessions, first_session, crates, definitions, man_page, man_is_read)]
+    found = [check() for check in (dead_links, sessions, first_session, crates, definitions, places, man_page, man_is_read)]
     wrong = [line for _, lines in found for line in lines]
     if wrong:
         sys.exit("\n".join(["documents:", *wrong]))

@@ -134,6 +134,24 @@ SESSIONS = {
         "".join(f"err bad-argument {n}\n" for n in (1, 2, 3, 4, 4, 5, 5, 6)),
         1,
     ),
+    "fingerprints as people have them": (
+        "".join(f"list {word}\ntrust {word} u\n" for word in (f"0x{A}", f"{A[:20]}  {A[20:]}", " ".join(A[n:n + 4] for n in range(0, 40, 4)), A[-16:], "a@example.org", "A"))
+        + f"trust {A.lower()} u\nexport\n",
+        "err bad-argument 1\n" * 12 + f"ok\n{A}:6:\nok\n",
+        1,
+    ),
+    "trust as people have it": ("".join(f"trust {A} {word}\n" for word in ("U", "6", "full", "")) + "export\n", "err bad-argument 2\n" * 4 + "ok\n", 1),
+    "dates as people have them": (
+        "".join(f"date {word}\n" for word in ("2026-11-28", "20261128T101112Z", "@1700000000", "now", "2026-11-28T10:11:12")) + "date 20261128T101112\nlist\n",
+        "err bad-argument 1\n" * 5 + "ok\n" + listed(tru="tru::1:1795860672:0:3:1:5\n"),
+        1,
+    ),
+    "the greatest numbers": (
+        f"options pgp 4294967296 3 5 2\noptions pgp 1 4294967296 5 2\nwhy {A} 4294967296\nwhy {A} 4294967295\n"
+        "options pgp 4294967295 4294967295 255 3\ndate 4294967295\nlist\n",
+        "err bad-argument 2\nerr bad-argument 3\nerr bad-argument 2\nerr no-such-key\nok\nok\n" + listed(tru="tru::1:4294967295:0:4294967295:4294967295:255\n"),
+        1,
+    ),
     "bad dates": ("date x\ndate 19700230T000000\ndate 19691231T235959\ndate 4294967296\ndate\n", "err bad-argument 1\n" * 5, 1),
 }
 SESSIONS["quoted bytes"] = (
