@@ -1,7 +1,7 @@
 #!/usr/bin/env python3
 r"""Turns the replies to `sigs` and to `why FPR PLACE`, in this order, into a graph for Graphviz.
 
-    printf 'sigs\nwhy %s 1\n' "$fpr" | wot | python3 examples/why_graph.py | dot -Tsvg > why.svg
+    (cd STORE && printf 'sigs\nwhy %s 1\n' FPR | wot) | python3 examples/why_graph.py | dot -Tsvg > why.svg
 
 A box is a key of the explanation with its level and its trust, the ellipse is the user ID with its letter. An arrow is a certification
 by a key of a lower level, also one that a later one replaced; its label is the depth, the amount and the scope of a trust signature.
