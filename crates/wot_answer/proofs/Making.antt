@@ -1,5 +1,5 @@
 -- An edit that was made, or refused.
-use Rattle.std.proofs.Common.{◌≡◌, ℕ, ◌+◌, ◌-◌, ◌<◌, ◌≤◌, ◌^◌, arith, length, Bool, true, false, List, if◌then◌else◌, Option, Some, None, Result, refl, sym, ap, ◌∙◌, subst}
+use Rattle.std.proofs.Common.{◌≡◌, ℕ, ◌+◌, ◌-◌, ◌<◌, ◌≤◌, ◌^◌, arith, length, Bool, true, false, List, if◌then◌else◌, Option, Some, None, Result, drop, refl, sym, ap, ◌∙◌, subst}
 use Rattle.std.specs.Prelude.{nat_lt, option_map, IfOk}
 use Rattle.std.specs.Option.{option_or}
 use Rattle.std.proofs.lemmas.Bool.Decides.{nat_tests}
@@ -12,10 +12,11 @@ use Rattle.wot_types.specs.State.{State}
 use Rattle.wot_types.specs.Outcome.{edit_outcome, state_after, edited_store, is_past, missing_key, refusal_of, refuse, state_limit, taken_key, unless_refused}
 use Rattle.wot_types.specs.Limits.{most_record, record_passed}
 use Rattle.wot_types.specs.Payload.{IsPayload, payload}
+use Rattle.wot_types.specs.Spelling.{number_4, text_bytes}
 use Rattle.wot_types.specs.Store.{Store}
 use Rattle.wot_types.specs.Store.Change.{makes}
 use Rattle.wot_types.proofs.Optionals.{both_none, map_none}
-use Rattle.wot_journal.specs.Record.{Framed, most}
+use Rattle.wot_journal.specs.Record.{Framed, most, with_length}
 use Rattle.wot_answer.specs.Answer.{Does, Ends, IsReply, reply_of}
 use Rattle.wot_answer.specs.declared.answer.Answered.{Answered}
 use Rattle.wot_answer.specs.declared.reply.Effect.TheVariants.{Append}
@@ -72,6 +73,16 @@ past end bytes edit is far = ap (λ p. nat_lt (2 ^ 32 - 1) (end + length p + 6))
 
 pub fits : (end : ℕ) (bytes : List ℕ) (edit : Edit) → bytes ≡ payload edit → end + length bytes + 6 ≤ 2 ^ 32 - 1 → is_past end edit ≡ false
 fits end bytes edit is near = ap (λ p. nat_lt (2 ^ 32 - 1) (end + length p + 6)) (sym is) ∙ grind (arith, nat_tests)
+
+-- a payload with its length before it
+module _ (spelled bytes : List ℕ) (is : spelled ≡ text_bytes bytes) where
+  pub payload_behind : drop 4 spelled ≡ bytes
+  unfolding text_bytes number_4
+  payload_behind = ap (λ s. drop 4 s) is
+
+  pub length_before : spelled ≡ with_length (drop 4 spelled)
+  unfolding text_bytes number_4
+  length_before = is ∙ ap with_length (sym payload_behind)
 
 -- the record that was built, or not, for its payload
 module _ {E : Type 0} (r : Result Framed E) (end : ℕ) (bytes : List ℕ) (edit : Edit) (spelled : IsPayload bytes edit) where

@@ -15,9 +15,9 @@ use crate::edit_reply::EditReply;
 use crate::reply::{Answer, Effect, Reply, refuse};
 use std::alloc::Global;
 use wot_commands::{change, refusal};
-use wot_journal::{BuildError, Built, build};
+use wot_journal::{BuildError, Built, build_in_place};
 use wot_live::Engine;
-use wot_spelling::encode;
+use wot_spelling::encode_with_length;
 use wot_types::{Edit, Mem, Refusal};
 
 /// Makes an edit that isn't refused, and replies so. What may refuse it is tried first, then its record is built for the
@@ -71,15 +71,15 @@ fn make_allowed(
     }
 }
 
-/// The record of an edit, for the journal's end. The payload is let go here: it doesn't stand in memory beside its record any longer.
+/// The record of an edit, for the journal's end. It is built in the memory of the payload, so that this stands in memory once.
 fn build_record(alloc: Global, edit: &Edit, end: u64) -> Result<Built, BuildError>
     requires proper { IsProper edit.now }
     requires room { length (payload edit.now) ≤ most_record }
     ensures built { IfOk result (λ built. (built.end ≡ end) × IsPayload built.payload edit.now × (is_past end edit.now ≡ false)) }
     ensures full { IsErrOf result BuildError.JournalFull → is_past end edit.now ≡ true }
 {
-    match encode(alloc, edit) {
-        Ok(payload) => build(alloc, &payload, end),
+    match encode_with_length(alloc, edit) {
+        Ok(spelled) => build_in_place(spelled, end),
         Err(Mem::Memory) => Err(BuildError::Memory),
     }
 }

@@ -7,4 +7,4 @@ mod reading; // reading the record at a place
 
 pub use committing::{commit, put};
 pub use reading::{ReplayError, Step, next};
-pub use record::{BuildError, Built, build};
+pub use record::{BuildError, Built, build, build_in_place};

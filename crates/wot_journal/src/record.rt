@@ -1,7 +1,7 @@
 //! A record that is ready to be committed.
 
-ghost use Rattle.std.specs.Prelude.{◌≡◌, ◌+◌, ◌-◌, ◌^◌, ◌<◌, ◌≤◌, length, IfOk, IsErrOf};
-ghost use Rattle.wot_journal.specs.Record.{Framed, most, behind_gate};
+ghost use Rattle.std.specs.Prelude.{◌≡◌, ◌+◌, ◌-◌, ◌^◌, ◌<◌, ◌≤◌, nat_lt, length, drop, IfOk, IsErrOf};
+ghost use Rattle.wot_journal.specs.Record.{Framed, most, behind_gate, with_length};
 
 use byteorder::{BigEndian, ByteOrder};
 use std::alloc::{AllocError, Global};
@@ -72,25 +72,54 @@ pub fn build(alloc: Global, payload: &[u8], end: u64) -> Result<Built, BuildErro
     ensures room { IfOk result (λ b. end + length payload.now + 6 ≤ most) }
     ensures full { IsErrOf result BuildError.JournalFull → most < end + length payload.now + 6 }
 {
-    let len = payload.len() as u64;
-    if end > MOST || len > MOST || end + len + 6 > MOST {
+    if is_past(end, payload.len() as u64) {
         return Err(BuildError::JournalFull);
     }
-    let body = spell_body(alloc, payload)?;
-    Ok(Built { end, body })
+    let spelled = spell(alloc, payload)?;
+    Ok(close(spelled, end)?)
 }
 
-// What stands behind the gate of a payload's record.
-fn spell_body(alloc: Global, payload: &[u8]) -> Result<Vec<u8>, AllocError>
+/// The same of a payload that has its length before it. The record is built in the memory of these bytes: no more is taken where there is room for one byte behind them.
+pub fn build_in_place(spelled: Vec<u8>, end: u64) -> Result<Built, BuildError>
+    requires spelled { spelled.items ≡ with_length (drop 4 spelled.items) }
+    ensures built { IfOk result (λ b. b ≡ record { end = end; payload = drop 4 spelled.items }) }
+    ensures room { IfOk result (λ b. end + length (drop 4 spelled.items) + 6 ≤ most) }
+    ensures full { IsErrOf result BuildError.JournalFull → most < end + length (drop 4 spelled.items) + 6 }
+{
+    if is_past(end, spelled.len() as u64 - 4) {
+        return Err(BuildError::JournalFull);
+    }
+    Ok(close(spelled, end)?)
+}
+
+// Whether the record of a payload of that length passes the last place of a side, with the next gate behind it.
+fn is_past(end: u64, len: u64) -> bool
+    ensures { result ≡ nat_lt most (end + len + 6) }
+{
+    end > MOST || len > MOST || end + len + 6 > MOST
+}
+
+// A payload with its length before it, and room for the next gate.
+fn spell(alloc: Global, payload: &[u8]) -> Result<Vec<u8>, AllocError>
     requires { length payload.now < 2 ^ 32 }
-    ensures { IfOk result (λ body. body.items ≡ behind_gate payload.now) }
+    ensures { IfOk result (λ spelled. spelled.items ≡ with_length payload.now) }
 {
     let mut len = [0u8; 4];
     BigEndian::write_u32(&mut len, payload.len() as u32);
-    let mut body = Vec::new(alloc);
-    body.reserve_exact(len.len() + payload.len() + 1)?;
-    body.extend_from_slice(&len)?;
-    body.extend_from_slice(payload)?;
+    let mut spelled = Vec::new(alloc);
+    spelled.reserve_exact(len.len() + payload.len() + 1)?;
+    spelled.extend_from_slice(&len)?;
+    spelled.extend_from_slice(payload)?;
+    Ok(spelled)
+}
+
+// The record of a payload with its length before it: the next gate comes behind them, closed.
+fn close(spelled: Vec<u8>, end: u64) -> Result<Built, AllocError>
+    requires spelled { spelled.items ≡ with_length (drop 4 spelled.items) }
+    requires room { end + length (drop 4 spelled.items) + 6 ≤ most }
+    ensures { IfOk result (λ b. b ≡ record { end = end; payload = drop 4 spelled.items }) }
+{
+    let mut body = spelled;
     body.push(0)?;
-    Ok(body)
+    Ok(Built { end, body })
 }

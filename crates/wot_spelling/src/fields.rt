@@ -1,11 +1,12 @@
 //! A key and a user ID up to the lists that they end with, wherever their fields are.
 
-ghost use Rattle.std.specs.Prelude.{◌≡◌, ◌++◌, List, OnOk};
+ghost use Rattle.std.specs.Prelude.{◌≡◌, ◌<◌, ◌^◌, ◌++◌, List, OnOk};
 ghost use Rattle.wot_types.specs.declared.cert.Cert.{Cert as CertSeen};
 ghost use Rattle.wot_types.specs.declared.user.User.{User as UserSeen};
-ghost use Rattle.wot_types.specs.Spelling.{CertFits, IsShort, KeyFits, ListFits, UserFits, cert_bytes, key_bytes, list_bytes, user_bytes};
+ghost use Rattle.wot_types.specs.Spelling.{CertFits, IsShort, KeyFits, ListFits, UserFits, cert_bytes, flag_bytes, key_bytes, list_bytes, number_4, user_bytes};
 ghost use Rattle.wot_spelling.specs.Fields.{key_with, user_with};
 
+use crate::numbers::number_4;
 use crate::writer::Writer;
 use wot_types::{Fpr, Mem, Text, UserKind};
 
@@ -40,11 +41,7 @@ impl Writer {
         ensures fits { (users : List UserSeen) → ListFits UserFits users → OnOk result (KeyFits (key_with fields.now users)) }
     {
         self.fpr(fields.fpr)?;
-        self.number_4(fields.bits)?;
-        self.number_4(fields.algo)?;
-        self.number_4(fields.made)?;
-        self.number_4(fields.expires)?;
-        self.flag(fields.revoked)?;
+        self.bytes(&key_numbers(fields))?;
         self.text(fields.caps)?;
         Ok(())
     }
@@ -59,9 +56,39 @@ impl Writer {
         self.user_kind(fields.kind)?;
         self.text(fields.text)?;
         self.text(fields.hash)?;
-        self.number_4(fields.made)?;
-        self.number_4(fields.expires)?;
-        self.flag(fields.revoked)?;
+        self.bytes(&user_numbers(fields))?;
         Ok(())
     }
+}
+
+/// The fields of a key between its fingerprint and its capabilities, in one piece.
+#[tactic(auto, unfolding(wot_types::specs::Spelling::number_4, wot_types::specs::Spelling::flag_bytes))]
+fn key_numbers(fields: &KeyFields<'_>) -> [u8; 17]
+    ensures spelled { result ≡ number_4 fields.now.bits ++ (number_4 fields.now.algo ++ (number_4 fields.now.made ++ (number_4 fields.now.expires ++ flag_bytes fields.now.revoked))) }
+    ensures bits { fields.now.bits < 2 ^ 32 }
+    ensures algo { fields.now.algo < 2 ^ 32 }
+    ensures made { fields.now.made < 2 ^ 32 }
+    ensures expires { fields.now.expires < 2 ^ 32 }
+{
+    let [b0, b1, b2, b3] = number_4(fields.bits);
+    let [a0, a1, a2, a3] = number_4(fields.algo);
+    let [m0, m1, m2, m3] = number_4(fields.made);
+    let [e0, e1, e2, e3] = number_4(fields.expires);
+    let revoked = u8::from(fields.revoked);
+    [
+        b0, b1, b2, b3, a0, a1, a2, a3, m0, m1, m2, m3, e0, e1, e2, e3, revoked,
+    ]
+}
+
+/// The fields of a user ID behind its texts, in one piece.
+#[tactic(auto, unfolding(wot_types::specs::Spelling::number_4, wot_types::specs::Spelling::flag_bytes))]
+fn user_numbers(fields: &UserFields<'_>) -> [u8; 9]
+    ensures spelled { result ≡ number_4 fields.now.made ++ (number_4 fields.now.expires ++ flag_bytes fields.now.revoked) }
+    ensures made { fields.now.made < 2 ^ 32 }
+    ensures expires { fields.now.expires < 2 ^ 32 }
+{
+    let [m0, m1, m2, m3] = number_4(fields.made);
+    let [e0, e1, e2, e3] = number_4(fields.expires);
+    let revoked = u8::from(fields.revoked);
+    [m0, m1, m2, m3, e0, e1, e2, e3, revoked]
 }

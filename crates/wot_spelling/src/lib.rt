@@ -3,6 +3,7 @@
 
 mod checks; // what is tested of the values that are read
 mod fields; // a key and a user ID up to the lists that they end with
+mod numbers; // the bytes of numbers
 mod payload; // the payloads of edits
 mod reader; // reading parts from the front
 mod sizes; // how many bytes a payload has
@@ -11,7 +12,7 @@ mod values; // the values that stand in lists
 mod writer; // writing parts at the end
 
 pub use fields::{KeyFields, UserFields};
-pub use payload::{decode, encode, one_payload};
+pub use payload::{decode, encode, encode_with_length, one_payload};
 pub use reader::{Part, Reader};
 pub use sizes::payload_length;
 pub use stop::Stop;

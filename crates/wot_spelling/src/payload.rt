@@ -6,6 +6,7 @@ ghost use Rattle.wot_spelling.specs.Reading.{Gives};
 ghost use Rattle.wot_types.specs.Limits.{most_record};
 ghost use Rattle.wot_spelling.specs.Stored.{rows_at};
 ghost use Rattle.wot_types.specs.Payload.{EditFits, IsPayload, IsProper, payload};
+ghost use Rattle.wot_types.specs.Spelling.{text_bytes};
 ghost use Rattle.wot_spelling.specs.Edits.{GivesAll, edit_at, edit_of, entries_at, keys_at, range_at, sample_count_at};
 
 use crate::checks::{are_importable, are_settable, are_stored, is_in_range, is_sample_count};
@@ -179,6 +180,21 @@ pub fn encode(alloc: Global, edit: &Edit) -> Result<Vec<u8>, Mem>
 {
     let room = payload_length(edit) as usize;
     let mut writer = Writer::with_room(alloc, room)?;
+    write_edit(&mut writer, edit)?;
+    Ok(writer.into_vec())
+}
+
+/// The payload of an edit with its length in four bytes before it, as the edit's record has them. There is room for one byte more: the gate behind them.
+#[tactic(auto, unfolding(wot_types::specs::Spelling::text_bytes))]
+pub fn encode_with_length(alloc: Global, edit: &Edit) -> Result<Vec<u8>, Mem>
+    requires proper { IsProper edit.now }
+    requires room { length (payload edit.now) ≤ most_record }
+    ensures spelled { IfOk result (λ bytes. bytes.items ≡ text_bytes (payload edit.now)) }
+    ensures payload { IfOk result (λ _. IsPayload (payload edit.now) edit.now) }
+{
+    let length = payload_length(edit) as u32;
+    let mut writer = Writer::with_room(alloc, length as usize + 5)?;
+    writer.number_4(length)?;
     write_edit(&mut writer, edit)?;
     Ok(writer.into_vec())
 }

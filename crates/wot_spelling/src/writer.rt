@@ -5,6 +5,7 @@ ghost use Rattle.wot_types.specs.Fingerprint.{IsFprLength};
 ghost use Rattle.wot_types.specs.Ownertrust.{ownertrust_number};
 ghost use Rattle.wot_types.specs.Spelling.{IsShort, ListFits, OptionsFit, number_1, number_4, number_8, flag_bytes, text_bytes, scope_bytes, fpr_bytes, trust_bytes, kind_bytes, options_bytes, list_bytes};
 
+use crate::numbers::{number_4, number_8};
 use crate::reader::Part;
 use std::alloc::Global;
 use std::marker::Model;
@@ -53,6 +54,13 @@ impl Writer {
         out
     }
 
+    pub(crate) fn bytes(&mut self, bytes: &[u8]) -> Result<(), Mem>
+        ensures { OnOk result (self.new ≡ self.old ++ bytes.now) }
+    {
+        self.out.extend_from_slice(bytes)?;
+        Ok(())
+    }
+
     #[tactic(auto, unfolding(wot_types::specs::Spelling::number_1))]
     pub fn number_1(&mut self, n: u8) -> Result<(), Mem>
         ensures { OnOk result (self.new ≡ self.old ++ number_1 n) }
@@ -61,21 +69,19 @@ impl Writer {
         Ok(())
     }
 
-    #[tactic(auto, unfolding(wot_types::specs::Spelling::number_4))]
     pub fn number_4(&mut self, n: u32) -> Result<(), Mem>
         ensures ok { OnOk result (self.new ≡ self.old ++ number_4 n) }
         ensures fits { n < 2 ^ 32 }
     {
-        self.out.extend_from_slice(&n.to_be_bytes())?;
+        self.out.extend_from_slice(&number_4(n))?;
         Ok(())
     }
 
-    #[tactic(auto, unfolding(wot_types::specs::Spelling::number_8))]
     pub fn number_8(&mut self, n: u64) -> Result<(), Mem>
         ensures ok { OnOk result (self.new ≡ self.old ++ number_8 n) }
         ensures fits { n < 2 ^ 64 }
     {
-        self.out.extend_from_slice(&n.to_be_bytes())?;
+        self.out.extend_from_slice(&number_8(n))?;
         Ok(())
     }
 
