@@ -2,12 +2,13 @@
 use Rattle.std.proofs.Common.{◌≡◌, ◌+◌, ◌-◌, ◌*◌, ◌≤◌, ◌==◌, ◌&&◌, ◌||◌, not, ℕ, Bool, true, false, cond, nat_cmp, nat_eq, List, [], ◌∷◌, Some, None, unwrap_or, is_some, IfSome, refl, sym, ap, subst, ◌∙◌, arith}
 use Rattle.std.specs.Cmp.Lexicographic.{pointwise}
 use Rattle.std.specs.FinMap as map
-use Rattle.std.specs.FinMap.{contains_key, empty_of_len, get-empty, get-insert, get-remove, nat_cmp-IsAntisymmetric, same_map}
+use Rattle.std.specs.FinMap.{contains_key, empty_of_len, get-empty, get-insert, get-remove}
 use Rattle.std.specs.Cmp.{nat_cmp_total}
-use Rattle.std.specs.List.{AllByRecursion, list_any}
+use Rattle.std.specs.List.{AllByRecursion, IsDistinct, list_any}
 use Rattle.std.specs.Option.{option_map_or}
 use Rattle.std.proofs.lemmas.Bool.{true≢false}
 use Rattle.std.proofs.lemmas.Nat.{mul-le}
+use Rattle.std.proofs.Math.Bool.{or-true}
 use Rattle.wot_types.specs.declared.key.Key.{Key}
 use Rattle.wot_types.specs.declared.ownertrust.Entry.{Entry}
 use Rattle.wot_types.specs.declared.row.Row.{Row}
@@ -22,14 +23,17 @@ use Rattle.wot_types.specs.Explanation.{KeySet}
 use Rattle.wot_types.specs.Touched.{IsWithinTouched, certs_on, is_certified_at, is_passed_between, is_touched, named_by_date, named_by_options, named_by_put, named_by_remove, row_differs}
 use Rattle.wot_types.proofs.Fingerprints.{fpr_cmp_total, fpr_eq}
 use Rattle.wot_types.proofs.LevelLemmas.{level_le}
-use Rattle.wot_types.proofs.MapLemmas.{get_only}
 use Rattle.wot_types.proofs.Tests.{same_key}
 use Rattle.wot_types.specs.Payload.{IsInRange}
-use Rattle.wot_live.specs.Counts.{CountMap}
-use Rattle.wot_live.specs.Follows.{Follows, IsPending}
-use Rattle.wot_live.specs.Recounting.{IsAlike, IsTouchedList, among}
+use Rattle.wot_levels.specs.Frontier.{weight}
+use Rattle.wot_live.specs.declared.todo.Named.{Named}
+use Rattle.wot_live.specs.declared.todo.Todo.{Todo}
+use Rattle.wot_live.specs.declared.todo.Todo.TheVariants.{All, Named as Listed}
+use Rattle.wot_live.specs.Follows.{Follows, IsDue, IsDueSince, IsListedSince, no_keys, with_named}
+use Rattle.wot_live.specs.Recounting.{IsAlike, IsBegun, IsTouchedList, among}
+use Rattle.wot_live.proofs.Rounds.{once_more}
 use Rattle.wot_live.proofs.Stages.{IsLow}
-use Rattle.wot_live.proofs.Weights.{all_within}
+use Rattle.wot_live.proofs.Weights.{all_within, weight_within}
 
 left_out : (a b : Bool) → (a || b) ≡ false → (a ≡ false) × (b ≡ false)
 left_out true b e = absurd (true≢false e)
@@ -116,51 +120,68 @@ both_alike s t u x first second = record {
   dates = λ key is. both_dates s.date t.date u.date (key_expiries key) (first.dates key (second.key ∙ is)) (second.dates key is);
 }
 
--- nothing is pending of a state whose rows and counts are there
-pub none_pending : (s : State) (rows : RowMap) (counts : CountMap) (todo : List ℕ) → Follows s rows counts → todo ≡ [] → IsPending s rows counts todo
-none_pending s rows counts todo follows none = record {
-  ranges = follows.ranges;
-  begun = (
-    s,
-    record {
-      options = refl;
-      rows = follows.rows;
-      alike = λ x out. record { key = refl; own = λ key is. refl; dates = λ key is. same_dates s.date (key_expiries key) };
-    },
-    follows.counts,
-  );
+-- nothing is to be counted of a state whose rows and counts are there
+pub none_listed : (s : State) (named : Named) → Follows s named.rows named.counts → named.list ≡ [] → IsListedSince s no_keys s named
+none_listed s named follows none = record {
+  begun = record {
+    options = refl;
+    rows = follows.rows;
+    alike = λ x out. record { key = refl; own = λ key is. refl; dates = λ key is. same_dates s.date (key_expiries key) };
+  };
+  counts = follows.counts;
+  only = λ x its. sym (ap (λ xs. among xs x) none) ∙ its;
 }
 
--- one edit more: the keys that it names are pending too
-pub pending_more : (t u : State) (rows : RowMap) (counts : CountMap) (todo more : List ℕ) (named : KeySet) → IsPending t rows counts todo → t.options ≡ u.options
-    → ((x : ℕ) → among more x ≡ (among todo x || named x)) → ((x : ℕ) → named x ≡ false → IsAlike t u x) → IsPending u rows counts more
-pending_more t u rows counts todo more named pending same grown alike =
-    let s = pending.begun.0 in
-    let begun = pending.begun.1 in
-    record {
-      ranges = subst IsInRange same pending.ranges;
-      begun = (
-        s,
-        record {
-          options = begun.options ∙ same;
-          rows = begun.rows;
-          alike = λ x out.
-              let apart = left_out (among todo x) (named x) (sym (grown x) ∙ out) in
-              both_alike s t u x (begun.alike x apart.0) (alike x apart.1);
-        },
-        pending.begun.2,
-      );
-    }
+either : (a b c : Bool) → (a ≡ true → b ≡ true) → (a || c) ≡ true → (b || c) ≡ true
+either a true c h its = refl
+either true false c h its = absurd (true≢false (sym (h refl)))
+either false false c h its = its
 
--- a list that began empty has the keys that are named
-pub from_none : (start todo : List ℕ) (named : KeySet) → start ≡ [] → ((x : ℕ) → among todo x ≡ (among start x || named x)) → (x : ℕ) → among todo x ≡ named x
-from_none start todo named none grown x = grown x ∙ ap (λ xs. among xs x || named x) none
+-- one edit more: the keys that it names are listed too
+pub listed_more : (s t u : State) (names more : KeySet) (named : Named) (list : List ℕ) → IsListedSince s names t named → t.options ≡ u.options
+    → ((x : ℕ) → among list x ≡ (among named.list x || more x)) → ((x : ℕ) → more x ≡ false → IsAlike t u x) → IsListedSince s (with_named names more) u (record named { list = list })
+listed_more s t u names more named list before same grown alike = record {
+  begun = record {
+    options = before.begun.options ∙ same;
+    rows = before.begun.rows;
+    alike = λ x out.
+        let apart = left_out (among named.list x) (more x) (sym (grown x) ∙ out) in
+        both_alike s t u x (before.begun.alike x apart.0) (alike x apart.1);
+  };
+  counts = before.counts;
+  only = λ x its. either (among named.list x) (names x) (more x) (before.only x) (sym (grown x) ∙ its);
+}
+
+-- one edit more where all keys are named: those that it doesn't name were there before
+pub all_more : (t u : State) (names more : KeySet) → ((x : ℕ) → contains_key t.keys x ≡ true → names x ≡ true) → ((x : ℕ) → more x ≡ false → IsAlike t u x)
+    → (x : ℕ) → contains_key u.keys x ≡ true → with_named names more x ≡ true
+all_more t u names more all alike x there = elim (more x) as (λ b. more x ≡ b → (names x || b) ≡ true) [
+  | true ↦ λ _. or-true (names x)
+  | false ↦ λ out. ap (λ b. b || false) (all x (ap is_some (alike x out).key ∙ there))
+] refl
+
+-- where there are no keys all of them are named
+pub none_there : (keys : Keyring) (names : KeySet) → map.len keys ≡ 0 → (x : ℕ) → contains_key keys x ≡ true → names x ≡ true
+none_there keys names none x there = absurd (true≢false (sym there ∙ ap (λ (m : Keyring). is_some (map.get m x)) (empty_of_len keys none) ∙ ap is_some (get-empty nat_cmp x)))
+
+-- whatever is to be counted, all keys have it among them
+pub all_named : (s t : State) (names : KeySet) (todo : Todo) → IsDueSince s names t todo → IsDueSince s named_by_options t todo
+all_named s t names All due = λ x there. refl
+all_named s t names (Listed named) due = record { begun = due.begun; counts = due.counts; only = λ x its. refl }
+
+-- one edit more: what is to be counted is told from the same state as before
+pub due_after : {t u v : State} {before after : Todo} (more : KeySet) → IsDue t before → u ≡ v → IsInRange v.options
+    → ((s : State) (names : KeySet) → IsDueSince s names t before → IsDueSince s (with_named names more) u after) → IsDue u after
+due_after more due is ranges since = record {
+  ranges = subst (λ (w : State). IsInRange w.options) (sym is) ranges;
+  since = (due.since.0, with_named due.since.1 more, since due.since.0 due.since.1 due.since.2);
+}
 
 -- ---- levels and bounds
 
 -- those on all keys
 pub all_certs : (keys : Keyring) → certs_on named_by_options keys ≡ cert_total keys
-all_certs keys = ap cert_total (same_map nat_cmp_total nat_cmp-IsAntisymmetric (map.retain_keys keys named_by_options) keys (get_only keys named_by_options))
+all_certs keys = all_within named_by_options keys (λ x there. refl)
 
 pub low_of : (s : State) (rows : RowMap) (top : ℕ) → rows ≡ rows_of s → s.options.depth - 1 ≡ top → IsLow top rows
 low_of s rows top is same x = elim (map.get (rows_of s) x) as (λ o. map.get (rows_of s) x ≡ o → IfSome (map.get rows x) (λ row. row.level ≤ top)) [
@@ -170,7 +191,7 @@ low_of s rows top is same x = elim (map.get (rows_of s) x) as (λ o. map.get (ro
       subst (λ o. IfSome o (λ (r : Row). r.level ≤ top)) (sym (ap (λ r. map.get r x) is ∙ there)) (omega (arith, low, same))
 ] refl
 
-pub within_bound : (depth before certs old new : ℕ) → new ≤ old + (depth + 1) * certs → new ≤ old + (depth + 2) * (before + certs)
+within_bound : (depth before certs old new : ℕ) → new ≤ old + (depth + 1) * certs → new ≤ old + (depth + 2) * (before + certs)
 within_bound depth before certs old new h =
     let more = mul-le (depth + 1) certs (depth + 2) (before + certs) (omega arith) (omega arith) in
     omega (arith, h, more)
@@ -178,27 +199,32 @@ within_bound depth before certs old new h =
 pub named_touched : (named : KeySet) (s t : State) (x : ℕ) → named x ≡ true → is_touched named s t x ≡ true
 named_touched named s t x h = ap (λ b. b || is_certified_at s.keys (row_differs s t) x || is_certified_at t.keys (row_differs s t) x) h
 
+-- where all keys are in the set a count of all keys is within it
+pub all_bound : (set : KeySet) (keys : Keyring) (depth old new : ℕ) → ((x : ℕ) → contains_key keys x ≡ true → set x ≡ true) → new ≤ old + (depth + 1) * cert_total keys
+    → new ≤ old + (depth + 1) * certs_on set keys
+all_bound set keys depth old new all cost = subst (λ n. new ≤ old + (depth + 1) * n) (sym (all_within set keys all)) cost
+
+-- where a recount begins, of the state as it is lent
+pub lent_list : {s t u : State} {names : KeySet} {named : Named} → u ≡ t → IsListedSince s names t named → IsBegun s u named.rows named.list × IsTouchedList names s u named.list
+lent_list {s} {t} {u} {names} {named} is listed = (
+  subst (λ v. IsBegun s v named.rows named.list) (sym is) listed.begun,
+  subst (λ v. IsTouchedList names s v named.list) (sym is) (λ x its. named_touched names s t x (listed.only x its)),
+)
+
+-- first the rows of the listed keys, and then their counts
+pub listed_bound : (s t u : State) (names : KeySet) (todo : List ℕ) (old between new : ℕ) → t ≡ u → IsDistinct nat_eq todo → IsTouchedList names s t todo
+    → between ≤ old + t.options.depth * certs_on (is_touched names s t) t.keys → new ≤ between + weight t.keys todo
+    → new ≤ old + (u.options.depth + 1) * certs_on (is_touched names s u) u.keys
+listed_bound s t u names todo old between new is distinct touched first cost =
+    let set = is_touched names s t in
+    let less = weight_within set t.keys todo distinct touched in
+    let more = once_more t.options.depth (certs_on set t.keys) in
+    subst (λ (v : State). new ≤ old + (v.options.depth + 1) * certs_on (is_touched names s v) v.keys) is (omega (arith, less, first, cost, more))
+
 -- what an edit reads is within its bound
-pub edit_bound : (s t : State) (named : KeySet) (todo : List ℕ) (old new : ℕ) → ((x : ℕ) → among todo x ≡ true → named x ≡ true)
-    → (IsTouchedList named s t todo → new ≤ old + (t.options.depth + 1) * certs_on (is_touched named s t) t.keys) → IsWithinTouched named s t old new
-edit_bound s t named todo old new its cost =
-    within_bound t.options.depth (certs_on (is_touched named s t) s.keys) (certs_on (is_touched named s t) t.keys) old new (cost (λ x h. named_touched named s t x (its x h)))
-
--- keys are put into a keyring without keys: all that are then there are named
-all_put : (s : State) (keys : List Key) (entries : List Entry) → map.len s.keys ≡ 0 → (x : ℕ) → contains_key (with_keys s.keys keys) x ≡ true → named_by_put s keys entries x ≡ true
-all_put s keys entries none x there = elim (list_any (λ key. id_of key == x) keys) as
-    (λ b. list_any (λ key. id_of key == x) keys ≡ b → (b || list_any (λ (e : Entry). is_fpr_of e.fpr (map.get s.keys x)) entries) ≡ true) [
-      | true ↦ λ _. refl
-      | false ↦ λ out.
-          let absent : map.get (with_keys s.keys keys) x ≡ None = sym (other_keys keys s.keys x out) ∙ ap (λ (m : Keyring). map.get m x) (empty_of_len s.keys none) ∙ get-empty nat_cmp x in
-          absurd (true≢false (sym there ∙ ap is_some absent))
-    ] refl
-
-pub first_bound : (s : State) (keys : List Key) (entries : List Entry) (old new : ℕ) → map.len s.keys ≡ 0 → new ≤ old + (s.options.depth + 1) * cert_total (with_keys s.keys keys)
-    → IsWithinTouched (named_by_put s keys entries) s (record s { keys = with_keys s.keys keys; trusts = with_entries s.trusts entries }) old new
-first_bound s keys entries old new none cost =
-    let named = named_by_put s keys entries in
-    let t : State = record s { keys = with_keys s.keys keys; trusts = with_entries s.trusts entries } in
-    let set = is_touched named s t in
-    let all = all_within set t.keys (λ x there. named_touched named s t x (all_put s keys entries none x there)) in
-    within_bound s.options.depth (certs_on set s.keys) (certs_on set t.keys) old new (subst (λ n. new ≤ old + (s.options.depth + 1) * n) (sym all) cost)
+pub edit_bound : (edit : State → State) (names : State → KeySet) {s t u : State} (old new : ℕ) → t ≡ s → u ≡ edit t
+    → new ≤ old + (u.options.depth + 1) * certs_on (is_touched (names t) s u) u.keys → IsWithinTouched (names s) s (edit s) old new
+edit_bound edit names {s} {t} {u} old new same is cost =
+    subst (λ v. IsWithinTouched (names v) s (edit v) old new) same
+    (subst (λ v. IsWithinTouched (names t) s v old new) is
+    (within_bound u.options.depth (certs_on (is_touched (names t) s u) s.keys) (certs_on (is_touched (names t) s u) u.keys) old new cost))

@@ -4,8 +4,10 @@ ghost use Rattle.std.specs.Prelude.{◌≡◌, IfOk};
 ghost use Rattle.std.specs.FinMap as map;
 ghost use Rattle.wot_types.specs.Keyring.{with_keys};
 ghost use Rattle.wot_types.specs.Ownertrust.{with_entries};
+ghost use Rattle.wot_types.specs.Explanation.{KeySet};
 ghost use Rattle.wot_types.specs.State.{State};
-ghost use Rattle.wot_live.specs.Follows.{IsDue};
+ghost use Rattle.wot_types.specs.Touched.{named_by_date, named_by_put, named_by_remove};
+ghost use Rattle.wot_live.specs.Follows.{IsDueSince, with_named};
 
 use crate::counts::Counts;
 use crate::named::{named_by_date, named_by_put};
@@ -33,7 +35,8 @@ pub struct Named {
 impl Todo {
     /// Keys are put and entries set, beside the edits before. Into a keyring without keys all that it has then are put.
     pub fn put(self, table: &Table, keys: &Keys, entries: &Entries) -> Result<Todo, Mem>
-        ensures { (s : State) → s.keys ≡ table.now → IsDue s self → IfOk result (IsDue (record s { keys = with_keys s.keys keys.now; trusts = with_entries s.trusts entries.now })) }
+        ensures { (s t : State) (names : KeySet) → t.keys ≡ table.now → IsDueSince s names t self
+            → IfOk result (IsDueSince s (with_named names (named_by_put t keys.now entries.now)) (record t { keys = with_keys t.keys keys.now; trusts = with_entries t.trusts entries.now })) }
     {
         if table.totals().keys == 0 {
             return Ok(Todo::All);
@@ -47,7 +50,8 @@ impl Todo {
 
     /// A key is taken out.
     pub fn remove(self, id: KeyId) -> Result<Todo, Mem>
-        ensures { (s : State) → IsDue s self → IfOk result (IsDue (record s { keys = map.remove s.keys id })) }
+        ensures { (s t : State) (names : KeySet) → IsDueSince s names t self
+            → IfOk result (IsDueSince s (with_named names (named_by_remove id)) (record t { keys = map.remove t.keys id })) }
     {
         let Todo::Named(Named { rows, counts, list }) = self else {
             return Ok(Todo::All);
@@ -58,7 +62,8 @@ impl Todo {
 
     /// The date is set from one to another.
     pub fn set_date(self, table: &Table, from: u32, to: u32) -> Result<Todo, Mem>
-        ensures { (s : State) → s.keys ≡ table.now → s.date ≡ from → IsDue s self → IfOk result (IsDue (record s { date = to })) }
+        ensures { (s t : State) (names : KeySet) → t.keys ≡ table.now → t.date ≡ from → IsDueSince s names t self
+            → IfOk result (IsDueSince s (with_named names (named_by_date t to)) (record t { date = to })) }
     {
         let Todo::Named(Named { rows, counts, list }) = self else {
             return Ok(Todo::All);
