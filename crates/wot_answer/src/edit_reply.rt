@@ -45,7 +45,7 @@ impl EditReply {
 fn tally_text(alloc: Global, engine: &Engine, count: u32) -> Result<Vec<u8>, Mem>
     ensures { IfOk result (λ text. text.items ≡ sample_reply engine.now count) }
 {
-    let mut text = tally(alloc, &engine.lent(), engine.rows())?;
+    let mut text = tally(alloc, engine)?;
     let last_line = keys_line(alloc, count)?;
     text.extend_from_slice(last_line.as_slice())?;
     Ok(text)

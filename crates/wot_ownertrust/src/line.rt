@@ -7,7 +7,7 @@ ghost use Rattle.wot_types.specs.Ownertrust.{kept_of, ownertrust_line};
 ghost use Rattle.wot_types.specs.OwnertrustText.{entry_by, entry_of_line};
 
 use std::alloc::Global;
-use wot_fields::{Fields, is_blank, is_comment, number, push_ownertrust_line};
+use wot_fields::{Fields, Printed, is_blank, is_comment, number, push_ownertrust_line};
 use wot_types::{Entry, Fpr, Mem, Ownertrust, OwnertrustFault, Text};
 
 /// The entry of a line, and None for a blank line, a comment or the number 0. The line has no newline.
@@ -46,7 +46,7 @@ fn entry_by(fpr: &[u8], value: &[u8]) -> Result<Option<Entry>, OwnertrustFault>
 pub fn write_line(alloc: Global, entry: &Entry) -> Result<Text, Mem>
     ensures printed { IfOk result (λ text. text ++ 10 ∷ [] ≡ ownertrust_line (entry.now.fpr, kept_of entry.now)) }
 {
-    let mut text = Vec::new(alloc);
+    let mut text = Printed::new(alloc);
     push_ownertrust_line(&mut text, &entry.fpr, entry.kept())?;
-    Ok(Text::from_vec(text))
+    Ok(Text::from_vec(text.into_vec()?))
 }

@@ -4,3 +4,5 @@ pub mod Spots
 pub mod Pieces
 pub mod Explaining
 pub mod Counting
+pub mod OwnerLemmas
+pub mod Walking

@@ -1,22 +1,24 @@
 //! How many introducers there are, and how many user IDs have which letter.
 
-ghost use Rattle.std.specs.Prelude.{◌≡◌, ◌∷◌, [], ◌++◌, ◌<◌, IfOk, IsSome, List, OnOk, Some};
+ghost use Rattle.std.specs.Prelude.{◌≡◌, ◌∷◌, [], ◌++◌, IfOk, IsSome, List, OnOk, Some};
 ghost use Rattle.std.specs.FinMap as finmap;
 ghost use Rattle.wot_types.specs.declared.letter.Letter.{Letter};
 ghost use Rattle.wot_types.specs.Arrangement.{spot_of};
 ghost use Rattle.wot_types.specs.Letters.{user_letter, user_letters};
+ghost use Rattle.wot_types.specs.Levels.{rows_of};
 ghost use Rattle.wot_types.specs.Numbers.{capped};
 ghost use Rattle.wot_types.specs.Selection.{Spot};
 ghost use Rattle.wot_types.specs.Tally.{all_letters, tally_line};
 ghost use Rattle.wot_table.specs.Heads.{IsKeyHead};
+ghost use Rattle.wot_live.specs.KeyLetters.{AreOfKey};
 ghost use Rattle.wot_print.specs.Counts.{count_fields, counts_line, counts_of};
 
 use crate::fields::push_count_field;
 use std::alloc::Global;
-use std::marker::Brand;
-use std::sync::ledger::{Blank, Ledger};
+use std::sync::ledger::Ledger;
+use wot_fields::Printed;
 use wot_levels::{user_in, verdict_in};
-use wot_live::letter_by;
+use wot_live::{Engine, Letters, letter_by};
 use wot_table::{KeyHead, Keyblock, LentState};
 use wot_types::{Letter, Mem, Rows, Steps};
 
@@ -77,23 +79,24 @@ impl LetterCounts {
     }
 }
 
-/// `tally:ROWS:U:F:M:Q:D:R:E:`, with the letters that the user IDs have by these rows.
-pub fn tally(alloc: Global, state: &LentState<'_>, rows: &Rows) -> Result<Vec<u8>, Mem>
-    ensures { IfOk result (λ text. text.items ≡ tally_line state.now rows.now) }
+/// `tally:ROWS:U:F:M:Q:D:R:E:`, with the letters that the user IDs have.
+pub fn tally(alloc: Global, engine: &Engine) -> Result<Vec<u8>, Mem>
+    ensures { IfOk result (λ text. text.items ≡ tally_line engine.now (rows_of engine.now)) }
 {
-    let counts = count_letters::<Brand>(state, rows, Blank::new(1));
-    counts_line(alloc, rows, &counts)
+    let counts = count_letters(engine);
+    counts_line(alloc, engine.rows(), &counts)
 }
 
 /// The line of a tally.
 pub fn counts_line(alloc: Global, rows: &Rows, counts: &LetterCounts) -> Result<Vec<u8>, Mem>
     ensures { IfOk result (λ text. text.items ≡ counts_line rows.now counts.now) }
 {
-    let mut text = Vec::from_slice(alloc, b"tally:")?;
+    let mut text = Printed::new(alloc);
+    text.push_bytes(b"tally:")?;
     push_count_field(&mut text, count_rows(rows))?;
     push_counts(&mut text, counts)?;
     text.push(b'\n')?;
-    Ok(text)
+    text.into_vec()
 }
 
 /// How many introducers there are.
@@ -103,20 +106,31 @@ fn count_rows(rows: &Rows) -> u64
     rows.len() as u64
 }
 
-/// The letters of all user IDs, over a counter of its own for the certifications that are read.
-fn count_letters<L: Ledger>(state: &LentState<'_>, rows: &Rows, blank: Blank) -> LetterCounts
-    requires own { (blank.name ≡ L.name) × (blank.parts ≡ L.parts) × (0 < L.parts) }
-    ensures { result ≡ counts_of (all_letters state.now rows.now) }
+/// The letters of all user IDs: rows and counts are walked beside the keys.
+fn count_letters(engine: &Engine) -> LetterCounts
+    ensures { result ≡ counts_of (all_letters engine.now (rows_of engine.now)) }
 {
-    let mut steps = Steps::<L>::open(blank);
+    let mut walk = engine.letter_walk();
     let mut counts = LetterCounts::new();
-    for keyblock in state.table().walk() {
-        count_users(&mut counts, state, rows, &keyblock, &mut steps);
+    for keyblock in engine.table().walk() {
+        let letters = walk.letters(keyblock.id());
+        add_letters(&mut counts, &letters, &keyblock);
     }
     counts
 }
 
 /// The letters of a key's user IDs.
+fn add_letters(counts: &mut LetterCounts, letters: &Letters<'_>, keyblock: &Keyblock<'_>)
+    requires told { AreOfKey letters.now keyblock.now }
+    ensures { (passed : List Letter) → counts.old ≡ counts_of passed
+        → counts.new ≡ counts_of (passed ++ user_letters letters.now.state (rows_of letters.now.state) keyblock.now.0 keyblock.now.1) }
+{
+    for user in 0..keyblock.key().users {
+        counts.add(letters.letter(keyblock, user).unwrap());
+    }
+}
+
+/// The letters of a key's user IDs by these rows, whose candidates are counted anew.
 pub fn count_users<L: Ledger>(
     counts: &mut LetterCounts,
     state: &LentState<'_>,
@@ -153,8 +167,8 @@ fn letter_over<L: Ledger>(
 }
 
 /// The counts in the order `u f m q - r e`.
-fn push_counts(text: &mut Vec<u8>, counts: &LetterCounts) -> Result<(), Mem>
-    ensures { OnOk result (text.new.items ≡ text.old.items ++ count_fields counts.now) }
+fn push_counts(text: &mut Printed, counts: &LetterCounts) -> Result<(), Mem>
+    ensures { OnOk result (text.new ≡ text.old ++ count_fields counts.now) }
 {
     push_count_field(text, counts.ultimate)?;
     push_count_field(text, counts.full)?;

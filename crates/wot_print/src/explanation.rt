@@ -13,6 +13,7 @@ use crate::fields::{push_field, push_key_id_field, push_number_field, push_scope
 use crate::names::{letter_text, trust_text};
 use std::alloc::Global;
 use wot_explain::{Counted, Why};
+use wot_fields::Printed;
 use wot_types::{Count, KeyId, Letter, Mem, Row};
 
 /// The explanation of a user ID, whose place counts from 1, and its letter over the cut keyring.
@@ -21,25 +22,25 @@ pub fn why(alloc: Global, id: KeyId, place: u32, why: &Why, cut: Letter) -> Resu
     ensures explained { (s : State) (user : ℕ) → place ≡ user + 1 → Explains s id user why.now → cut ≡ letter_of (cutting.cut s (explanation s id user) id) id user
         → IfOk result (λ text. text.items ≡ why_text s id user) }
 {
-    let mut text = Vec::new(alloc);
+    let mut text = Printed::new(alloc);
     push_why(&mut text, id, place, why.letter, &why.count)?;
     push_rows(&mut text, why.rows.as_slice())?;
     push_counted(&mut text, why.counted.as_slice())?;
     push_cut(&mut text, cut)?;
-    Ok(text)
+    text.into_vec()
 }
 
 /// `why:LETTER:KEYID:PLACE:ULTIMATE:FULL:MARGINAL:OTHER:`
 fn push_why(
-    text: &mut Vec<u8>,
+    text: &mut Printed,
     id: KeyId,
     place: u32,
     letter: Letter,
     count: &Count,
 ) -> Result<(), Mem>
-    ensures { (user : ℕ) → place ≡ user + 1 → OnOk result (text.new.items ≡ text.old.items ++ why_line id user letter count.now) }
+    ensures { (user : ℕ) → place ≡ user + 1 → OnOk result (text.new ≡ text.old ++ why_line id user letter count.now) }
 {
-    text.extend_from_slice(b"why:")?;
+    text.push_bytes(b"why:")?;
     push_field(text, letter_text(letter))?;
     push_key_id_field(text, id)?;
     push_number_field(text, place)?;
@@ -49,8 +50,8 @@ fn push_why(
 }
 
 /// The candidates by their trust.
-fn push_count(text: &mut Vec<u8>, count: &Count) -> Result<(), Mem>
-    ensures { OnOk result (text.new.items ≡ text.old.items ++ count_fields count.now) }
+fn push_count(text: &mut Printed, count: &Count) -> Result<(), Mem>
+    ensures { OnOk result (text.new ≡ text.old ++ count_fields count.now) }
 {
     push_number_field(text, count.ultimate)?;
     push_number_field(text, count.full)?;
@@ -60,8 +61,8 @@ fn push_count(text: &mut Vec<u8>, count: &Count) -> Result<(), Mem>
 }
 
 /// A line for each introducer of the explanation.
-fn push_rows(text: &mut Vec<u8>, rows: &[Row]) -> Result<(), Mem>
-    ensures { OnOk result (text.new.items ≡ text.old.items ++ flat_map row_line rows.now) }
+fn push_rows(text: &mut Printed, rows: &[Row]) -> Result<(), Mem>
+    ensures { OnOk result (text.new ≡ text.old ++ flat_map row_line rows.now) }
 {
     for row in rows {
         push_row(text, row)?;
@@ -70,10 +71,10 @@ fn push_rows(text: &mut Vec<u8>, rows: &[Row]) -> Result<(), Mem>
 }
 
 /// `row:KEYID:LEVEL:TRUST:LEFT:SCOPE:`
-fn push_row(text: &mut Vec<u8>, row: &Row) -> Result<(), Mem>
-    ensures { OnOk result (text.new.items ≡ text.old.items ++ row_line row.now) }
+fn push_row(text: &mut Printed, row: &Row) -> Result<(), Mem>
+    ensures { OnOk result (text.new ≡ text.old ++ row_line row.now) }
 {
-    text.extend_from_slice(b"row:")?;
+    text.push_bytes(b"row:")?;
     push_key_id_field(text, row.key)?;
     push_number_field(text, u32::from(row.level))?;
     push_field(text, trust_text(row.trust))?;
@@ -84,8 +85,8 @@ fn push_row(text: &mut Vec<u8>, row: &Row) -> Result<(), Mem>
 }
 
 /// A line for each candidate.
-fn push_counted(text: &mut Vec<u8>, counted: &[Counted]) -> Result<(), Mem>
-    ensures { OnOk result (text.new.items ≡ text.old.items ++ flat_map (λ c. by_line (shown_counted c)) counted.now) }
+fn push_counted(text: &mut Printed, counted: &[Counted]) -> Result<(), Mem>
+    ensures { OnOk result (text.new ≡ text.old ++ flat_map (λ c. by_line (shown_counted c)) counted.now) }
 {
     for candidate in counted {
         push_by(text, candidate)?;
@@ -94,10 +95,10 @@ fn push_counted(text: &mut Vec<u8>, counted: &[Counted]) -> Result<(), Mem>
 }
 
 /// `by:KEYID:TRUST:`
-fn push_by(text: &mut Vec<u8>, candidate: &Counted) -> Result<(), Mem>
-    ensures { OnOk result (text.new.items ≡ text.old.items ++ by_line (shown_counted candidate.now)) }
+fn push_by(text: &mut Printed, candidate: &Counted) -> Result<(), Mem>
+    ensures { OnOk result (text.new ≡ text.old ++ by_line (shown_counted candidate.now)) }
 {
-    text.extend_from_slice(b"by:")?;
+    text.push_bytes(b"by:")?;
     push_key_id_field(text, candidate.key)?;
     push_field(text, trust_text(candidate.trust))?;
     text.push(b'\n')?;
@@ -105,10 +106,10 @@ fn push_by(text: &mut Vec<u8>, candidate: &Counted) -> Result<(), Mem>
 }
 
 /// `cut:LETTER:`
-fn push_cut(text: &mut Vec<u8>, letter: Letter) -> Result<(), Mem>
-    ensures { OnOk result (text.new.items ≡ text.old.items ++ cut_line letter) }
+fn push_cut(text: &mut Printed, letter: Letter) -> Result<(), Mem>
+    ensures { OnOk result (text.new ≡ text.old ++ cut_line letter) }
 {
-    text.extend_from_slice(b"cut:")?;
+    text.push_bytes(b"cut:")?;
     push_field(text, letter_text(letter))?;
     text.push(b'\n')?;
     Ok(())

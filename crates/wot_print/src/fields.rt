@@ -5,25 +5,25 @@ ghost use Rattle.hex.specs.Hex.{encode_upper};
 ghost use Rattle.wot_types.specs.Printing.{ended_field, expiry_field, key_id_text, number_field, scope_text};
 ghost use Rattle.wot_types.specs.Quotes.{printed_text};
 
-use wot_fields::{push_hex, push_number, push_quoted};
+use wot_fields::{Printed, push_hex, push_number, push_quoted};
 use wot_types::{KeyId, Mem, Scope, Text};
 
-pub fn push_field(text: &mut Vec<u8>, field: &[u8]) -> Result<(), Mem>
-    ensures { OnOk result (text.new.items ≡ text.old.items ++ ended_field field.now) }
+pub fn push_field(text: &mut Printed, field: &[u8]) -> Result<(), Mem>
+    ensures { OnOk result (text.new ≡ text.old ++ ended_field field.now) }
 {
-    text.extend_from_slice(field)?;
+    text.push_bytes(field)?;
     text.push(b':')?;
     Ok(())
 }
 
-pub fn push_number_field(text: &mut Vec<u8>, number: u32) -> Result<(), Mem>
-    ensures { OnOk result (text.new.items ≡ text.old.items ++ number_field number) }
+pub fn push_number_field(text: &mut Printed, number: u32) -> Result<(), Mem>
+    ensures { OnOk result (text.new ≡ text.old ++ number_field number) }
 {
     push_count_field(text, u64::from(number))
 }
 
-pub fn push_count_field(text: &mut Vec<u8>, count: u64) -> Result<(), Mem>
-    ensures { OnOk result (text.new.items ≡ text.old.items ++ number_field count) }
+pub fn push_count_field(text: &mut Printed, count: u64) -> Result<(), Mem>
+    ensures { OnOk result (text.new ≡ text.old ++ number_field count) }
 {
     push_number(text, count)?;
     text.push(b':')?;
@@ -31,8 +31,8 @@ pub fn push_count_field(text: &mut Vec<u8>, count: u64) -> Result<(), Mem>
 }
 
 /// An expiry, or nothing for none.
-pub fn push_expiry(text: &mut Vec<u8>, expires: u32) -> Result<(), Mem>
-    ensures { OnOk result (text.new.items ≡ text.old.items ++ expiry_field expires) }
+pub fn push_expiry(text: &mut Printed, expires: u32) -> Result<(), Mem>
+    ensures { OnOk result (text.new ≡ text.old ++ expiry_field expires) }
 {
     if expires == 0 {
         push_field(text, b"")
@@ -42,16 +42,16 @@ pub fn push_expiry(text: &mut Vec<u8>, expires: u32) -> Result<(), Mem>
 }
 
 /// Bytes in hexadecimal.
-pub fn push_hex_field(text: &mut Vec<u8>, bytes: &[u8]) -> Result<(), Mem>
-    ensures { OnOk result (text.new.items ≡ text.old.items ++ ended_field (encode_upper bytes.now)) }
+pub fn push_hex_field(text: &mut Printed, bytes: &[u8]) -> Result<(), Mem>
+    ensures { OnOk result (text.new ≡ text.old ++ ended_field (encode_upper bytes.now)) }
 {
     push_hex(text, bytes)?;
     text.push(b':')?;
     Ok(())
 }
 
-pub fn push_key_id_field(text: &mut Vec<u8>, id: KeyId) -> Result<(), Mem>
-    ensures { OnOk result (text.new.items ≡ text.old.items ++ ended_field (key_id_text id)) }
+pub fn push_key_id_field(text: &mut Printed, id: KeyId) -> Result<(), Mem>
+    ensures { OnOk result (text.new ≡ text.old ++ ended_field (key_id_text id)) }
 {
     push_key_id(text, id)?;
     text.push(b':')?;
@@ -59,14 +59,14 @@ pub fn push_key_id_field(text: &mut Vec<u8>, id: KeyId) -> Result<(), Mem>
 }
 
 /// A key ID alone, as 16 digits in upper case.
-pub fn push_key_id(text: &mut Vec<u8>, id: KeyId) -> Result<(), Mem>
-    ensures { OnOk result (text.new.items ≡ text.old.items ++ key_id_text id) }
+pub fn push_key_id(text: &mut Printed, id: KeyId) -> Result<(), Mem>
+    ensures { OnOk result (text.new ≡ text.old ++ key_id_text id) }
 {
     push_hex(text, id.0.to_be_bytes().as_slice())
 }
 
-pub fn push_quoted_field(text: &mut Vec<u8>, field: &Text) -> Result<(), Mem>
-    ensures { OnOk result (text.new.items ≡ text.old.items ++ ended_field (printed_text field.now)) }
+pub fn push_quoted_field(text: &mut Printed, field: &Text) -> Result<(), Mem>
+    ensures { OnOk result (text.new ≡ text.old ++ ended_field (printed_text field.now)) }
 {
     push_quoted(text, field.as_bytes())?;
     text.push(b':')?;
@@ -74,8 +74,8 @@ pub fn push_quoted_field(text: &mut Vec<u8>, field: &Text) -> Result<(), Mem>
 }
 
 /// A regular expression, or nothing for none.
-pub fn push_scope(text: &mut Vec<u8>, scope: &Option<Scope>) -> Result<(), Mem>
-    ensures { OnOk result (text.new.items ≡ text.old.items ++ ended_field (scope_text scope.now)) }
+pub fn push_scope(text: &mut Printed, scope: &Option<Scope>) -> Result<(), Mem>
+    ensures { OnOk result (text.new ≡ text.old ++ ended_field (scope_text scope.now)) }
 {
     match scope {
         Some(scope) => push_quoted_field(text, scope.as_text()),

@@ -8,6 +8,7 @@ mod fields; // fields at the end of a line
 mod fits; // the ranges of what is printed
 mod listing; // the keyring, or one key of it
 mod names; // the words that stand for values
+mod owners; // the ownertrust of many keys
 mod ownertrust; // the ownertrust export
 mod records; // the lines of a listing
 mod refusals; // the line of a refused command

@@ -4,7 +4,7 @@ ghost use Rattle.std.specs.Prelude.{◌≡◌, IfOk};
 ghost use Rattle.wot_types.specs.Ownertrust.{ownertrust_text};
 
 use std::alloc::Global;
-use wot_fields::push_ownertrust_line;
+use wot_fields::{Printed, push_ownertrust_line};
 use wot_live::Engine;
 use wot_types::Mem;
 
@@ -12,10 +12,10 @@ use wot_types::Mem;
 pub fn export(alloc: Global, engine: &Engine) -> Result<Vec<u8>, Mem>
     ensures { IfOk result (λ text. text.items ≡ ownertrust_text engine.now.trusts) }
 {
-    let mut text = Vec::new(alloc);
+    let mut text = Printed::new(alloc);
     for (fpr, kept) in engine.trusts().iter() {
         push_ownertrust_line(&mut text, fpr, *kept)?;
         text.push(b'\n')?;
     }
-    Ok(text)
+    text.into_vec()
 }

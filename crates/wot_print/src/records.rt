@@ -9,15 +9,15 @@ use crate::fields::{
     push_quoted_field, push_scope,
 };
 use crate::names::{cert_name, kind_text, letter_text, model_text, trust_text};
-use wot_fields::push_number;
+use wot_fields::{Printed, push_number};
 use wot_table::{KeyHead, UserHead};
 use wot_types::{Cert, Fpr, KeyId, Letter, Mem, Options, Ownertrust, Text};
 
 /// `tru::MODEL:DATE:NEXT:MARGINALS:COMPLETES:DEPTH`
-pub fn push_tru(text: &mut Vec<u8>, options: &Options, date: u32, next: u32) -> Result<(), Mem>
-    ensures { OnOk result (text.new.items ≡ text.old.items ++ tru_line options.now date next) }
+pub fn push_tru(text: &mut Printed, options: &Options, date: u32, next: u32) -> Result<(), Mem>
+    ensures { OnOk result (text.new ≡ text.old ++ tru_line options.now date next) }
 {
-    text.extend_from_slice(b"tru::")?;
+    text.push_bytes(b"tru::")?;
     push_field(text, model_text(options))?;
     push_number_field(text, date)?;
     push_number_field(text, next)?;
@@ -30,15 +30,15 @@ pub fn push_tru(text: &mut Vec<u8>, options: &Options, date: u32, next: u32) -> 
 
 /// `pub:LETTER:BITS:ALGO:KEYID:MADE:EXP::OWNERTRUST:::CAPS:`
 pub fn push_pub(
-    text: &mut Vec<u8>,
+    text: &mut Printed,
     letter: Letter,
     kept: Ownertrust,
     id: KeyId,
     key: &KeyHead<'_>,
 ) -> Result<(), Mem>
-    ensures { OnOk result (text.new.items ≡ text.old.items ++ pub_line letter kept id (shown_key key.now)) }
+    ensures { OnOk result (text.new ≡ text.old ++ pub_line letter kept id (shown_key key.now)) }
 {
-    text.extend_from_slice(b"pub:")?;
+    text.push_bytes(b"pub:")?;
     push_field(text, letter_text(letter))?;
     push_number_field(text, key.bits)?;
     push_number_field(text, key.algo)?;
@@ -47,17 +47,17 @@ pub fn push_pub(
     push_expiry(text, key.expires)?;
     text.push(b':')?;
     push_field(text, trust_text(kept.trust))?;
-    text.extend_from_slice(b"::")?;
+    text.push_bytes(b"::")?;
     push_capabilities(text, key.caps, kept.disabled)?;
     text.push(b'\n')?;
     Ok(())
 }
 
 /// The capabilities, with `D` where the key is disabled.
-fn push_capabilities(text: &mut Vec<u8>, caps: &Text, disabled: bool) -> Result<(), Mem>
-    ensures { OnOk result (text.new.items ≡ text.old.items ++ ended_field (capabilities_text disabled caps.now)) }
+fn push_capabilities(text: &mut Printed, caps: &Text, disabled: bool) -> Result<(), Mem>
+    ensures { OnOk result (text.new ≡ text.old ++ ended_field (capabilities_text disabled caps.now)) }
 {
-    text.extend_from_slice(caps.as_bytes())?;
+    text.push_bytes(caps.as_bytes())?;
     if disabled {
         text.push(b'D')?;
     }
@@ -66,22 +66,22 @@ fn push_capabilities(text: &mut Vec<u8>, caps: &Text, disabled: bool) -> Result<
 }
 
 /// `fpr:::::::::FINGERPRINT:`
-pub fn push_fpr(text: &mut Vec<u8>, fpr: &Fpr) -> Result<(), Mem>
-    ensures { OnOk result (text.new.items ≡ text.old.items ++ fpr_line fpr.now) }
+pub fn push_fpr(text: &mut Printed, fpr: &Fpr) -> Result<(), Mem>
+    ensures { OnOk result (text.new ≡ text.old ++ fpr_line fpr.now) }
 {
-    text.extend_from_slice(b"fpr:::::::::")?;
+    text.push_bytes(b"fpr:::::::::")?;
     push_hex_field(text, fpr.as_bytes())?;
     text.push(b'\n')?;
     Ok(())
 }
 
 /// `uid:LETTER::::MADE:EXP:HASH::TEXT:`
-pub fn push_user(text: &mut Vec<u8>, letter: Letter, user: &UserHead<'_>) -> Result<(), Mem>
-    ensures { OnOk result (text.new.items ≡ text.old.items ++ user_line letter (shown_user user.now)) }
+pub fn push_user(text: &mut Printed, letter: Letter, user: &UserHead<'_>) -> Result<(), Mem>
+    ensures { OnOk result (text.new ≡ text.old ++ user_line letter (shown_user user.now)) }
 {
     push_field(text, kind_text(user.kind))?;
     push_field(text, letter_text(letter))?;
-    text.extend_from_slice(b":::")?;
+    text.push_bytes(b":::")?;
     push_number_field(text, user.made)?;
     push_expiry(text, user.expires)?;
     push_field(text, user.hash.as_bytes())?;
@@ -92,11 +92,11 @@ pub fn push_user(text: &mut Vec<u8>, letter: Letter, user: &UserHead<'_>) -> Res
 }
 
 /// `sig:!:::ISSUER:MADE:EXP:TRUST:SCOPE::CLASS:`
-pub fn push_cert(text: &mut Vec<u8>, cert: &Cert) -> Result<(), Mem>
-    ensures { OnOk result (text.new.items ≡ text.old.items ++ cert_line cert.now) }
+pub fn push_cert(text: &mut Printed, cert: &Cert) -> Result<(), Mem>
+    ensures { OnOk result (text.new ≡ text.old ++ cert_line cert.now) }
 {
     push_field(text, cert_name(cert))?;
-    text.extend_from_slice(b"!:::")?;
+    text.push_bytes(b"!:::")?;
     push_key_id_field(text, cert.issuer)?;
     push_number_field(text, cert.made)?;
     push_expiry(text, cert.expires)?;
@@ -109,8 +109,8 @@ pub fn push_cert(text: &mut Vec<u8>, cert: &Cert) -> Result<(), Mem>
 }
 
 /// The depth and the amount of a trust signature, or nothing where both are 0.
-fn push_depth(text: &mut Vec<u8>, cert: &Cert) -> Result<(), Mem>
-    ensures { OnOk result (text.new.items ≡ text.old.items ++ ended_field (depth_text cert.now)) }
+fn push_depth(text: &mut Printed, cert: &Cert) -> Result<(), Mem>
+    ensures { OnOk result (text.new ≡ text.old ++ ended_field (depth_text cert.now)) }
 {
     if cert.depth != 0 || cert.amount != 0 {
         push_number(text, u64::from(cert.depth))?;
@@ -122,12 +122,12 @@ fn push_depth(text: &mut Vec<u8>, cert: &Cert) -> Result<(), Mem>
 }
 
 /// The class in two digits, and `l` where the certification is local, else `x`.
-fn push_class(text: &mut Vec<u8>, cert: &Cert) -> Result<(), Mem>
-    ensures { OnOk result (text.new.items ≡ text.old.items ++ ended_field (class_text cert.now)) }
+fn push_class(text: &mut Printed, cert: &Cert) -> Result<(), Mem>
+    ensures { OnOk result (text.new ≡ text.old ++ ended_field (class_text cert.now)) }
 {
     let mut digits = [0; 2];
     hex::encode_to_slice(&[cert.class], &mut digits).unwrap();
-    text.extend_from_slice(&digits)?;
+    text.push_bytes(&digits)?;
     text.push(if cert.local { b'l' } else { b'x' })?;
     text.push(b':')?;
     Ok(())

@@ -1,82 +1,83 @@
 //! The line of a refused command.
 
-ghost use Rattle.std.specs.Prelude.{◌≡◌, IfOk};
+ghost use Rattle.std.specs.Prelude.{◌≡◌, ◌++◌, IfOk, OnOk};
 ghost use Rattle.wot_types.specs.Refusals.{fault_name, limit_name, ownertrust_fault_name, refusal_text, reply_line};
 
 use crate::fields::push_key_id;
 use std::alloc::Global;
-use wot_fields::push_number;
+use wot_fields::{Printed, push_number};
 use wot_types::{KeyId, Limit, ListingFault, ListingWhat, Mem, OwnertrustFault, Refusal};
 
 /// The whole `err` line that says why a command is refused.
 pub fn refused(alloc: Global, refusal: &Refusal) -> Result<Vec<u8>, Mem>
     ensures { IfOk result (λ text. text.items ≡ reply_line (refusal_text refusal.now)) }
 {
-    let mut text = refusal_text(alloc, refusal)?;
+    let mut text = Printed::new(alloc);
+    push_refusal(&mut text, refusal)?;
     text.push(b'\n')?;
-    Ok(text)
+    text.into_vec()
 }
 
-fn refusal_text(alloc: Global, refusal: &Refusal) -> Result<Vec<u8>, Mem>
-    ensures { IfOk result (λ text. text.items ≡ refusal_text refusal.now) }
+fn push_refusal(text: &mut Printed, refusal: &Refusal) -> Result<(), Mem>
+    ensures { OnOk result (text.new ≡ text.old ++ refusal_text refusal.now) }
 {
     match refusal {
-        Refusal::LineTooLong => Ok(Vec::from_slice(alloc, b"err line-too-long")?),
-        Refusal::UnknownCommand => Ok(Vec::from_slice(alloc, b"err unknown-command")?),
-        Refusal::BadArgument(number) => bad_argument(alloc, *number),
-        Refusal::UnendedBlock => Ok(Vec::from_slice(alloc, b"err unended-block")?),
-        Refusal::Listing(fault) => bad_listing(alloc, *fault),
-        Refusal::Ownertrust(line, what) => bad_ownertrust(alloc, *line, *what),
-        Refusal::NoSuchKey => Ok(Vec::from_slice(alloc, b"err no-such-key")?),
-        Refusal::NoSuchUser => Ok(Vec::from_slice(alloc, b"err no-such-user")?),
-        Refusal::Full(limit) => full(alloc, *limit),
-        Refusal::KeyIdTaken(id) => taken(alloc, *id),
-        Refusal::JournalFull => Ok(Vec::from_slice(alloc, b"err journal-full")?),
+        Refusal::LineTooLong => text.push_bytes(b"err line-too-long"),
+        Refusal::UnknownCommand => text.push_bytes(b"err unknown-command"),
+        Refusal::BadArgument(number) => push_bad_argument(text, *number),
+        Refusal::UnendedBlock => text.push_bytes(b"err unended-block"),
+        Refusal::Listing(fault) => push_bad_listing(text, *fault),
+        Refusal::Ownertrust(line, what) => push_bad_ownertrust(text, *line, *what),
+        Refusal::NoSuchKey => text.push_bytes(b"err no-such-key"),
+        Refusal::NoSuchUser => text.push_bytes(b"err no-such-user"),
+        Refusal::Full(limit) => push_full(text, *limit),
+        Refusal::KeyIdTaken(id) => push_taken(text, *id),
+        Refusal::JournalFull => text.push_bytes(b"err journal-full"),
     }
 }
 
-fn bad_argument(alloc: Global, number: u32) -> Result<Vec<u8>, Mem>
-    ensures { IfOk result (λ text. text.items ≡ refusal_text (Refusal.BadArgument number)) }
+fn push_bad_argument(text: &mut Printed, number: u32) -> Result<(), Mem>
+    ensures { OnOk result (text.new ≡ text.old ++ refusal_text (Refusal.BadArgument number)) }
 {
-    let mut text = Vec::from_slice(alloc, b"err bad-argument ")?;
-    push_number(&mut text, u64::from(number))?;
-    Ok(text)
+    text.push_bytes(b"err bad-argument ")?;
+    push_number(text, u64::from(number))?;
+    Ok(())
 }
 
-fn bad_listing(alloc: Global, fault: ListingFault) -> Result<Vec<u8>, Mem>
-    ensures { IfOk result (λ text. text.items ≡ refusal_text (Refusal.Listing fault)) }
+fn push_bad_listing(text: &mut Printed, fault: ListingFault) -> Result<(), Mem>
+    ensures { OnOk result (text.new ≡ text.old ++ refusal_text (Refusal.Listing fault)) }
 {
-    let mut text = Vec::from_slice(alloc, b"err listing ")?;
-    push_number(&mut text, fault.line)?;
+    text.push_bytes(b"err listing ")?;
+    push_number(text, fault.line)?;
     text.push(b' ')?;
-    text.extend_from_slice(fault_name(fault.what).as_bytes())?;
-    Ok(text)
+    text.push_bytes(fault_name(fault.what).as_bytes())?;
+    Ok(())
 }
 
-fn bad_ownertrust(alloc: Global, line: u64, what: OwnertrustFault) -> Result<Vec<u8>, Mem>
-    ensures { IfOk result (λ text. text.items ≡ refusal_text (Refusal.Ownertrust line what)) }
+fn push_bad_ownertrust(text: &mut Printed, line: u64, what: OwnertrustFault) -> Result<(), Mem>
+    ensures { OnOk result (text.new ≡ text.old ++ refusal_text (Refusal.Ownertrust line what)) }
 {
-    let mut text = Vec::from_slice(alloc, b"err ownertrust ")?;
-    push_number(&mut text, line)?;
+    text.push_bytes(b"err ownertrust ")?;
+    push_number(text, line)?;
     text.push(b' ')?;
-    text.extend_from_slice(ownertrust_fault_name(what).as_bytes())?;
-    Ok(text)
+    text.push_bytes(ownertrust_fault_name(what).as_bytes())?;
+    Ok(())
 }
 
-fn full(alloc: Global, limit: Limit) -> Result<Vec<u8>, Mem>
-    ensures { IfOk result (λ text. text.items ≡ refusal_text (Refusal.Full limit)) }
+fn push_full(text: &mut Printed, limit: Limit) -> Result<(), Mem>
+    ensures { OnOk result (text.new ≡ text.old ++ refusal_text (Refusal.Full limit)) }
 {
-    let mut text = Vec::from_slice(alloc, b"err full ")?;
-    text.extend_from_slice(limit_name(limit).as_bytes())?;
-    Ok(text)
+    text.push_bytes(b"err full ")?;
+    text.push_bytes(limit_name(limit).as_bytes())?;
+    Ok(())
 }
 
-fn taken(alloc: Global, id: KeyId) -> Result<Vec<u8>, Mem>
-    ensures { IfOk result (λ text. text.items ≡ refusal_text (Refusal.KeyIdTaken id)) }
+fn push_taken(text: &mut Printed, id: KeyId) -> Result<(), Mem>
+    ensures { OnOk result (text.new ≡ text.old ++ refusal_text (Refusal.KeyIdTaken id)) }
 {
-    let mut text = Vec::from_slice(alloc, b"err key-id-taken ")?;
-    push_key_id(&mut text, id)?;
-    Ok(text)
+    text.push_bytes(b"err key-id-taken ")?;
+    push_key_id(text, id)?;
+    Ok(())
 }
 
 fn fault_name(what: ListingWhat) -> &'static str

@@ -3,4 +3,4 @@ use Rattle.wot_types.specs.Quotes.{printed_text}
 use Rattle.wot_fields.proofs.quoting.push_each.Given as goal
 
 abbrev pub invariant-loop-b : goal.invariant-loop-b
-invariant-loop-b l = l.quoted.items ≡ l.initial.quoted.items ++ printed_text (take l.b-index l.text)
+invariant-loop-b l = l.quoted ≡ l.initial.quoted ++ printed_text (take l.b-index l.text)

@@ -5,4 +5,4 @@ use Rattle.wot_print.specs.Shown.{shown_counted}
 use Rattle.wot_print.proofs.explanation.push_counted.Given as goal
 
 abbrev pub invariant-loop-candidate : goal.invariant-loop-candidate
-invariant-loop-candidate l = l.text.items ≡ l.initial.text.items ++ flat_map (λ c. by_line (shown_counted c)) (take l.candidate-index l.counted)
+invariant-loop-candidate l = l.text ≡ l.initial.text ++ flat_map (λ c. by_line (shown_counted c)) (take l.candidate-index l.counted)

@@ -4,4 +4,4 @@ use Rattle.wot_types.specs.WhyText.{row_line}
 use Rattle.wot_print.proofs.explanation.push_rows.Given as goal
 
 abbrev pub invariant-loop-row : goal.invariant-loop-row
-invariant-loop-row l = l.text.items ≡ l.initial.text.items ++ flat_map row_line (take l.row-index l.rows)
+invariant-loop-row l = l.text ≡ l.initial.text ++ flat_map row_line (take l.row-index l.rows)

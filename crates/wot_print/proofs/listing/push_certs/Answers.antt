@@ -14,7 +14,7 @@ loop-placed-preserved g c =
     let i = c.loop-placed.placed-index in
     let item = c.placed-item.result in
     record {
-      lines = one_more (λ placed. cert_line placed.now.cert) c.args.text.now.items c.loop-placed.text.items _ items i item c.loop-placed-test.true c.placed-item.is c.loop-placed.invariant.lines c.in_ok-push_cert.ensures;
+      lines = one_more (λ placed. cert_line placed.now.cert) c.args.text.now c.loop-placed.text _ items i item c.loop-placed-test.true c.placed-item.is c.loop-placed.invariant.lines c.in_ok-push_cert.ensures;
       fits = all_more (λ placed. FitsCert placed.now.cert) items i item c.loop-placed-test.true c.placed-item.is c.loop-placed.invariant.fits c.cert_fits.ensures;
     }
 
@@ -24,7 +24,7 @@ returns-clause-lines g c = λ spot is.
     let block : map (λ p. p.now) items ≡ spot.certs =
     ap (map (λ p. p.now)) c.deref-placed-items.ensures.value
     ∙ if_there (λ (spot : Spot). map (λ p. p.now) c.in_ok-certs.certs.items ≡ spot.certs) (spot_of c.args.keyblock.now.1 c.args.user) c.in_ok-certs.ensures.block spot is in
-    printed_all (λ p. p.now) (λ (p : Placed). cert_line p.cert) c.args.text.now.items c.loop-placed.text.items items c.loop-placed.placed-index spot.certs c.loop-placed-test.false c.loop-placed.invariant.lines block
+    printed_all (λ p. p.now) (λ (p : Placed). cert_line p.cert) c.args.text.now c.loop-placed.text items c.loop-placed.placed-index spot.certs c.loop-placed-test.false c.loop-placed.invariant.lines block
 
 pub returns-clause-fits : goal.returns-clause-fits
 returns-clause-fits g c = λ spot is.

@@ -6,6 +6,6 @@ use Rattle.wot_print.proofs.listing.push_certs.Given as goal
 
 abbrev pub invariant-loop-placed : goal.invariant-loop-placed
 invariant-loop-placed g l = record {
-  lines : l.text.items ≡ l.initial.text.items ++ flat_map (λ placed. cert_line placed.now.cert) (take l.placed-index l.placed-items);
+  lines : l.text ≡ l.initial.text ++ flat_map (λ placed. cert_line placed.now.cert) (take l.placed-index l.placed-items);
   fits : All (λ placed. FitsCert placed.now.cert) (take l.placed-index l.placed-items);
 }

@@ -2,9 +2,12 @@ use Rattle.std.proofs.Common.{◌≡◌, ◌++◌, append-nil, Some, OnOk, optio
 use Rattle.std.specs.FinMap as map
 use Rattle.std.specs.List.{flat_map}
 use Rattle.wot_types.specs.declared.key.Key.{Key}
+use Rattle.wot_types.specs.State.{State}
 use Rattle.wot_types.specs.Levels.{rows_of}
+use Rattle.wot_types.specs.Ownertrust.{ownertrust_of}
 use Rattle.wot_types.specs.Printing.{key_lines, listed_keyblocks}
 use Rattle.wot_levels.proofs.HeadLemmas.{found_key, own_id}
+use Rattle.wot_print.proofs.Walking.{told_of}
 use Rattle.wot_print.proofs.listing.push_key.Goals as goal
 
 pub push_keyblock-requires : goal.push_keyblock-requires
@@ -13,7 +16,13 @@ push_keyblock-requires g c =
     let id = c.args.id in
     let at : option_map (λ (key : Key). (id, key)) (map.get s.keys id) ≡ Some c.in-Some.keyblock =
     sym (ap (λ keys. option_map (λ (key : Key). (id, key)) (map.get keys id)) c.table.ensures) ∙ sym c.in-Some.ensures in
-    record { there = ap (map.get s.keys) (own_id id (map.get s.keys id) c.in-Some.keyblock at) ∙ found_key id (map.get s.keys id) c.in-Some.keyblock at }
+    let same = own_id id (map.get s.keys id) c.in-Some.keyblock at in
+    let there = ap (map.get s.keys) same ∙ found_key id (map.get s.keys id) c.in-Some.keyblock at in
+    let state = c.letters-letters.ensures.state in
+    record {
+      told = told_of c.letters-letters.result s id c.in-Some.keyblock (sym same) there c.letters-letters.ensures.told;
+      kept = c.ownertrust_of-kept.ensures ∙ (λ i. ownertrust_of (c.trusts.ensures i) (c.key.ensures.fpr i)) ∙ ap (λ (t : State). ownertrust_of t.trusts c.in-Some.keyblock.1.fpr) (sym state);
+    }
 
 pub returns-in-Some : goal.returns-in-Some
 returns-in-Some g c =
@@ -24,4 +33,5 @@ returns-in-Some g c =
     let at : option_map (λ (key : Key). (id, key)) (map.get s.keys id) ≡ Some key =
     sym (ap (λ keys. option_map (λ (key : Key). (id, key)) (map.get keys id)) c.table.ensures) ∙ sym c.in-Some.ensures in
     let listed : f key ≡ flat_map f (listed_keyblocks s (Some id)) = sym (append-nil (f key)) ∙ sym (ap (λ o. flat_map f (option_to_list o)) at) in
-    subst (λ l. OnOk c.push_keyblock.result (c.push_keyblock.new.text.items ≡ c.args.text.now.items ++ l)) listed c.push_keyblock.ensures.lines
+    let lines = subst (λ (t : State). OnOk c.push_keyblock.result (c.push_keyblock.new.text ≡ c.args.text.now ++ key_lines t (rows_of t) c.args.sigs key)) c.letters-letters.ensures.state c.push_keyblock.ensures.lines in
+    subst (λ l. OnOk c.push_keyblock.result (c.push_keyblock.new.text ≡ c.args.text.now ++ l)) listed lines

@@ -1,13 +1,16 @@
-use Rattle.std.proofs.Common.{◌≡◌, ℕ, ◌++◌, All, Some, sym, ap, subst, ◌∙◌}
+use Rattle.std.proofs.Common.{◌≡◌, ℕ, ◌++◌, All, Some, sym, ap, subst, ◌∙◌, arith}
 use Rattle.std.specs.FinMap as map
 use Rattle.std.specs.List.{flat_map}
 use Rattle.std.proofs.lemmas.List.Elements.{All-cons, All-head, All-nil, All-tail}
 use Rattle.wot_types.specs.declared.key.Key.{Key}
+use Rattle.wot_types.specs.State.{State}
 use Rattle.wot_types.specs.Keyring.{Keyring}
 use Rattle.wot_types.specs.Levels.{rows_of}
+use Rattle.wot_types.specs.Ownertrust.{ownertrust_of}
 use Rattle.wot_types.specs.Printing.{key_lines}
 use Rattle.wot_print_laws.specs.Fits.{FitsKey}
 use Rattle.wot_print.proofs.Pieces.{none_of_left, one_of_left}
+use Rattle.wot_print.proofs.Walking.{IsRisingFrom, rising_entries, told_of}
 use Rattle.wot_print.proofs.listing.push_keys.Goals as goal
 
 abbrev IsEntryOf : Keyring → ℕ × Key → Type 0
@@ -19,17 +22,32 @@ Fits e = FitsKey e.1
 pub loop-keyblock-init : goal.loop-keyblock-init
 loop-keyblock-init g c =
     let s = c.args.engine.now in
-    let all = c.into_iter-keyblock-iterator.ensures.into_iter_gives ∙ c.walk-keyblock-items.ensures.whole ∙ ap map.entries c.table.ensures in
+    let all = c.into_iter-keyblock-iterator.ensures.into_iter_gives ∙ c.walk-keyblock-items.ensures.whole ∙ ap map.entries c.table-2.ensures in
     record {
-      found = subst (All (IsEntryOf s.keys)) (sym all) (subst (λ keys. All (IsEntryOf keys) (map.entries keys)) c.table.ensures c.walk-keyblock-items.ensures.found);
-      lines = ap (λ es. c.args.text.now.items ++ flat_map (key_lines s (rows_of s) c.args.sigs) es) all;
+      state = c.letter_walk-walk.ensures.state;
+      rising = subst (λ from. IsRisingFrom from c.into_iter-keyblock-iterator.result) (sym c.letter_walk-walk.ensures.from) (subst (IsRisingFrom 0) (sym all) (rising_entries s.keys));
+      found = subst (All (IsEntryOf s.keys)) (sym all) (subst (λ keys. All (IsEntryOf keys) (map.entries keys)) c.table-2.ensures c.walk-keyblock-items.ensures.found);
+      lines = ap (λ es. c.args.text.now ++ flat_map (key_lines s (rows_of s) c.args.sigs) es) all;
       fits = λ sigs h. subst (All Fits) all h;
     }
 
+pub letters-letters-requires : goal.letters-letters-requires
+letters-letters-requires g c =
+    let first = (subst (IsRisingFrom c.loop-keyblock.walk.from) c.in-Some.ensures.steps c.loop-keyblock.invariant.rising).0 in
+    let id = c.id.ensures in
+    record { rising = omega (arith, first, id) }
+
 pub push_keyblock-requires : goal.push_keyblock-requires
 push_keyblock-requires g c =
-    let s = c.args.engine.now in
-    record { there = All-head (IsEntryOf s.keys) c.in-Some.keyblock c.next.new.self (subst (All (IsEntryOf s.keys)) c.in-Some.ensures.steps c.loop-keyblock.invariant.found) }
+    let now = c.loop-keyblock.walk.state in
+    let same = c.loop-keyblock.invariant.state in
+    let key = c.in-Some.keyblock in
+    let there = All-head (IsEntryOf now.keys) key c.next.new.self (subst (All (IsEntryOf now.keys)) c.in-Some.ensures.steps (subst (λ (s : State). All (IsEntryOf s.keys) c.loop-keyblock.keyblock-iterator) (sym same) c.loop-keyblock.invariant.found)) in
+    let state = c.letters-letters.ensures.state ∙ same in
+    record {
+      told = told_of c.letters-letters.result now c.id.result key c.id.ensures there c.letters-letters.ensures.told;
+      kept = c.ownertrust_of-kept.ensures ∙ (λ i. ownertrust_of ((c.in_ok-owners.ensures ∙ c.trusts.ensures) i) (c.key.ensures.fpr i)) ∙ ap (λ (t : State). ownertrust_of t.trusts key.1.fpr) (sym state);
+    }
 
 pub loop-keyblock-preserved : goal.loop-keyblock-preserved
 loop-keyblock-preserved g c =
@@ -38,16 +56,19 @@ loop-keyblock-preserved g c =
     let rest = c.next.new.self in
     let left = c.loop-keyblock.keyblock-iterator in
     let step = c.in-Some.ensures.steps in
+    let told = subst (λ (t : State). c.push_keyblock.new.text ≡ c.loop-keyblock.text ++ key_lines t (rows_of t) c.args.sigs key) (c.letters-letters.ensures.state ∙ c.loop-keyblock.invariant.state) c.in_ok-push_keyblock.ensures.lines in
     record {
+      state = c.letters-letters.ensures.kept ∙ c.loop-keyblock.invariant.state;
+      rising = subst (λ from. IsRisingFrom from rest) (sym (c.letters-letters.ensures.from ∙ c.id.ensures)) (subst (IsRisingFrom c.loop-keyblock.walk.from) step c.loop-keyblock.invariant.rising).1;
       found = All-tail (IsEntryOf s.keys) key rest (subst (All (IsEntryOf s.keys)) step c.loop-keyblock.invariant.found);
-      lines = one_of_left (key_lines s (rows_of s) c.args.sigs) c.loop-keyblock.text.items c.push_keyblock.new.text.items _ key rest left c.in_ok-push_keyblock.ensures.lines step c.loop-keyblock.invariant.lines;
+      lines = one_of_left (key_lines s (rows_of s) c.args.sigs) c.loop-keyblock.text c.push_keyblock.new.text _ key rest left told step c.loop-keyblock.invariant.lines;
       fits = λ sigs h. c.loop-keyblock.invariant.fits sigs (subst (All Fits) (sym step) (All-cons Fits key rest (c.in_ok-push_keyblock.ensures.fits sigs) h));
     }
 
 pub returns-clause-lines : goal.returns-clause-lines
 returns-clause-lines g c =
     let s = c.args.engine.now in
-    none_of_left (key_lines s (rows_of s) c.args.sigs) c.loop-keyblock.text.items _ c.loop-keyblock.keyblock-iterator c.in-None.ensures.steps.0 c.loop-keyblock.invariant.lines
+    none_of_left (key_lines s (rows_of s) c.args.sigs) c.loop-keyblock.text _ c.loop-keyblock.keyblock-iterator c.in-None.ensures.steps.0 c.loop-keyblock.invariant.lines
 
 pub returns-clause-fits : goal.returns-clause-fits
 returns-clause-fits g c = λ sigs.

@@ -31,20 +31,20 @@ returns-clause-lines g c = λ spot at.
     let id = c.args.keyblock.now.0 in
     let key = c.args.keyblock.now.1 in
     let user = c.args.user in
-    let old = c.args.text.now.items in
+    let old = c.args.text.now in
     let letter = user_letter s (rows_of s) id key spot in
     let Tells = λ (head : UserHead). (spot : Spot) → spot_of key user ≡ Some spot → IsUserHead spot.user head in
     let head = if_there Tells c.user_in.result c.user_in.ensures.head c.unwrap-head.result c.unwrap-head.ensures spot at in
     let found = letter_found (user_letter s (rows_of s) id key) (spot_of key user) spot c.unwrap-letter.result at (sym c.letter.ensures ∙ c.unwrap-letter.ensures) in
-    let line : c.push_user.new.text.items ≡ old ++ user_line letter spot.user =
+    let line : c.push_user.new.text ≡ old ++ user_line letter spot.user =
     c.in_ok-push_user.ensures ∙ ap (λ l. old ++ user_line l (shown_user c.unwrap-head.result)) found ∙ ap (λ l. old ++ l) (user_shown letter spot.user c.unwrap-head.result head) in
     let placed = placed_at 0 key.users user spot at in
     elim c.if-sigs.branch [
-      | then-sigs+in_ok-push_certs w ↦ ap (λ t. t.items) w.text-is
-          ∙ with_certs c.args.sigs letter spot.user old c.push_user.new.text.items w.push_certs.new.text.items line w.if-sigs.true
+      | then-sigs+in_ok-push_certs w ↦ w.text-is
+          ∙ with_certs c.args.sigs letter spot.user old c.push_user.new.text w.push_certs.new.text line w.if-sigs.true
           (w.in_ok-push_certs.ensures.lines spot at
-          ∙ ap (λ l. c.push_user.new.text.items ++ l) (ap (flat_map (λ (p : Placed). cert_line p.cert)) (sym placed.1) ∙ placed_lines cert_line placed.0 spot.user.certs))
-      | else-sigs w ↦ ap (λ t. t.items) w.text-is ∙ without_certs c.args.sigs letter spot.user old c.push_user.new.text.items line w.if-sigs.false
+          ∙ ap (λ l. c.push_user.new.text ++ l) (ap (flat_map (λ (p : Placed). cert_line p.cert)) (sym placed.1) ∙ placed_lines cert_line placed.0 spot.user.certs))
+      | else-sigs w ↦ w.text-is ∙ without_certs c.args.sigs letter spot.user old c.push_user.new.text line w.if-sigs.false
     ]
 
 pub returns-clause-fits : goal.returns-clause-fits

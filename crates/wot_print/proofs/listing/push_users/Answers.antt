@@ -30,7 +30,7 @@ loop-user-preserved g c =
     let at = at_place spots i (omega (arith, c.loop-user-test.true, count, many)) in
     let P = λ (spot : Spot). FitsUser spot.user in
     record {
-      lines = one_of_left (user_lines s (rows_of s) c.args.sigs key.0 key.1) c.loop-user.text.items c.push_user_at.new.text.items _ at.0 (drop (i + 1) spots) (drop i spots)
+      lines = one_of_left (user_lines s (rows_of s) c.args.sigs key.0 key.1) c.loop-user.text c.push_user_at.new.text _ at.0 (drop (i + 1) spots) (drop i spots)
           (c.in_ok-push_user_at.ensures.lines at.0 at.1) at.2 c.loop-user.invariant.lines;
       fits = λ sigs rest. c.loop-user.invariant.fits sigs (subst (All P) (sym at.2) (All-cons P at.0 (drop (i + 1) spots) (c.in_ok-push_user_at.ensures.fits at.0 at.1 sigs) rest));
     }
@@ -42,7 +42,7 @@ returns-clause-lines g c =
     let spots = spots_from 0 key.1.users in
     let count = length_spots 0 key.1.users in
     let many = c.requires.all in
-    none_of_left (user_lines s (rows_of s) c.args.sigs key.0 key.1) c.loop-user.text.items _ (drop c.loop-user.user spots)
+    none_of_left (user_lines s (rows_of s) c.args.sigs key.0 key.1) c.loop-user.text _ (drop c.loop-user.user spots)
     (drop_all c.loop-user.user spots (omega (arith, c.loop-user-test.false, count, many))) c.loop-user.invariant.lines
 
 pub returns-clause-fits : goal.returns-clause-fits

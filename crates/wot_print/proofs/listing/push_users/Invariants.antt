@@ -8,7 +8,7 @@ use Rattle.wot_print.proofs.listing.push_users.Given as goal
 
 abbrev pub invariant-loop-user : goal.invariant-loop-user
 invariant-loop-user g l = record {
-  lines : l.text.items ++ flat_map (user_lines l.letters.state (rows_of l.letters.state) l.sigs l.keyblock.0 l.keyblock.1) (drop l.user (spots_from 0 l.keyblock.1.users))
-      ≡ l.initial.text.items ++ flat_map (user_lines l.letters.state (rows_of l.letters.state) l.sigs l.keyblock.0 l.keyblock.1) (spots_from 0 l.keyblock.1.users);
+  lines : l.text ++ flat_map (user_lines l.letters.state (rows_of l.letters.state) l.sigs l.keyblock.0 l.keyblock.1) (drop l.user (spots_from 0 l.keyblock.1.users))
+      ≡ l.initial.text ++ flat_map (user_lines l.letters.state (rows_of l.letters.state) l.sigs l.keyblock.0 l.keyblock.1) (spots_from 0 l.keyblock.1.users);
   fits : IsTrue l.sigs → All (λ (spot : Spot). FitsUser spot.user) (drop l.user (spots_from 0 l.keyblock.1.users)) → All (λ (spot : Spot). FitsUser spot.user) (spots_from 0 l.keyblock.1.users);
 }

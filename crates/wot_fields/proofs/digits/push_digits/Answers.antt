@@ -1,9 +1,9 @@
-use Rattle.std.proofs.Common.{arith, ap, ◌∙◌, ◌++◌, ◌+◌, ◌*◌, slice_index, slice_set}
+use Rattle.std.proofs.Common.{◌≡◌, ℕ, ◌+◌, ◌*◌, List, ◌++◌, OnOk, slice_set, subst, ◌∙◌, arith}
 use Rattle.std.proofs.lemmas.List.{length-set}
 use Rattle.hex.specs.Hex.{upper_digits}
 use Rattle.hex.proofs.Pairs.{encode_step}
 use Rattle.wot_fields.proofs.HexDigits.{digits_written}
-use Rattle.wot_fields.proofs.printed.push_digits.Goals as goal
+use Rattle.wot_fields.proofs.digits.push_digits.Goals as goal
 
 pub loop-at-preserved : goal.loop-at-preserved
 loop-at-preserved c =
@@ -12,10 +12,10 @@ loop-at-preserved c =
     record {
       size = length-set (slice_set c.loop-at.digits (2 * at) _) (2 * at + 1) _ ∙ length-set c.loop-at.digits (2 * at) _ ∙ so_far.size;
       written = encode_step upper_digits c.args.bytes.now c.loop-at.digits at _ _ c.loop-at-test.true (omega (arith, c.loop-at-test.true, c.requires.few, so_far.size))
-          (ap (slice_index upper_digits) c.from.ensures) (ap (slice_index upper_digits) c.from-in-loop-at.ensures) so_far.written;
+          c.upper_digit.ensures c.upper_digit-in-loop-at.ensures so_far.written;
     }
 
 pub returns : goal.returns
 returns c =
     let written = digits_written upper_digits c.args.bytes.now c.loop-at.digits c.loop-at.at (omega (arith, c.loop-at-test.false)) (omega (arith, c.loop-at.auto.at-end)) c.loop-at.invariant.written in
-    c.in_ok-extend_from_slice.ensures.items ∙ ap (λ l. c.args.text.now.items ++ l) written
+    subst (λ (l : List ℕ). OnOk c.push_bytes.result (c.push_bytes.new.self ≡ c.args.text.now ++ l)) written c.push_bytes.ensures
