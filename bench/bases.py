@@ -3,8 +3,8 @@ import os
 import shutil
 import tempfile
 
-from growth import SEED, fingerprint
-from measure import in_turn, megabytes, opened, output, ran, session, shown, table, times
+from growth import SEED, fingerprint, listed_store
+from measure import in_turn, megabytes, middle, opened, output, ran, session, shown, spread, table, times, turns
 
 WORKERS = (1, 4)
 
@@ -72,20 +72,28 @@ def part_compact(bench):
     table(f"`compact` of {bench.keys:,} made keys, {megabytes(os.path.getsize(os.path.join(where, 'wot.1')))}", columns, rows)
 
 
-def part_opening(bench):
-    """Opening what `compact` left, beside opening the same state from the record of its import."""
-    record = imported(bench, "imported", bench.keys)
+def opening_rows(bench, name, record):
+    """Rows: opening what `compact` left, beside opening the same state from its records, and beside a C program that reads the file and makes its sums."""
     base = moved(bench, record, "moved")
+    words = [bench.floor("pages"), "read", os.path.join(base, "wot.1")]
     jobs = [(where, [bench.program, "--workers", str(count)]) for where in (record, base) for count in WORKERS]
-    seconds = in_turn(*(lambda words=words, where=where: opened(words, where) for where, words in jobs))
+    sums, *seconds = turns(lambda: ran(words), *(lambda words=words, where=where: opened(words, where) for where, words in jobs))
     by_record, by_base = seconds[:len(WORKERS)], seconds[len(WORKERS):]
-    rows = [
-        ("from the record of its import", *map(shown, by_record), times(by_record[-1], by_record[0])),
-        ("from the base that `compact` left", *map(shown, by_base), times(by_base[-1], by_base[0])),
-        ("the base beside the record", *(times(one, other) for one, other in zip(by_base, by_record)), ""),
+    return [
+        (name, "reading the base and making its sums, in C", shown(middle(sums)), "", ""),
+        (name, "from the records", *map(shown, map(middle, by_record)), spread(by_record[-1], by_record[0])),
+        (name, "from the base that `compact` left", *map(shown, map(middle, by_base)), spread(by_base[-1], by_base[0])),
+        (name, "the base, times the sums", *(spread(one, sums) for one in by_base), ""),
+        (name, "the base beside the records", *(spread(one, other) for one, other in zip(by_base, by_record)), ""),
     ]
-    columns = ("", *(f"{count} worker{'s' * (count > 1)}" for count in WORKERS), f"{WORKERS[-1]} beside {WORKERS[0]}")
-    table(f"Opening a store of {bench.keys:,} made keys", columns, rows)
+
+
+def part_opening(bench):
+    """Opening a store of made keys, and of keys as gpg prints them, from its records and from its base."""
+    rows = opening_rows(bench, "made keys", imported(bench, "imported", bench.keys))
+    rows += opening_rows(bench, "keys as gpg prints them", listed_store(bench))
+    columns = ("", "", *(f"{count} worker{'s' * (count > 1)}" for count in WORKERS), f"{WORKERS[-1]} beside {WORKERS[0]}")
+    table(f"Opening a store of {bench.keys:,} keys", columns, rows)
 
 
 def part_check(bench):

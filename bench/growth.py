@@ -4,7 +4,7 @@ import os
 import tempfile
 
 import keyrings
-from measure import Failed, in_turn, megabytes, ran, session, shown, table, times
+from measure import Failed, in_turn, megabytes, middle, ran, session, shown, spread, table, times, turns
 
 SIZES = (1_000, 10_000, 100_000)
 SEED, DEEPEST = 7, 4
@@ -54,9 +54,9 @@ def commands(count):
     }
 
 
-def taken(program, lines, turns):
+def taken(program, lines, count):
     """The middle of the seconds that so many of these commands take, one after the other: the first one finds what the last command left in the processor's caches."""
-    return sorted(program.accept(next(lines)) for _ in range(turns))[turns // 2]
+    return sorted(program.accept(next(lines)) for _ in range(count))[count // 2]
 
 
 def deepest(program, count):
@@ -120,8 +120,8 @@ def printing(program, floor, command):
     (_, told), (_, same) = (held.ask(f"{command}\n") for held in (program, floor))
     if told != same:
         raise Failed(f"the program and print.c print different bytes at {command}")
-    least, took = in_turn(lambda: floor.accept(f"{command}\n"), lambda: program.accept(f"{command}\n"))
-    return f"`{command}`", megabytes(len(told)), shown(least), shown(took), times(took, least)
+    least, took = turns(lambda: floor.accept(f"{command}\n"), lambda: program.accept(f"{command}\n"))
+    return f"`{command}`", megabytes(len(told)), shown(middle(least)), shown(middle(took)), spread(took, least)
 
 
 def listed_store(bench):

@@ -2,7 +2,7 @@
 import os
 
 import keyrings
-from measure import in_turn, megabytes, opened, ran, shown, table, times
+from measure import megabytes, middle, opened, ran, shown, spread, table, turns
 
 KEYS = 100_000
 
@@ -19,8 +19,9 @@ def part(bench):
         listing = keyrings.written(bench.path("listing"), key, KEYS)
         recorded = bench.store("recorded", (["import"], listing))
         jobs = (lambda path=listing: ran([cut], path), lambda path=listing: import_of(bench, path), lambda where=recorded: opened([bench.program], where))
-        floor, took, again = in_turn(*jobs, rounds=5)
+        floor, took, again = turns(*jobs)
         size, peak = os.path.getsize(listing), bench.peak(["import"], listing, bench.store("importing"))
-        rows.append((name, megabytes(size), shown(floor), shown(took), times(took, floor), shown(again), megabytes(peak), times(peak, size)))
-    columns = ("listing", "size", "cut alone", "import", "times the cut", "opening its record", "memory at the peak", "times the listing")
+        times_cut, shares = spread(took, floor), spread(again, took)
+        rows.append((name, megabytes(size), *map(shown, map(middle, (floor, took))), times_cut, shown(middle(again)), shares, megabytes(peak), f"{peak / size:.2f}"))
+    columns = ("listing", "size", "cut alone", "import", "times the cut", "opening its record", "times the import", "memory at the peak", "times the listing")
     table(f"Import of {KEYS:,} keys with four certifications each", columns, rows)

@@ -1,7 +1,8 @@
-"""How the program and its floors are timed: in turn, the best of several, and the rows of the tables."""
+"""How the program and its floors are timed: in turn, the best or the middle of several, and the rows of the tables."""
 import contextlib
 import os
 import shutil
+import statistics
 import subprocess
 import sys
 import tempfile
@@ -9,6 +10,7 @@ import time
 
 HERE = os.path.dirname(os.path.abspath(__file__))
 ROUNDS = 3
+TURNS = 9
 
 
 class Failed(Exception):
@@ -74,6 +76,11 @@ def in_turn(*jobs, rounds=ROUNDS):
     """Does each job in its turn, some times over: the least answer of each."""
     answers = [[job() for job in jobs] for _ in range(rounds)]
     return [min(column) for column in zip(*answers)]
+
+
+def turns(*jobs):
+    """Does each job in its turn, many times over: the answers of each, turn by turn."""
+    return list(zip(*([job() for job in jobs] for _ in range(TURNS))))
 
 
 class Session:
@@ -159,3 +166,15 @@ def times(seconds, floor):
     """A ratio, with two digits where it is small."""
     ratio = seconds / floor
     return f"{ratio:.1f}" if ratio >= 1 else f"{ratio:.2g}"
+
+
+def middle(seconds):
+    """The middle of what a job took in its turns."""
+    return statistics.median(seconds)
+
+
+def spread(seconds, floor):
+    """What a job took beside its floor in the same turn: the middle of all turns, and the least and the greatest."""
+    ratios = sorted(took / least for took, least in zip(seconds, floor))
+    middlemost, least, most = (times(ratio, 1) for ratio in (statistics.median(ratios), ratios[0], ratios[-1]))
+    return f"{middlemost} ({least} to {most})"
