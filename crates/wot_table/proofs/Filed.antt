@@ -17,7 +17,7 @@ use Rattle.wot_types.specs.Selection.{Spot}
 use Rattle.wot_index.specs.Indexed.{has_pair}
 use Rattle.wot_table.specs.declared.heading.Heading.{Heading}
 use Rattle.wot_table.specs.declared.heading.Heading.TheVariants.{Issuer, Expiry}
-use Rattle.wot_table.specs.Headings.{AreInRange, IsInRange, certs_under, is_one_of, is_filed_by, is_under, key_under, user_under, users_under}
+use Rattle.wot_table.specs.Headings.{AgreesIfKept, AgreesWith, AreInRange, IsInRange, certs_under, is_one_of, is_filed_by, is_under, key_under, user_under, users_under}
 
 each_of : (a b c : Bool) → (a && (b || c)) ≡ ((a && b) || (a && c))
 each_of true b c = refl
@@ -46,6 +46,11 @@ issuers_again (p ∷ ps) = ap (λ ns. p.cert.issuer ∷ ns) (issuers_again ps)
 expiries_again : (ps : List Placed) → map (λ p. p.cert.expires) ps ≡ map (λ cert. cert.expires) (map (λ p. p.cert) ps)
 expiries_again [] = refl
 expiries_again (p ∷ ps) = ap (λ ns. p.cert.expires ∷ ns) (expiries_again ps)
+
+-- one of these numbers, which are read off some things
+pub is_one_mapped : {X : Type 0} (f : X → ℕ) (n : ℕ) (xs : List X) → list_any (λ x. f x == n) xs ≡ is_one_of n (map f xs)
+is_one_mapped f n [] = refl
+is_one_mapped f n (x ∷ xs) = ap (λ b. (f x == n) || b) (is_one_mapped f n xs)
 
 -- the certifications on a user ID in the order in which they are held
 pub certs_filed : (heading : Heading) (n : ℕ) (ps qs : List Placed) → IsPermutation ps qs
@@ -150,3 +155,14 @@ date_after_put n false gone come old new there = new there
 pub date_after_removal : (n : ℕ) (had gone : Bool) → (had ≡ true → n < 2 ^ 32) → (had && not gone) ≡ true → n < 2 ^ 32
 date_after_removal n true gone old there = old refl
 date_after_removal n false gone old there = cc
+
+-- an index that is kept, where it is kept
+module _ {X : Type 0} (has : X → ℕ → ℕ → Bool) (keys : Keyring) where
+  pub kept_at : (kept : Option X) (x : X) → kept ≡ Some x → AgreesIfKept has kept keys → AgreesWith (has x) Issuer keys
+  kept_at kept x is agrees = subst (λ o. AgreesIfKept has o keys) is agrees
+
+  pub kept_some : (kept : Option X) (x : X) → kept ≡ Some x → AgreesWith (has x) Issuer keys → AgreesIfKept has kept keys
+  kept_some kept x is agrees = subst (λ o. AgreesIfKept has o keys) (sym is) agrees
+
+  pub kept_none : (kept : Option X) → kept ≡ None → AgreesIfKept has kept keys
+  kept_none kept is = subst (λ o. AgreesIfKept has o keys) (sym is) tt

@@ -1,6 +1,6 @@
 //! A table while keys are put.
 
-ghost use Rattle.std.specs.Prelude.{◌≡◌, ℕ, ◌==◌, ◌&&◌, ◌||◌, not, IfOk, OnOk};
+ghost use Rattle.std.specs.Prelude.{◌≡◌, ℕ, ◌==◌, ◌&&◌, ◌||◌, not, IfOk};
 ghost use Rattle.wot_index.specs.Indexed.{drafts, has_pair};
 ghost use Rattle.wot_table.specs.Headings.{is_under};
 ghost use Rattle.wot_types.specs.Keyring.{with_key};
@@ -21,7 +21,8 @@ pub struct Filing {
     pub(crate) alloc: Global,
     pub(crate) keys: BTreeMap<KeyId, Held>,
     pub(crate) sums: Sums,
-    pub(crate) signed: Draft,
+    /// None where no index by issuers is kept.
+    pub(crate) signed: Option<Draft>,
     pub(crate) dated: Draft,
 }
 
@@ -40,7 +41,7 @@ impl Model for Filing {
 
     ghost view = { λ f. map.from_entries f.keys.entries };
 
-    ghost invariant = { λ f. IsIndexed (map.from_entries f.keys.entries) f.sums (drafts f.signed) (drafts f.dated) };
+    ghost invariant = { λ f. IsIndexed (map.from_entries f.keys.entries) f.sums drafts f.signed (drafts f.dated) };
 }
 
 impl Filing {
@@ -53,8 +54,8 @@ impl Filing {
             alloc,
             mut keys,
             sums,
-            mut signed,
-            mut dated,
+            signed,
+            dated,
         } = self;
         let id = key.fpr.key_id();
         let held = Held::hold(alloc, key)?;
@@ -64,8 +65,11 @@ impl Filing {
         let _fewer_than_2_63 = keys.len();
         let more = sums.plus(weight);
         let former = keys.insert(id, held)?;
-        file(alloc, &mut signed, Heading::Issuer, id, &former, issuers)?;
-        file(alloc, &mut dated, Heading::Expiry, id, &former, expiries)?;
+        let signed = match signed {
+            Some(draft) => Some(filed(alloc, draft, Heading::Issuer, id, &former, issuers)?),
+            None => None,
+        };
+        let dated = filed(alloc, dated, Heading::Expiry, id, &former, expiries)?;
         let sums = more.minus(weight_or_none(&former));
         Ok(Filing {
             alloc,
@@ -77,20 +81,22 @@ impl Filing {
     }
 }
 
-/// The former key's pairs, if there was one, give way to the new key's.
-fn file(
+/// The draft in which the former key's pairs, if there was one, gave way to the new key's.
+fn filed(
     alloc: Global,
-    draft: &mut Draft,
+    draft: Draft,
     heading: Heading,
     id: KeyId,
     former: &Option<Held>,
     come: Vec<(u64, KeyId)>,
-) -> Result<(), Mem>
-    requires former { (n : ℕ) → drafts draft.old n id ≡ is_under heading n former.now }
-    ensures { OnOk result ((n k : ℕ) → drafts draft.new n k ≡ ((drafts draft.old n k && not (k == id)) || has_pair n k come.items)) }
+) -> Result<Draft, Mem>
+    requires former { (n : ℕ) → drafts draft n id ≡ is_under heading n former.now }
+    ensures { IfOk result (λ new. (n k : ℕ) → drafts new n k ≡ ((drafts draft n k && not (k == id)) || has_pair n k come.items)) }
 {
+    let mut draft = draft;
     match former {
-        Some(former) => draft.replace(&former.pairs(alloc, heading, id)?, come),
-        None => draft.add(come),
+        Some(former) => draft.replace(&former.pairs(alloc, heading, id)?, come)?,
+        None => draft.add(come)?,
     }
+    Ok(draft)
 }

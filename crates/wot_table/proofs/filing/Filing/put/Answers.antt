@@ -6,18 +6,24 @@ use Rattle.wot_types.specs.Keyring.{id_of}
 use Rattle.wot_types.proofs.Maps.{get_entries, inserted}
 use Rattle.wot_table.specs.declared.heading.Heading.TheVariants.{Issuer, Expiry}
 use Rattle.wot_table.specs.Headings.{is_under}
+use Rattle.wot_index.specs.Indexed.{drafts}
 use Rattle.wot_table.specs.Weights.{HasRoom, IsSummed, minus, plus, sums_of, weight_of, weight_or_none}
-use Rattle.wot_table.proofs.Filed.{date_after_put, filed_put, given_way, number_in_range}
+use Rattle.wot_table.proofs.Filed.{date_after_put, filed_put, given_way, kept_at, kept_none, kept_some, number_in_range}
 use Rattle.wot_table.proofs.Summing.{len_seen, room, summed_with_key}
+use Rattle.wot_table.proofs.filing.Filing.put.Goals.{in-Some+in_ok-filed-in-Some, in-None}
 use Rattle.wot_table.proofs.filing.Filing.put.Goals as goal
 
-pub file-requires : goal.file-requires
-file-requires c = record {
-  former = λ n. c.self.invariant.signed n c.key_id-id.result ∙ ap (is_under Issuer n) (get_entries nat_cmp_total c.self.inside.keys.entries c.key_id-id.result ∙ sym c.in_ok-former.ensures.old);
-}
+pub filed-requires : goal.filed-requires
+filed-requires c =
+    let keys = map.from_entries c.self.inside.keys.entries in
+    record {
+      former = λ n.
+          kept_at drafts keys c.self.inside.signed c.in-Some.draft c.in-Some.is c.self.invariant.signed n c.key_id-id.result
+          ∙ ap (is_under Issuer n) (get_entries nat_cmp_total c.self.inside.keys.entries c.key_id-id.result ∙ sym c.in_ok-former.ensures.old);
+    }
 
-pub file-requires-2 : goal.file-requires-2
-file-requires-2 c = record {
+pub filed-requires-2 : goal.filed-requires-2
+filed-requires-2 c = record {
   former = λ n. c.self.invariant.dated n c.key_id-id.result ∙ ap (is_under Expiry n) (get_entries nat_cmp_total c.self.inside.keys.entries c.key_id-id.result ∙ sym c.in_ok-former.ensures.old);
 }
 
@@ -52,16 +58,20 @@ invariant_of-result c =
           subst (λ s. IsSummed (map.from_entries c.insert.new.self.entries) s) (sym less)
           (subst (λ m. IsSummed m (minus (plus (sums_of c.args.self) (weight_of c.args.key)) (weight_or_none (map.get c.args.self (id_of c.args.key))))) (sym keys)
           (summed_with_key c.args.self c.args.key summed.kept c.requires.well_formed));
-      signed = λ n k.
-          c.in_ok-file.ensures n k
-          ∙ given_way (k == c.key_id-id.result) _ _ _ (c.in_ok-issuers.ensures.exact n k)
-          ∙ filed_put Issuer (map.from_entries filed) c.key_id-id.result c.in_ok-held.held n k _ (c.self.invariant.signed n k)
-          ∙ ap (λ m. is_under Issuer n (map.get m k)) put;
+      signed = elim c.match-signed-5.branch [
+        | in-Some+in_ok-filed-in-Some w ↦
+            kept_some drafts (map.from_entries c.insert.new.self.entries) c.match-signed-5.signed _ w.signed-is (λ n k.
+            w.in_ok-filed-in-Some.ensures n k
+            ∙ given_way (k == c.key_id-id.result) _ _ _ (c.in_ok-issuers.ensures.exact n k)
+            ∙ filed_put Issuer (map.from_entries filed) c.key_id-id.result c.in_ok-held.held n k _ (kept_at drafts (map.from_entries filed) c.self.inside.signed w.in-Some.draft w.in-Some.is c.self.invariant.signed n k)
+            ∙ ap (λ m. is_under Issuer n (map.get m k)) put)
+        | in-None w ↦ kept_none drafts (map.from_entries c.insert.new.self.entries) c.match-signed-5.signed w.signed-is
+      ];
       dated = λ n k.
-          c.in_ok-file-2.ensures n k
+          c.in_ok-dated.ensures n k
           ∙ given_way (k == c.key_id-id.result) _ _ _ (c.in_ok-expiries.ensures.exact n k)
           ∙ filed_put Expiry (map.from_entries filed) c.key_id-id.result c.in_ok-held.held n k _ (c.self.invariant.dated n k)
           ∙ ap (λ m. is_under Expiry n (map.get m k)) put;
       dates = λ n k there.
-          date_after_put n _ _ _ (c.self.invariant.dates n k) (number_in_range Expiry n k c.in_ok-expiries.expiries.items c.in_ok-expiries.ensures.in_range) (sym (c.in_ok-file-2.ensures n k) ∙ there);
+          date_after_put n _ _ _ (c.self.invariant.dates n k) (number_in_range Expiry n k c.in_ok-expiries.expiries.items c.in_ok-expiries.ensures.in_range) (sym (c.in_ok-dated.ensures n k) ∙ there);
     }

@@ -5,6 +5,7 @@ use Rattle.std.specs.FinMap as finmap
 use Rattle.std.specs.FinMap.{nat_cmp-IsAntisymmetric}
 use Rattle.std.proofs.lemmas.Iterator.Adapters.{YieldsList-from_vec, fact_from_collect}
 use Rattle.std.proofs.lemmas.Map.Keys.{sorted_from_strictly_increasing}
+use Rattle.std.proofs.lemmas.Option.{IfSome_then}
 use Rattle.std.proofs.lemmas.Result.{IfOk-at_ok}
 use Rattle.wot_types.specs.Keyring.{id_of}
 use Rattle.wot_types.proofs.Maps.{collected}
@@ -23,11 +24,10 @@ invariant_of-result c =
     let sorted = sorted_from_strictly_increasing (map id_of c.args.keys) c.requires.rising in
     record {
       summed = subst (λ m. IsSummed m c.keys-2.inside.sums) (sym same) c.keys-2.invariant;
-      signed = λ n k.
-          c.in_ok-signed.ensures.exact n k ∙ ap (keys_under Issuer n k) c.as_slice.ensures
-          ∙ filed_alone Issuer n k c.args.keys sorted ∙ ap (λ m. is_under Issuer n (finmap.get m k)) (sym whole);
+      signed = IfSome_then c.args.signed c.requires.signed (λ index stands n k.
+          stands n k ∙ filed_alone Issuer n k c.args.keys sorted ∙ ap (λ m. is_under Issuer n (finmap.get m k)) (sym whole));
       dated = λ n k.
-          c.in_ok-dated.ensures.exact n k ∙ ap (keys_under Expiry n k) c.as_slice-2.ensures
+          c.in_ok-dated.ensures.exact n k ∙ ap (keys_under Expiry n k) c.as_slice.ensures
           ∙ filed_alone Expiry n k c.args.keys sorted ∙ ap (λ m. is_under Expiry n (finmap.get m k)) (sym whole);
       dates = c.in_ok-dated.ensures.in_range;
     }
