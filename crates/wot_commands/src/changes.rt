@@ -6,7 +6,7 @@ ghost use Rattle.wot_types.specs.Payload.{IsProper};
 ghost use Rattle.wot_types.specs.Touched.{IsWithinTouched};
 ghost use Rattle.wot_types.specs.Named.{named_by};
 
-use crate::plain_edit::PlainEdit;
+use crate::plain_edit::plain_edit;
 use std::marker::Brand;
 use std::sync::ledger::{Blank, Ledger};
 use wot_live::{Engine, Parts};
@@ -39,13 +39,8 @@ pub fn apply<L: Ledger>(engine: Engine, edit: Edit, steps: &mut Steps<L>) -> Res
     ensures state { IfOk result (λ new. new ≡ state_after engine edit) }
     ensures ticks { IsWithinTouched (named_by engine edit) engine (state_after engine edit) steps.old steps.new }
 {
-    let plain = PlainEdit::of(engine.table().alloc(), engine.trusts(), edit)?;
-    match plain {
-        PlainEdit::Put(keys, entries) => engine.put(keys, entries, steps),
-        PlainEdit::Remove(id) => engine.remove(id, steps),
-        PlainEdit::SetDate(date) => engine.set_date(date, steps),
-        PlainEdit::SetOptions(options) => engine.set_options(options, steps),
-    }
+    let plain = plain_edit(engine.table().alloc(), engine.trusts(), edit)?;
+    engine.make(plain, steps)
 }
 
 /// Makes an edit that isn't refused, for several that are counted once. At Memory the parts are gone.
@@ -54,11 +49,6 @@ pub fn edited_parts(parts: Parts, edit: Edit) -> Result<Parts, Mem>
     requires allowed { refusal_of parts edit ≡ None }
     ensures { IfOk result (λ new. new ≡ state_after parts edit) }
 {
-    let plain = PlainEdit::of(parts.table().alloc(), parts.trusts(), edit)?;
-    match plain {
-        PlainEdit::Put(keys, entries) => parts.put(keys, entries),
-        PlainEdit::Remove(id) => parts.remove(id),
-        PlainEdit::SetDate(date) => parts.set_date(date),
-        PlainEdit::SetOptions(options) => parts.set_options(options),
-    }
+    let plain = plain_edit(parts.table().alloc(), parts.trusts(), edit)?;
+    parts.make(plain)
 }

@@ -26,10 +26,13 @@ use Rattle.wot_types.proofs.LevelLemmas.{level_le}
 use Rattle.wot_types.proofs.Tests.{same_key}
 use Rattle.wot_types.specs.Payload.{IsInRange}
 use Rattle.wot_levels.specs.Frontier.{weight}
+use Rattle.wot_live.specs.declared.plain_edit.PlainEdit.{PlainEdit}
+use Rattle.wot_live.specs.declared.plain_edit.PlainEdit.TheVariants.{Put, Remove, SetDate, SetOptions}
 use Rattle.wot_live.specs.declared.todo.Named.{Named}
 use Rattle.wot_live.specs.declared.todo.Todo.{Todo}
 use Rattle.wot_live.specs.declared.todo.Todo.TheVariants.{All, Named as Listed}
 use Rattle.wot_live.specs.Follows.{Follows, IsDue, IsDueSince, IsListedSince, no_keys, with_named}
+use Rattle.wot_live.specs.PlainEdit.{IsAllowed, after_plain}
 use Rattle.wot_live.specs.Recounting.{IsAlike, IsBegun, IsTouchedList, among}
 use Rattle.wot_live.proofs.Rounds.{once_more}
 use Rattle.wot_live.proofs.Stages.{IsLow}
@@ -176,6 +179,13 @@ due_after more due is ranges since = record {
   ranges = subst (λ (w : State). IsInRange w.options) (sym is) ranges;
   since = (due.since.0, with_named due.since.1 more, since due.since.0 due.since.1 due.since.2);
 }
+
+-- an edit that may be made leaves the options in their ranges
+pub ranges_after : (s : State) (edit : PlainEdit) → IsInRange s.options → IsAllowed s edit → IsInRange (after_plain s edit).options
+ranges_after s (Put keys entries) ranges allowed = ranges
+ranges_after s (Remove id) ranges allowed = ranges
+ranges_after s (SetDate date) ranges allowed = ranges
+ranges_after s (SetOptions options) ranges allowed = allowed
 
 -- ---- levels and bounds
 

@@ -12,7 +12,7 @@ use wot_table::LentState;
 use wot_types::{Mem, Rows, Steps};
 
 /// Key by key in rising order, without look-ups.
-fn counts_by_walk<L: Ledger>(
+pub fn counts_by_walk<L: Ledger>(
     state: &LentState<'_>,
     rows: &Rows,
     steps: &mut Steps<L>,

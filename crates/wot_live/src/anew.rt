@@ -5,6 +5,7 @@ ghost use Rattle.wot_types.specs.Keyring.{cert_total};
 ghost use Rattle.wot_types.specs.Payload.{IsInRange};
 ghost use Rattle.wot_levels.specs.Given.{state_of};
 
+use crate::all_counts::all_counts;
 use crate::engine::Engine;
 use std::sync::ledger::Ledger;
 use wot_levels::rows;
@@ -23,7 +24,21 @@ pub fn count_anew<L: Ledger>(
     ensures state { IfOk result (λ new. new ≡ state_of table trusts date options) }
     ensures ticks { steps.new ≤ steps.old + (options.depth + 1) * cert_total table }
 {
+    // Without ownertrust nobody introduces, and no key is asked whom it certified.
+    let table = if trusts.len() == 0 {
+        table
+    } else {
+        table.indexed()?
+    };
     let state = LentState::of(&table, &trusts, date, &options);
     let rows = rows(&state, steps)?;
-    Engine::from_parts(table, trusts, date, options, rows, steps)
+    let counts = all_counts(&state, &rows, steps)?;
+    Ok(Engine {
+        table,
+        trusts,
+        date,
+        options,
+        rows,
+        counts,
+    })
 }

@@ -9,15 +9,18 @@ ghost use Rattle.wot_types.specs.State.{State};
 ghost use Rattle.wot_types.specs.Touched.{certs_on, is_touched, named_by_date, named_by_options, named_by_put, named_by_remove};
 ghost use Rattle.wot_types.specs.WellFormed.{IsWellFormed};
 ghost use Rattle.wot_live.specs.Follows.{IsDue, IsDueSince, uncounted_state, with_named};
+ghost use Rattle.wot_live.specs.PlainEdit.{IsAllowed, after_plain, named_by_plain};
 
 use crate::anew::count_anew;
 use crate::engine::Engine;
+use crate::plain_edit::PlainEdit;
 use crate::recount::recount;
 use crate::recounting::{Recount, recount_levels};
 use crate::todo::{Named, Todo};
+use crate::worklist::Worklist;
 use std::sync::ledger::Ledger;
 use wot_table::{LentState, Table};
-use wot_types::{Entries, KeyId, Keys, Mem, Options, Steps, Trusts};
+use wot_types::{Entries, KeyId, Keys, Mem, Options, Rows, Steps, Trusts};
 
 /// The state that some edits led to, and what they left to be counted.
 #[derive(Drop)]
@@ -31,6 +34,21 @@ pub struct Uncounted {
 }
 
 impl Uncounted {
+    /// Makes an edit.
+    pub fn make(self, edit: PlainEdit) -> Result<Uncounted, Mem>
+        requires allowed { IsAllowed (uncounted_state self) edit }
+        ensures state { IfOk result (λ new. uncounted_state new ≡ after_plain (uncounted_state self) edit) }
+        ensures since { (s : State) (names : KeySet) → IsDueSince s names (uncounted_state self) self.todo
+            → IfOk result (λ new. IsDueSince s (with_named names (named_by_plain (uncounted_state self) edit)) (uncounted_state new) new.todo) }
+    {
+        match edit {
+            PlainEdit::Put(keys, entries) => self.put(keys, entries),
+            PlainEdit::Remove(id) => self.remove(id),
+            PlainEdit::SetDate(date) => self.set_date(date),
+            PlainEdit::SetOptions(options) => Ok(self.set_options(options)),
+        }
+    }
+
     /// Adds or replaces keys, and sets entries, each in turn.
     pub fn put(self, keys: Keys, entries: Entries) -> Result<Uncounted, Mem>
         requires well_formed { All IsWellFormed keys }
@@ -112,6 +130,7 @@ impl Uncounted {
         if list.is_whole(&table) {
             return count_anew(table, trusts, date, options, steps);
         }
+        let table = recounted_table(table, &trusts, &rows, &list)?;
         let state = LentState::of(&table, &trusts, date, &options);
         let found = Recount { rows, todo: list };
         let found = recount_levels(&state, found, steps)?;
@@ -126,4 +145,20 @@ impl Uncounted {
             counts,
         })
     }
+}
+
+/// The table for a recount of listed keys, with its index by issuers, by which a key whose row changes tells whom it certified. It is not
+/// made where no row changes: where no key is listed, and where nobody introduced and nobody does.
+fn recounted_table(
+    table: Table,
+    trusts: &Trusts,
+    rows: &Rows,
+    list: &Worklist,
+) -> Result<Table, Mem>
+    ensures { IfOk result (λ new. new ≡ table) }
+{
+    if list.len() == 0 || (rows.len() == 0 && trusts.len() == 0) {
+        return Ok(table);
+    }
+    table.indexed()
 }

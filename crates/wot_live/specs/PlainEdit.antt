@@ -8,8 +8,8 @@ use Rattle.wot_types.specs.Payload.{IsInRange}
 use Rattle.wot_types.specs.State.{State}
 use Rattle.wot_types.specs.Touched.{named_by_date, named_by_options, named_by_put, named_by_remove}
 use Rattle.wot_types.specs.WellFormed.{IsWellFormed}
-use Rattle.wot_commands.specs.declared.plain_edit.PlainEdit.{PlainEdit}
-use Rattle.wot_commands.specs.declared.plain_edit.PlainEdit.TheVariants.{Put, Remove, SetDate, SetOptions}
+use Rattle.wot_live.specs.declared.plain_edit.PlainEdit.{PlainEdit}
+use Rattle.wot_live.specs.declared.plain_edit.PlainEdit.TheVariants.{Put, Remove, SetDate, SetOptions}
 
 -- the state after it
 abbrev pub after_plain : State → PlainEdit → State
