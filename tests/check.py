@@ -104,7 +104,7 @@ def usages():
 
 def threads():
     """Four workers are three threads beside the first for the seals and three for the rows where a store is opened, and at `check` three more for the rows,
-    which have one level here, and three for the letters; one worker is none.
+    which have one level here, and three for the letters; where a session begins, three for its index. One worker is none.
     """
     if not shutil.which("strace"):
         print("check: threads: skipped: no strace")
@@ -112,16 +112,16 @@ def threads():
     with folder() as where, tempfile.NamedTemporaryFile() as log:
         run("sample 7 700\noptions pgp 1 3 1 2\ncompact\n", where=where)
         started = []
-        for workers, words in ((1, ["check"]), (4, ["check"]), (1, ["export"]), (4, ["export"])):
+        for workers, words in ((1, ["check"]), (4, ["check"]), (1, ["export"]), (4, ["export"]), (1, []), (4, [])):
             traced = ["strace", "-f", "-o", log.name, "-e", "trace=clone,clone3", PROGRAM, "--workers", str(workers), *words]
-            done = subprocess.run(traced, capture_output=True, cwd=where, timeout=120, check=False)
+            done = subprocess.run(traced, input=b"export\n", capture_output=True, cwd=where, timeout=120, check=False)
             if done.returncode:
                 print(f"check: threads: skipped: no run under strace: {done.returncode}")
                 return
             with open(log.name, encoding="utf-8", errors="replace") as file:
                 # each line begins with the number of its thread, and each thread has one where it ends
                 started.append(len({line.split()[0] for line in file}) - 1)
-        yield "threads of check and of export, by one worker and by four", started, [0, 12, 0, 6]
+        yield "threads of check, of export and of a session, by one worker and by four", started, [0, 12, 0, 6, 0, 9]
 
 
 def no_threads():

@@ -16,7 +16,7 @@ pub fn image_of(alloc: Global, stored: Stored) -> Result<Image, Mem>
     ensures { IfOk result (λ image. IsMadeOf stored image) }
 {
     Ok(Image {
-        table: Table::new(alloc)?.put_all(stored.keys)?,
+        table: Table::unindexed(alloc).put_all(stored.keys)?,
         trusts: Trusts::new(alloc).set_all(stored.entries)?,
         date: stored.date,
         options: stored.options,

@@ -1,6 +1,6 @@
 //! A run over its opened store: a session over the input, or one command.
 
-ghost use Rattle.std.specs.Prelude.{◌≡◌, ◌≤◌, IfOk, IfErr};
+ghost use Rattle.std.specs.Prelude.{◌≡◌, ◌≤◌, [], IfOk, IfErr};
 ghost use Rattle.wot_types.specs.Store.{Store};
 ghost use Rattle.wot_site.specs.Seen.{Honestly};
 ghost use Rattle.wot_session.specs.Here.{Holds, IsOpened};
@@ -37,10 +37,7 @@ pub fn run_opened<R: Threads + Sync, S: Site, G: Gate + Sync>(
     ensures cause { HasStopCause (S.faults site.old) (S.faults site.new) result }
 {
     if words.as_slice().is_empty() {
-        let mut session = Session::new(alloc, opened, Division::Between);
-        let ended = run_session(workers, &mut session, site, most);
-        leave(session);
-        return ended;
+        return run_lines(workers, alloc, opened, site, most);
     }
     if !has_block(words) {
         let mut session = Session::new(alloc, opened, Division::Between);
@@ -61,6 +58,31 @@ pub fn run_opened<R: Threads + Sync, S: Site, G: Gate + Sync>(
         Err(Mem::Memory) => return Err(Stop::Memory),
     };
     let mut session = Session::new(alloc, opened, Division::Within(block));
+    let ended = run_session(workers, &mut session, site, most);
+    leave(session);
+    ended
+}
+
+/// Runs a session over the input. The index that its edits use is made first, so that none of them has to.
+fn run_lines<R: Threads + Sync, S: Site, G: Gate + Sync>(
+    workers: &Workers<'_, R, G>,
+    alloc: Global,
+    opened: Opened,
+    site: &mut S,
+    most: u64,
+) -> Result<bool, Stop>
+    requires opened { (store : Store) × IsOpened opened store × Holds opened.place (S.seen site.old) store }
+    ensures ended { IfOk result (λ refused. (store : Store) → IsOpened opened store → Holds opened.place (S.seen site.old) store
+        → Honestly (S.seen site.old) (S.seen site.new) (WordsEnded store [] most refused)) }
+    ensures stopped { IfErr result (λ stop. (store : Store) → IsOpened opened store → Holds opened.place (S.seen site.old) store
+        → Honestly (S.seen site.old) (S.seen site.new) (WordsStopped store [] most stop)) }
+    ensures cause { HasStopCause (S.faults site.old) (S.faults site.new) result }
+{
+    let indexed = match opened.indexed(workers) {
+        Ok(indexed) => indexed,
+        Err(Mem::Memory) => return Err(Stop::Memory),
+    };
+    let mut session = Session::new(alloc, indexed, Division::Between);
     let ended = run_session(workers, &mut session, site, most);
     leave(session);
     ended

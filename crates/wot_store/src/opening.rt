@@ -34,6 +34,20 @@ pub struct Opened {
     pub place: Place,
 }
 
+impl Opened {
+    /// The same, with the index by issuers, which these workers make: where edits are to come, none of them has to.
+    pub fn indexed<R: Threads + Sync, G: Gate + Sync>(
+        self,
+        workers: &Workers<'_, R, G>,
+    ) -> Result<Opened, Mem>
+        ensures engine { IfOk result (λ new. new.engine ≡ self.engine) }
+        ensures place { IfOk result (λ new. new.place ≡ self.place) }
+    {
+        let engine = self.engine.indexed(workers)?;
+        Ok(Opened { engine, ..self })
+    }
+}
+
 /// How many bytes each side has.
 #[derive(Clone, Copy, Debug, PartialEq, Eq)]
 pub struct Sizes {
