@@ -4,5 +4,5 @@ pub mod Spots
 pub mod Pieces
 pub mod Explaining
 pub mod Counting
-pub mod OwnerLemmas
+pub mod EntriesById
 pub mod Walking

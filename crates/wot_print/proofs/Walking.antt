@@ -1,11 +1,14 @@
--- A walk over keys, and what tells the letters of each.
-use Rattle.std.proofs.Common.{◌≡◌, ◌≤◌, ℕ, T, List, [], ◌∷◌, Some, ap, subst, ◌∙◌, arith}
+-- A walk over keys, and what tells the letters and the ownertrust of each.
+use Rattle.std.proofs.Common.{◌≡◌, ◌≤◌, ℕ, T, All, List, [], ◌∷◌, Some, ap, subst, ◌∙◌, arith}
 use Rattle.std.specs.FinMap as map
 use Rattle.std.specs.FinMap.{FinMap, entries_sorted, is_sorted}
 use Rattle.std.specs.FinMap.Entries.{below_all}
 use Rattle.std.specs.Ordering.{is_lt, nat_cmp}
 use Rattle.std.proofs.lemmas.Bool.Decides.{nat_tests}
+use Rattle.std.proofs.lemmas.List.Elements.{All-head}
 use Rattle.wot_types.specs.declared.key.Key.{Key}
+use Rattle.wot_types.specs.Accepted.{IsFiled}
+use Rattle.wot_types.specs.Fingerprint.{key_id_of}
 use Rattle.wot_types.specs.State.{State}
 use Rattle.wot_types.proofs.Tests.{first_part, second_part}
 use Rattle.wot_live.specs.declared.letters.Letters.{Letters}
@@ -30,6 +33,10 @@ module _ {X : Type 0} where
 
   pub rising_entries : (m : FinMap nat_cmp X) → IsRisingFrom 0 (map.entries m)
   rising_entries m = rising_all (map.entries m) (entries_sorted m)
+
+-- the first of the keys that are left has the key ID of its fingerprint
+pub own_id : (fpr : List ℕ) (k : ℕ × Key) (rest left : List (ℕ × Key)) → fpr ≡ k.1.fpr → left ≡ k ∷ rest → All IsFiled left → key_id_of fpr ≡ k.0
+own_id fpr k rest left same step filed = ap key_id_of same ∙ (All-head IsFiled k rest (subst (All IsFiled) step filed)).own_id
 
 -- what tells the letters of the keys of a state by their IDs, for one of its keys
 pub told_of : (letters : Letters) (s : State) (id : ℕ) (k : ℕ × Key) → id ≡ k.0 → map.get s.keys k.0 ≡ Some k.1 → ((key : Key) → map.get s.keys id ≡ Some key → AreOfKey letters (id, key)) → AreOfKey letters k

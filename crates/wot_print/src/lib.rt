@@ -8,8 +8,8 @@ mod fields; // fields at the end of a line
 mod fits; // the ranges of what is printed
 mod listing; // the keyring, or one key of it
 mod names; // the words that stand for values
-mod owners; // the ownertrust of many keys
 mod ownertrust; // the ownertrust export
+mod ownertrust_walk; // the ownertrust of fingerprints whose key IDs rise
 mod records; // the lines of a listing
 mod refusals; // the line of a refused command
 mod workers; // the same counts by several workers

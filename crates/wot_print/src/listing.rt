@@ -16,7 +16,7 @@ ghost use Rattle.wot_live.specs.KeyLetters.{AreOfKey};
 ghost use Rattle.wot_print_laws.specs.ListingLines.{listing_lines};
 
 use crate::fits::{cert_fits, key_fits, state_fits, user_fits};
-use crate::owners::Owners;
+use crate::ownertrust_walk::OwnertrustWalk;
 use crate::records::{push_cert, push_fpr, push_pub, push_tru, push_user};
 use std::alloc::Global;
 use std::marker::Brand;
@@ -93,10 +93,10 @@ fn push_keys<L: Ledger>(
     ensures lines { OnOk result (text.new ≡ text.old ++ flat_map (key_lines engine.now (rows_of engine.now) sigs) (listed_keyblocks engine.now None)) }
     ensures fits { IsTrue sigs → OnOk result (All (λ e. FitsKey e.1) (map.entries engine.now.keys)) }
 {
-    let owners = Owners::of(engine.table().alloc(), engine.trusts())?;
+    let mut trusts = OwnertrustWalk::of(engine.table().alloc(), engine.trusts())?;
     let mut walk = engine.letter_walk();
     for keyblock in engine.table().walk() {
-        let kept = owners.ownertrust_of(keyblock.key().fpr);
+        let kept = trusts.ownertrust_of(keyblock.key().fpr);
         let letters = walk.letters(keyblock.id());
         push_keyblock(text, &letters, &keyblock, kept, sigs, steps)?;
     }

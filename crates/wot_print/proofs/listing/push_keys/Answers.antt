@@ -5,12 +5,13 @@ use Rattle.std.proofs.lemmas.List.Elements.{All-cons, All-head, All-nil, All-tai
 use Rattle.wot_types.specs.declared.key.Key.{Key}
 use Rattle.wot_types.specs.State.{State}
 use Rattle.wot_types.specs.Keyring.{Keyring}
+use Rattle.wot_types.specs.Accepted.{IsFiled}
 use Rattle.wot_types.specs.Levels.{rows_of}
 use Rattle.wot_types.specs.Ownertrust.{ownertrust_of}
 use Rattle.wot_types.specs.Printing.{key_lines}
 use Rattle.wot_print_laws.specs.Fits.{FitsKey}
 use Rattle.wot_print.proofs.Pieces.{none_of_left, one_of_left}
-use Rattle.wot_print.proofs.Walking.{IsRisingFrom, rising_entries, told_of}
+use Rattle.wot_print.proofs.Walking.{IsRisingFrom, own_id, rising_entries, told_of}
 use Rattle.wot_print.proofs.listing.push_keys.Goals as goal
 
 abbrev IsEntryOf : Keyring → ℕ × Key → Type 0
@@ -25,11 +26,22 @@ loop-keyblock-init g c =
     let all = c.into_iter-keyblock-iterator.ensures.into_iter_gives ∙ c.walk-keyblock-items.ensures.whole ∙ ap map.entries c.table-2.ensures in
     record {
       state = c.letter_walk-walk.ensures.state;
+      trusts = c.in_ok-trusts.ensures.trusts ∙ c.trusts.ensures;
+      beside = c.in_ok-trusts.ensures.from ∙ sym c.letter_walk-walk.ensures.from;
       rising = subst (λ from. IsRisingFrom from c.into_iter-keyblock-iterator.result) (sym c.letter_walk-walk.ensures.from) (subst (IsRisingFrom 0) (sym all) (rising_entries s.keys));
       found = subst (All (IsEntryOf s.keys)) (sym all) (subst (λ keys. All (IsEntryOf keys) (map.entries keys)) c.table-2.ensures c.walk-keyblock-items.ensures.found);
+      filed = subst (All IsFiled) (sym all) (subst (λ (keys : Keyring). All IsFiled (map.entries keys)) c.table-2.ensures c.walk-keyblock-items.ensures.kept);
       lines = ap (λ es. c.args.text.now ++ flat_map (key_lines s (rows_of s) c.args.sigs) es) all;
       fits = λ sigs h. subst (All Fits) all h;
     }
+
+pub ownertrust_of-kept-requires : goal.ownertrust_of-kept-requires
+ownertrust_of-kept-requires g c =
+    let step = c.in-Some.ensures.steps in
+    let first = (subst (IsRisingFrom c.loop-keyblock.walk.from) step c.loop-keyblock.invariant.rising).0 in
+    let own = own_id c.key.result.fpr.now c.in-Some.keyblock c.next.new.self c.loop-keyblock.keyblock-iterator c.key.ensures.fpr step c.loop-keyblock.invariant.filed in
+    let beside = c.loop-keyblock.invariant.beside in
+    record { rising = omega (arith, first, own, beside) }
 
 pub letters-letters-requires : goal.letters-letters-requires
 letters-letters-requires g c =
@@ -46,7 +58,7 @@ push_keyblock-requires g c =
     let state = c.letters-letters.ensures.state ∙ same in
     record {
       told = told_of c.letters-letters.result now c.id.result key c.id.ensures there c.letters-letters.ensures.told;
-      kept = c.ownertrust_of-kept.ensures ∙ (λ i. ownertrust_of ((c.in_ok-owners.ensures ∙ c.trusts.ensures) i) (c.key.ensures.fpr i)) ∙ ap (λ (t : State). ownertrust_of t.trusts key.1.fpr) (sym state);
+      kept = c.ownertrust_of-kept.ensures.kept ∙ (λ i. ownertrust_of (c.loop-keyblock.invariant.trusts i) (c.key.ensures.fpr i)) ∙ ap (λ (t : State). ownertrust_of t.trusts key.1.fpr) (sym state);
     }
 
 pub loop-keyblock-preserved : goal.loop-keyblock-preserved
@@ -59,8 +71,11 @@ loop-keyblock-preserved g c =
     let told = subst (λ (t : State). c.push_keyblock.new.text ≡ c.loop-keyblock.text ++ key_lines t (rows_of t) c.args.sigs key) (c.letters-letters.ensures.state ∙ c.loop-keyblock.invariant.state) c.in_ok-push_keyblock.ensures.lines in
     record {
       state = c.letters-letters.ensures.kept ∙ c.loop-keyblock.invariant.state;
+      trusts = c.ownertrust_of-kept.ensures.trusts ∙ c.loop-keyblock.invariant.trusts;
+      beside = c.ownertrust_of-kept.ensures.from ∙ own_id c.key.result.fpr.now key rest left c.key.ensures.fpr step c.loop-keyblock.invariant.filed ∙ sym (c.letters-letters.ensures.from ∙ c.id.ensures);
       rising = subst (λ from. IsRisingFrom from rest) (sym (c.letters-letters.ensures.from ∙ c.id.ensures)) (subst (IsRisingFrom c.loop-keyblock.walk.from) step c.loop-keyblock.invariant.rising).1;
       found = All-tail (IsEntryOf s.keys) key rest (subst (All (IsEntryOf s.keys)) step c.loop-keyblock.invariant.found);
+      filed = All-tail IsFiled key rest (subst (All IsFiled) step c.loop-keyblock.invariant.filed);
       lines = one_of_left (key_lines s (rows_of s) c.args.sigs) c.loop-keyblock.text c.push_keyblock.new.text _ key rest left told step c.loop-keyblock.invariant.lines;
       fits = λ sigs h. c.loop-keyblock.invariant.fits sigs (subst (All Fits) (sym step) (All-cons Fits key rest (c.in_ok-push_keyblock.ensures.fits sigs) h));
     }

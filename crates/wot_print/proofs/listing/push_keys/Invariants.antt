@@ -2,6 +2,7 @@ use Rattle.std.proofs.Common.{◌≡◌, ℕ, ◌++◌, All, IsTrue, Some}
 use Rattle.std.specs.FinMap as map
 use Rattle.std.specs.List.{flat_map}
 use Rattle.wot_types.specs.declared.key.Key.{Key}
+use Rattle.wot_types.specs.Accepted.{IsFiled}
 use Rattle.wot_types.specs.Levels.{rows_of}
 use Rattle.wot_types.specs.Printing.{key_lines}
 use Rattle.wot_print_laws.specs.Fits.{FitsKey}
@@ -11,8 +12,11 @@ use Rattle.wot_print.proofs.listing.push_keys.Given as goal
 abbrev pub invariant-loop-keyblock : goal.invariant-loop-keyblock
 invariant-loop-keyblock g l = record {
   state : l.walk.state ≡ l.engine;
+  trusts : l.trusts.trusts ≡ l.engine.trusts;
+  beside : l.trusts.from ≡ l.walk.from;
   rising : IsRisingFrom l.walk.from l.keyblock-iterator;
   found : All (λ (e : ℕ × Key). map.get l.engine.keys e.0 ≡ Some e.1) l.keyblock-iterator;
+  filed : All IsFiled l.keyblock-iterator;
   lines : l.text ++ flat_map (key_lines l.engine (rows_of l.engine) l.sigs) l.keyblock-iterator
       ≡ l.initial.text ++ flat_map (key_lines l.engine (rows_of l.engine) l.sigs) (map.entries l.engine.keys);
   fits : IsTrue l.sigs → All (λ (e : ℕ × Key). FitsKey e.1) l.keyblock-iterator → All (λ (e : ℕ × Key). FitsKey e.1) (map.entries l.engine.keys);

@@ -1,22 +1,21 @@
--- Ownertrust found by key IDs.
-use Rattle.std.proofs.Common.{◌≡◌, ℕ, ◌<◌, ◌≤◌, T, cond, List, [], ◌∷◌, All, IfSome, Option, Some, None, Err, get_or, map, unwrap_or, refl, sym, ap, ◌∙◌, arith}
-use Rattle.std.specs.Cmp.{IsTotalOrder, nat_cmp_total, ranked, tied_itself}
+-- Ownertrust that is walked in the order of key IDs.
+use Rattle.std.proofs.Common.{◌≡◌, ℕ, ◌<◌, ◌≤◌, T, cond, List, [], ◌∷◌, All, IfSome, Option, Some, None, length, map, unwrap_or, refl, sym, ap, ◌∙◌, arith}
+use Rattle.std.specs.Cmp.{IsTotalOrder, tied_itself}
 use Rattle.std.specs.FinMap.{FinMap, entries, entries_sorted, find, get, get-entries, is_sorted}
 use Rattle.std.specs.FinMap.Entries.{below_all}
-use Rattle.std.specs.List.Sorted.{IsBinarySearchResult, IsPartitionPoint}
-use Rattle.std.specs.Ordering.{is_eq, nat_cmp, ordering_reverse}
+use Rattle.std.specs.List.{HoldsAt}
+use Rattle.std.specs.Ordering.{is_eq, ordering_reverse}
 use Rattle.std.specs.declared.cmp.Ordering.{Ordering}
-use Rattle.std.specs.declared.cmp.Ordering.TheVariants.{Less, Greater}
 use Rattle.std.proofs.lemmas.List.Elements.{All-cons, All-head, All-map, All-nil, All-tail, All-weaker}
-use Rattle.std.proofs.lemmas.List.Sorted.{All-permutation, IsPermutation-sym, searchable_from_sorted}
+use Rattle.std.proofs.lemmas.List.Sorted.{All-permutation, IsNonDecreasingBy-from_sort, IsPermutation-sym}
 use Rattle.wot_types.specs.declared.ownertrust.Ownertrust.{Ownertrust}
 use Rattle.wot_types.specs.Fingerprint.{key_id_of}
 use Rattle.wot_types.specs.Ownertrust.{OwnertrustMap, ownertrust_of, unset}
 use Rattle.wot_types.proofs.FinMaps.{IfSome-get}
 use Rattle.wot_types.proofs.Fingerprints.{fpr_cmp_total, fpr_cmp-IsAntisymmetric}
 use Rattle.wot_types.proofs.Tests.{first_part, less_from, second_part}
-use Rattle.wot_print.specs.declared.owners.Owner.{Owner}
-use Rattle.wot_print.specs.Owners.{AreOwners, by_id, seen}
+use Rattle.wot_print.specs.declared.ownertrust_walk.EntryById.{EntryById}
+use Rattle.wot_print.specs.OwnertrustWalk.{AreWalked, by_id, seen}
 
 module _ {K X : Type 0} {R : K → K → Ordering} (o : IsTotalOrder R) where
   abbrev IsFound : List (K × X) → K × X → Type 0
@@ -45,33 +44,34 @@ all_seen_of : {X Y : Type 0} (P : Y → Type 0) (f : X → Y) (xs : List X) → 
 all_seen_of P f [] h = All-nil (λ x. P (f x))
 all_seen_of P f (x ∷ xs) h = All-cons (λ x. P (f x)) x xs (All-head P (f x) (map f xs) h) (all_seen_of P f xs (All-tail P (f x) (map f xs) h))
 
-module _ (trusts : OwnertrustMap) (owners : List Owner) (are : AreOwners trusts owners) where
+module _ (trusts : OwnertrustMap) (from : ℕ) (held : List EntryById) (passed : ℕ) (are : AreWalked trusts from held passed) where
   abbrev IsKept : ℕ × List ℕ × Ownertrust → Type 0
   IsKept t = get trusts t.1 ≡ Some t.2
 
   -- each is kept
-  pub owners_kept : All (λ owner. get trusts owner.fpr.now ≡ Some owner.kept) owners
-  owners_kept = all_seen_of IsKept seen owners (All-permutation IsKept _ _ are.whole (All-map IsKept by_id (entries trusts) (entries_found fpr_cmp_total trusts)))
+  pub each_kept : All (λ entry. get trusts entry.fpr.now ≡ Some entry.kept) held
+  each_kept = all_seen_of IsKept seen held (All-permutation IsKept _ _ are.whole (All-map IsKept by_id (entries trusts) (entries_found fpr_cmp_total trusts)))
 
-  module _ (fpr : List ℕ) where
-    abbrev IsOther : ℕ × List ℕ × Ownertrust → Type 0
-    IsOther t = t.0 ≡ key_id_of fpr → ⊥
+  abbrev IsOther : ℕ × List ℕ × Ownertrust → Type 0
+  IsOther t = t.0 ≡ from → ⊥
 
+  abbrev pub IsOtherAhead : List EntryById → Type 0
+  IsOtherAhead es = passed < length es → HoldsAt (λ entry. IsOther (seen entry)) es passed
+
+  others : IsOtherAhead held → All (λ entry. IsOther (seen entry)) held
+  others other k d h same =
+      let up = IsNonDecreasingBy-from_sort (λ (entry : EntryById). entry.id) held are.rising in
+      let before : k < passed → ⊥ = λ l. omega (arith, are.parted.0 k d (omega arith) l, same) in
+      let behind : passed ≤ k → ⊥ = λ l. other (omega arith) d (omega (arith, are.parted.1 passed d (omega arith) (omega arith), up passed k d l h, same)) in
+      omega (arith, before, behind)
+
+  module _ (fpr : List ℕ) (own : from ≡ key_id_of fpr) where
     unkept : (kept : Option Ownertrust) → IfSome kept (λ _. IsOther (by_id (fpr, unset))) → unset ≡ unwrap_or kept unset
     unkept None h = refl
-    unkept (Some kept) h = absurd (h refl)
+    unkept (Some kept) h = absurd (h (sym own))
 
-    others : (i : ℕ) → IsPartitionPoint (λ (owner : Owner). nat_cmp owner.id (key_id_of fpr) ≡ Less) (λ owner. nat_cmp owner.id (key_id_of fpr) ≡ Greater) owners i
-        → All (λ owner. IsOther (seen owner)) owners
-    others i parted k d h same =
-        let id = (get_or owners k d).id in
-        let before : k < i → id < key_id_of fpr = λ l. ranked id (key_id_of fpr) Less (sym (parted.0 k d (omega arith) l)) in
-        let behind : i ≤ k → key_id_of fpr < id = λ l. ranked id (key_id_of fpr) Greater (sym (parted.1 k d l h)) in
-        grind (arith, before, behind, same)
-
-    -- a fingerprint whose key ID isn't found isn't kept
-    pub none_kept : (i : ℕ) → IsBinarySearchResult (λ (owner : Owner). nat_cmp owner.id (key_id_of fpr)) owners (Err i) → unset ≡ ownertrust_of trusts fpr
-    none_kept i searched =
-        let parted = searched (searchable_from_sorted nat_cmp_total (λ owner. owner.id) owners (key_id_of fpr) are.rising) in
-        let all = All-permutation IsOther _ _ (IsPermutation-sym _ _ are.whole) (All-map IsOther seen owners (others i parted)) in
+    -- a fingerprint isn't kept if the first entry that isn't passed is of another key ID
+    pub none_kept : IsOtherAhead held → unset ≡ ownertrust_of trusts fpr
+    none_kept other =
+        let all = All-permutation IsOther _ _ (IsPermutation-sym _ _ are.whole) (All-map IsOther seen held (others other)) in
         unkept (get trusts fpr) (IfSome-get fpr_cmp_total fpr_cmp-IsAntisymmetric (λ e. IsOther (by_id e)) trusts fpr (all_seen_of IsOther by_id (entries trusts) all))

@@ -1,7 +1,0 @@
-use Rattle.std.proofs.Common.{◌≡◌, ◌++◌, map}
-use Rattle.std.specs.FinMap as finmap
-use Rattle.wot_print.specs.Owners.{by_id, seen}
-use Rattle.wot_print.proofs.owners.with_ids.Given as goal
-
-abbrev pub invariant-loop-fpr : goal.invariant-loop-fpr
-invariant-loop-fpr l = map seen l.owners.items ++ map by_id l.fpr-iterator ≡ map by_id (finmap.entries l.trusts)
