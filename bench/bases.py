@@ -3,6 +3,7 @@ import os
 import shutil
 import tempfile
 
+import keyrings
 from growth import SEED, fingerprint, listed_store
 from measure import in_turn, megabytes, middle, opened, output, ran, session, shown, spread, table, times, turns
 
@@ -72,26 +73,30 @@ def part_compact(bench):
     table(f"`compact` of {bench.keys:,} made keys, {megabytes(os.path.getsize(os.path.join(where, 'wot.1')))}", columns, rows)
 
 
-def opening_rows(bench, name, record):
-    """Rows: opening what `compact` left, beside opening the same state from its records, and beside a C program that reads the file and makes its sums."""
+def opening_rows(bench, name, record, query):
+    """Rows: opening what `compact` left in a session, and in a run of one query, beside opening the same state from its records, and beside a C program that reads the file and makes its sums."""
     base = moved(bench, record, "moved")
     words = [bench.floor("pages"), "read", os.path.join(base, "wot.1")]
-    jobs = [(where, [bench.program, "--workers", str(count)]) for where in (record, base) for count in WORKERS]
-    sums, *seconds = turns(lambda: ran(words), *(lambda words=words, where=where: opened(words, where) for where, words in jobs))
-    by_record, by_base = seconds[:len(WORKERS)], seconds[len(WORKERS):]
+    programs = [[bench.program, "--workers", str(count)] for count in WORKERS]
+    jobs = [lambda words=words, where=where: opened(words, where) for where in (record, base) for words in programs]
+    jobs += [lambda words=words: ran([*words, *query], where=base) for words in programs]
+    sums, *seconds = turns(lambda: ran(words), *jobs)
+    by_record, by_base, by_query = (seconds[at * len(WORKERS):][:len(WORKERS)] for at in range(3))
     return [
         (name, "reading the base and making its sums, in C", shown(middle(sums)), "", ""),
-        (name, "from the records", *map(shown, map(middle, by_record)), spread(by_record[-1], by_record[0])),
-        (name, "from the base that `compact` left", *map(shown, map(middle, by_base)), spread(by_base[-1], by_base[0])),
-        (name, "the base, times the sums", *(spread(one, sums) for one in by_base), ""),
-        (name, "the base beside the records", *(spread(one, other) for one, other in zip(by_base, by_record)), ""),
+        (name, "a session, from the records", *map(shown, map(middle, by_record)), spread(by_record[-1], by_record[0])),
+        (name, "a session, from the base that `compact` left", *map(shown, map(middle, by_base)), spread(by_base[-1], by_base[0])),
+        (name, "a run of one query, from that base", *map(shown, map(middle, by_query)), spread(by_query[-1], by_query[0])),
+        (name, "the session, times the sums", *(spread(one, sums) for one in by_base), ""),
+        (name, "the run of one query, times the sums", *(spread(one, sums) for one in by_query), ""),
+        (name, "from the base beside from the records", *(spread(one, other) for one, other in zip(by_base, by_record)), ""),
     ]
 
 
 def part_opening(bench):
     """Opening a store of made keys, and of keys as gpg prints them, from its records and from its base."""
-    rows = opening_rows(bench, "made keys", imported(bench, "imported", bench.keys))
-    rows += opening_rows(bench, "keys as gpg prints them", listed_store(bench))
+    rows = opening_rows(bench, "made keys", imported(bench, "imported", bench.keys), ["list", fingerprint(1)])
+    rows += opening_rows(bench, "keys as gpg prints them", listed_store(bench), ["list", keyrings.fingerprint(1)])
     columns = ("", "", *(f"{count} worker{'s' * (count > 1)}" for count in WORKERS), f"{WORKERS[-1]} beside {WORKERS[0]}")
     table(f"Opening a store of {bench.keys:,} keys", columns, rows)
 
@@ -112,17 +117,16 @@ def part_check(bench):
 
 
 def part_one_key(bench):
-    """`list` of one key in a small keyring and in a large one, without the opening."""
+    """`list` of one key in a small keyring and in a large one, in an open session and as a run of its own, which opens the store."""
     columns, sessions, runs = (100, bench.keys), [], []
     for count in columns:
         where = moved(bench, imported(bench, "imported", count), "moved")
         with session([bench.program], where) as program:
             words = ["list", fingerprint(count // 2)]
             sessions.append(min(program.accept(" ".join(words) + "\n") for _ in range(20)))
-        whole, opening = in_turn(lambda where=where, words=words: ran([bench.program, *words], where=where), lambda where=where: opened([bench.program], where), rounds=5)
-        runs.append(max(whole - opening, 0))
+        runs += in_turn(lambda where=where, words=words: ran([bench.program, *words], where=where), rounds=5)
     rows = [
         ("in an open session", *map(shown, sessions), times(sessions[1], sessions[0])),
-        ("as a run of its own, less the opening", *map(shown, runs), ""),
+        ("as a run of its own, which opens the store", *map(shown, runs), times(runs[1], runs[0])),
     ]
     table("`list` of one key", ("", *(f"{count:,} keys" for count in columns), "growth"), rows)
