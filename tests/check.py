@@ -103,8 +103,8 @@ def usages():
 
 
 def threads():
-    """Four workers are three threads beside the first for the seals and three for the rows where a store is opened, and at `check` three more for the rows,
-    which have one level here, and three for the letters; where a session begins, three for its index. One worker is none.
+    """Four workers are three threads beside the first for the seals, three for the rows and three for the counts where a store is opened, and at `check` three
+    more for the rows, which have one level here, and three for the letters; where a session begins, three for its index. One worker is none.
     """
     if not shutil.which("strace"):
         print("check: threads: skipped: no strace")
@@ -121,7 +121,7 @@ def threads():
             with open(log.name, encoding="utf-8", errors="replace") as file:
                 # each line begins with the number of its thread, and each thread has one where it ends
                 started.append(len({line.split()[0] for line in file}) - 1)
-        yield "threads of check, of export and of a session, by one worker and by four", started, [0, 12, 0, 6, 0, 9]
+        yield "threads of check, of export and of a session, by one worker and by four", started, [0, 15, 0, 9, 0, 12]
 
 
 def no_threads():

@@ -31,7 +31,7 @@ pub fn counts_in<L: Ledger>(
 }
 
 /// The same of a key that may be there.
-fn counts_at<L: Ledger>(
+pub fn counts_at<L: Ledger>(
     state: &LentState<'_>,
     rows: &Rows,
     id: KeyId,

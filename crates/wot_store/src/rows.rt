@@ -1,6 +1,6 @@
 //! The rows of a base.
 
-ghost use Rattle.std.specs.Prelude.{◌≡◌, ◌≤◌, IfOk, OnErr, IsErrOf, Err, ◌<◌};
+ghost use Rattle.std.specs.Prelude.{◌≡◌, ◌≤◌, IfOk, OnErr, IsErrOf, Err};
 ghost use Rattle.wot_types.specs.Levels.{rows_of};
 ghost use Rattle.wot_types.specs.Payload.{IsInRange};
 ghost use Rattle.wot_check.specs.Stored.{IsLeastFault};
@@ -9,14 +9,12 @@ ghost use Rattle.wot_image.specs.States.{image_state};
 
 use crate::error::{BadStore, StoreError};
 use std::alloc::Global;
-use std::marker::Brand;
-use std::sync::ledger::{Blank, Ledger};
 use std::thread::Threads;
 use wot_check::check_all;
 use wot_image::Image;
 use wot_live::{Engine, Parts};
 use wot_table::LentState;
-use wot_types::{Mem, Steps};
+use wot_types::Mem;
 use wot_workers::{Gate, Workers};
 
 /// The parts of a base whose rows all stand.
@@ -34,21 +32,22 @@ pub fn take_rows<R: Threads + Sync, G: Gate + Sync>(
     let state = LentState::of(&image.table, &image.trusts, image.date, &image.options);
     let found = check_all(workers, alloc, &state, &image.rows);
     match found {
-        Ok(None) => believe::<Brand>(image, Blank::new(1)),
+        Ok(None) => believe(workers, image),
         Ok(Some(fault)) => Err(StoreError::Bad(BadStore::Row(fault))),
         Err(Mem::Memory) => Err(StoreError::Memory),
     }
 }
 
-// The parts of a base with the rows that it has, by a counter of its own.
-fn believe<L: Ledger>(image: Image, blank: Blank) -> Result<Parts, StoreError>
-    requires own { (blank.name ≡ L.name) × (blank.parts ≡ L.parts) × (0 < L.parts) }
+// The parts of a base with the rows that it has; the workers count its candidates.
+fn believe<R: Threads + Sync, G: Gate + Sync>(
+    workers: &Workers<'_, R, G>,
+    image: Image,
+) -> Result<Parts, StoreError>
     requires ranges { IsInRange image.options }
     requires stand { image.rows ≡ rows_of (image_state image) }
     ensures parts { IfOk result (λ parts. parts ≡ image_state image) }
     ensures only_memory { OnErr result (result ≡ Err StoreError.Memory) }
 {
-    let mut steps = Steps::<L>::open(blank);
     let Image {
         table,
         trusts,
@@ -56,7 +55,7 @@ fn believe<L: Ledger>(image: Image, blank: Blank) -> Result<Parts, StoreError>
         options,
         rows,
     } = image;
-    match Engine::from_parts(table, trusts, date, options, rows, &mut steps) {
+    match Engine::from_parts_by(workers, table, trusts, date, options, rows) {
         Ok(engine) => Ok(engine.into_parts()),
         Err(Mem::Memory) => Err(StoreError::Memory),
     }
