@@ -17,8 +17,7 @@ encode_both t [] b = refl
 encode_both t (x ∷ a) b = let rest = encode_both t a b in rw rest refl
 
 -- one piece more is written
-pub piece_written : (t old now next rest piece after bytes : List ℕ) → rest ≡ piece ++ after → next ≡ now ++ encode_with t piece
-    → now ++ encode_with t rest ≡ old ++ encode_with t bytes → next ++ encode_with t after ≡ old ++ encode_with t bytes
-piece_written t old now next rest piece after bytes cut more so_far =
-    ap (λ l. l ++ encode_with t after) more ∙ append_assoc now (encode_with t piece) (encode_with t after)
-    ∙ ap (λ l. now ++ l) (sym (encode_both t piece after) ∙ ap (encode_with t) (sym cut)) ∙ so_far
+pub piece_written : (t front rest piece after bytes : List ℕ) → rest ≡ piece ++ after → front ++ encode_with t rest ≡ encode_with t bytes
+    → (front ++ encode_with t piece) ++ encode_with t after ≡ encode_with t bytes
+piece_written t front rest piece after bytes cut so_far =
+    append_assoc front (encode_with t piece) (encode_with t after) ∙ ap (λ l. front ++ l) (sym (encode_both t piece after) ∙ ap (encode_with t) (sym cut)) ∙ so_far

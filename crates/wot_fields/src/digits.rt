@@ -1,26 +1,27 @@
 //! Numbers and bytes as they are printed in a field.
 
-ghost use Rattle.std.specs.Prelude.{◌≡◌, ◌++◌, ◌<◌, ◌≤◌, OnOk, length, slice_index};
+ghost use Rattle.std.specs.Prelude.{◌≡◌, ◌<◌, ◌≤◌, OnOk, length, slice_index};
 ghost use Rattle.std.specs.Fmt.{decimal};
 ghost use Rattle.hex.specs.Hex.{encode_upper, upper_digits};
 
-use crate::printed::Printed;
-use wot_types::Mem;
+use crate::sink::Sink;
 
 /// How many bytes are turned into digits at a time: none of the fingerprints that are in use is longer.
 const AT_A_TIME: usize = 32;
 
 /// Adds a number in decimal at the end.
-pub fn push_number(text: &mut Printed, number: u64) -> Result<(), Mem>
-    ensures { OnOk result (text.new ≡ text.old ++ decimal number) }
+pub fn push_number<W: Sink>(text: &mut W, number: u64) -> Result<(), W::Error>
+    ensures same { W.name text.new ≡ W.name text.old }
+    ensures adds { OnOk result (W.adds text.old (decimal number) text.new) }
 {
     let mut buffer = itoa::Buffer::new();
     text.push_bytes(buffer.format(number).as_bytes())
 }
 
 /// Adds bytes in hexadecimal at the end, two digits in upper case for each.
-pub fn push_hex(text: &mut Printed, bytes: &[u8]) -> Result<(), Mem>
-    ensures { OnOk result (text.new ≡ text.old ++ encode_upper bytes.now) }
+pub fn push_hex<W: Sink>(text: &mut W, bytes: &[u8]) -> Result<(), W::Error>
+    ensures same { W.name text.new ≡ W.name text.old }
+    ensures adds { OnOk result (W.adds text.old (encode_upper bytes.now) text.new) }
 {
     let mut rest = bytes;
     while AT_A_TIME < rest.len() {
@@ -32,9 +33,10 @@ pub fn push_hex(text: &mut Printed, bytes: &[u8]) -> Result<(), Mem>
 }
 
 /// The same of no more bytes than are turned at a time.
-fn push_digits(text: &mut Printed, bytes: &[u8]) -> Result<(), Mem>
+fn push_digits<W: Sink>(text: &mut W, bytes: &[u8]) -> Result<(), W::Error>
     requires few { length bytes.now ≤ 32 }
-    ensures { OnOk result (text.new ≡ text.old ++ encode_upper bytes.now) }
+    ensures same { W.name text.new ≡ W.name text.old }
+    ensures adds { OnOk result (W.adds text.old (encode_upper bytes.now) text.new) }
 {
     let mut digits = [0; 2 * AT_A_TIME];
     for (at, b) in bytes.iter().enumerate() {

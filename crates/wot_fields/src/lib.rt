@@ -10,6 +10,7 @@ mod numbers; // decimal numbers
 mod ownertrust; // a line of an ownertrust text as it is printed
 mod printed; // a text while it is printed
 mod quoting; // texts as a quoted field prints them
+mod sink; // where a text goes while it is printed
 mod unquoting; // the text that a quoted field spells
 
 pub use dates::{date, date_or_0};
@@ -20,4 +21,5 @@ pub use numbers::{long, number, number_or_0};
 pub use ownertrust::push_ownertrust_line;
 pub use printed::Printed;
 pub use quoting::{push_quoted, quote};
+pub use sink::Sink;
 pub use unquoting::{QuoteError, decoder_is_the_quoting_relation, unquote};

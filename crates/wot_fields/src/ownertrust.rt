@@ -6,6 +6,7 @@ ghost use Rattle.wot_types.specs.Ownertrust.{ownertrust_line};
 
 use crate::digits::{push_hex, push_number};
 use crate::printed::Printed;
+use crate::sink::Sink;
 use wot_types::{Fpr, Mem, Ownertrust};
 
 /// Adds `FINGERPRINT:NUMBER:` at the end, without a newline.

@@ -1,11 +1,10 @@
 -- The counts of letters, and of the letters of some keys.
-use Rattle.std.proofs.Common.{◌≡◌, ◌+◌, ◌*◌, ◌<◌, ◌≤◌, ℕ, cond, List, [], ◌∷◌, ◌++◌, append_assoc, count_by, get_or, length, map, take, take_all, codes, refl, sym, ap, ◌∙◌, arith}
+use Rattle.std.proofs.Common.{◌≡◌, ◌+◌, ◌*◌, ◌<◌, ◌≤◌, ℕ, cond, List, [], ◌∷◌, ◌++◌, append_assoc, count_by, length, map, take, take_all, codes, refl, sym, ap, ◌∙◌, arith}
 use Rattle.std.specs.FinMap as finmap
 use Rattle.std.specs.Fork.{slice_chunk}
 use Rattle.std.specs.Int.{div_ceil}
 use Rattle.std.specs.List.{AllByRecursion, flat_map}
 use Rattle.std.proofs.lemmas.Grind.{div_ceil_times, flat_map-append}
-use Rattle.std.proofs.lemmas.List.{flat_map_more, take_more}
 use Rattle.std.proofs.lemmas.List.Sums.{sum_by-append}
 use Rattle.std.proofs.Math.Nat.{mul-le-mul_right}
 use Rattle.std.proofs.Math.Seq.{take-add}
@@ -80,9 +79,6 @@ line_is s rows =
     front = codes "tally:" ++ number_field (capped (finmap.len rows))
 
 -- ---- the letters of some keys
-
-pub one_key_more : (f : ℕ → List Letter) (ids : List ℕ) (i id : ℕ) → i < length ids → id ≡ get_or ids i id → flat_map f (take i ids) ++ f id ≡ flat_map f (take (i + 1) ids)
-one_key_more f ids i id lt is = flat_map_more f [] (take i ids) id ∙ ap (flat_map f) (ap (λ y. take i ids ++ y ∷ []) is ∙ sym (take_more ids i id lt))
 
 letters_of_entries : (s : State) (rows : RowMap) (es : List (ℕ × Key)) → AllByRecursion (IsAt s.keys) es
     → flat_map (letters_at s rows) (map (λ e. e.0) es) ≡ flat_map (λ e. user_letters s rows e.0 e.1) es

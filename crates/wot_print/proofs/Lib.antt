@@ -2,6 +2,7 @@ pub mod Loops
 pub mod Shown
 pub mod Spots
 pub mod Pieces
+pub mod Room
 pub mod Explaining
 pub mod Counting
 pub mod EntriesById

@@ -4,7 +4,7 @@ ghost use Rattle.std.specs.Prelude.{◌≡◌, IfOk};
 ghost use Rattle.wot_types.specs.Outcome.{entries_line, import_line, keys_line, ok_line};
 
 use std::alloc::Global;
-use wot_fields::{Printed, push_number};
+use wot_fields::{Printed, Sink, push_number};
 use wot_types::Mem;
 
 /// `ok`, after a command that tells nothing else.

@@ -16,7 +16,7 @@ ghost use Rattle.wot_print.specs.Counts.{count_fields, counts_line, counts_of};
 use crate::fields::push_count_field;
 use std::alloc::Global;
 use std::sync::ledger::Ledger;
-use wot_fields::Printed;
+use wot_fields::{Printed, Sink};
 use wot_levels::{user_in, verdict_in};
 use wot_live::{Engine, Letters, letter_by};
 use wot_table::{KeyHead, Keyblock, LentState};

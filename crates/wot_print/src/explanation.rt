@@ -13,7 +13,7 @@ use crate::fields::{push_field, push_key_id_field, push_number_field, push_scope
 use crate::names::{letter_text, trust_text};
 use std::alloc::Global;
 use wot_explain::{Counted, Why};
-use wot_fields::Printed;
+use wot_fields::{Printed, Sink};
 use wot_types::{Count, KeyId, Letter, Mem, Row};
 
 /// The explanation of a user ID, whose place counts from 1, and its letter over the cut keyring.

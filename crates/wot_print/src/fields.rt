@@ -1,29 +1,32 @@
 //! Fields at the end of a line that is being printed, each with the colon after it.
 
-ghost use Rattle.std.specs.Prelude.{◌≡◌, ◌++◌, OnOk};
+ghost use Rattle.std.specs.Prelude.{◌≡◌, OnOk};
 ghost use Rattle.hex.specs.Hex.{encode_upper};
 ghost use Rattle.wot_types.specs.Printing.{ended_field, expiry_field, key_id_text, number_field, scope_text};
 ghost use Rattle.wot_types.specs.Quotes.{printed_text};
 
-use wot_fields::{Printed, push_hex, push_number, push_quoted};
-use wot_types::{KeyId, Mem, Scope, Text};
+use wot_fields::{Sink, push_hex, push_number, push_quoted};
+use wot_types::{KeyId, Scope, Text};
 
-pub fn push_field(text: &mut Printed, field: &[u8]) -> Result<(), Mem>
-    ensures { OnOk result (text.new ≡ text.old ++ ended_field field.now) }
+pub fn push_field<W: Sink>(text: &mut W, field: &[u8]) -> Result<(), W::Error>
+    ensures same { W.name text.new ≡ W.name text.old }
+    ensures adds { OnOk result (W.adds text.old (ended_field field.now) text.new) }
 {
     text.push_bytes(field)?;
     text.push(b':')?;
     Ok(())
 }
 
-pub fn push_number_field(text: &mut Printed, number: u32) -> Result<(), Mem>
-    ensures { OnOk result (text.new ≡ text.old ++ number_field number) }
+pub fn push_number_field<W: Sink>(text: &mut W, number: u32) -> Result<(), W::Error>
+    ensures same { W.name text.new ≡ W.name text.old }
+    ensures adds { OnOk result (W.adds text.old (number_field number) text.new) }
 {
     push_count_field(text, u64::from(number))
 }
 
-pub fn push_count_field(text: &mut Printed, count: u64) -> Result<(), Mem>
-    ensures { OnOk result (text.new ≡ text.old ++ number_field count) }
+pub fn push_count_field<W: Sink>(text: &mut W, count: u64) -> Result<(), W::Error>
+    ensures same { W.name text.new ≡ W.name text.old }
+    ensures adds { OnOk result (W.adds text.old (number_field count) text.new) }
 {
     push_number(text, count)?;
     text.push(b':')?;
@@ -31,8 +34,9 @@ pub fn push_count_field(text: &mut Printed, count: u64) -> Result<(), Mem>
 }
 
 /// An expiry, or nothing for none.
-pub fn push_expiry(text: &mut Printed, expires: u32) -> Result<(), Mem>
-    ensures { OnOk result (text.new ≡ text.old ++ expiry_field expires) }
+pub fn push_expiry<W: Sink>(text: &mut W, expires: u32) -> Result<(), W::Error>
+    ensures same { W.name text.new ≡ W.name text.old }
+    ensures adds { OnOk result (W.adds text.old (expiry_field expires) text.new) }
 {
     if expires == 0 {
         push_field(text, b"")
@@ -42,16 +46,18 @@ pub fn push_expiry(text: &mut Printed, expires: u32) -> Result<(), Mem>
 }
 
 /// Bytes in hexadecimal.
-pub fn push_hex_field(text: &mut Printed, bytes: &[u8]) -> Result<(), Mem>
-    ensures { OnOk result (text.new ≡ text.old ++ ended_field (encode_upper bytes.now)) }
+pub fn push_hex_field<W: Sink>(text: &mut W, bytes: &[u8]) -> Result<(), W::Error>
+    ensures same { W.name text.new ≡ W.name text.old }
+    ensures adds { OnOk result (W.adds text.old (ended_field (encode_upper bytes.now)) text.new) }
 {
     push_hex(text, bytes)?;
     text.push(b':')?;
     Ok(())
 }
 
-pub fn push_key_id_field(text: &mut Printed, id: KeyId) -> Result<(), Mem>
-    ensures { OnOk result (text.new ≡ text.old ++ ended_field (key_id_text id)) }
+pub fn push_key_id_field<W: Sink>(text: &mut W, id: KeyId) -> Result<(), W::Error>
+    ensures same { W.name text.new ≡ W.name text.old }
+    ensures adds { OnOk result (W.adds text.old (ended_field (key_id_text id)) text.new) }
 {
     push_key_id(text, id)?;
     text.push(b':')?;
@@ -59,14 +65,16 @@ pub fn push_key_id_field(text: &mut Printed, id: KeyId) -> Result<(), Mem>
 }
 
 /// A key ID alone, as 16 digits in upper case.
-pub fn push_key_id(text: &mut Printed, id: KeyId) -> Result<(), Mem>
-    ensures { OnOk result (text.new ≡ text.old ++ key_id_text id) }
+pub fn push_key_id<W: Sink>(text: &mut W, id: KeyId) -> Result<(), W::Error>
+    ensures same { W.name text.new ≡ W.name text.old }
+    ensures adds { OnOk result (W.adds text.old (key_id_text id) text.new) }
 {
     push_hex(text, id.0.to_be_bytes().as_slice())
 }
 
-pub fn push_quoted_field(text: &mut Printed, field: &Text) -> Result<(), Mem>
-    ensures { OnOk result (text.new ≡ text.old ++ ended_field (printed_text field.now)) }
+pub fn push_quoted_field<W: Sink>(text: &mut W, field: &Text) -> Result<(), W::Error>
+    ensures same { W.name text.new ≡ W.name text.old }
+    ensures adds { OnOk result (W.adds text.old (ended_field (printed_text field.now)) text.new) }
 {
     push_quoted(text, field.as_bytes())?;
     text.push(b':')?;
@@ -74,8 +82,9 @@ pub fn push_quoted_field(text: &mut Printed, field: &Text) -> Result<(), Mem>
 }
 
 /// A regular expression, or nothing for none.
-pub fn push_scope(text: &mut Printed, scope: &Option<Scope>) -> Result<(), Mem>
-    ensures { OnOk result (text.new ≡ text.old ++ ended_field (scope_text scope.now)) }
+pub fn push_scope<W: Sink>(text: &mut W, scope: &Option<Scope>) -> Result<(), W::Error>
+    ensures same { W.name text.new ≡ W.name text.old }
+    ensures adds { OnOk result (W.adds text.old (ended_field (scope_text scope.now)) text.new) }
 {
     match scope {
         Some(scope) => push_quoted_field(text, scope.as_text()),

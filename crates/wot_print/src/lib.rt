@@ -17,7 +17,7 @@ mod workers; // the same counts by several workers
 pub use answers::{entries_line, import_line, keys_line, ok_line};
 pub use counts::tally;
 pub use explanation::why;
-pub use listing::list;
+pub use listing::{Printout, list};
 pub use ownertrust::export;
 pub use refusals::refused;
 pub use workers::tally_by;

@@ -1,11 +1,12 @@
 //! The keyring, or one key of it, as a listing: with the validity of each key and user ID, and with or without certifications.
 
-ghost use Rattle.std.specs.Prelude.{◌≡◌, ◌++◌, ◌<◌, All, IfOk, IsSome, IsTrue, None, OnOk, Some, length};
+ghost use Rattle.std.specs.Prelude.{◌≡◌, ◌<◌, ◌≤◌, All, IfOk, IfSome, IsSome, IsTrue, None, OnOk, Some, length, min};
 ghost use Rattle.std.specs.List.{flat_map};
 ghost use Rattle.std.specs.FinMap as map;
 ghost use Rattle.wot_types.specs.Arrangement.{spot_of};
-ghost use Rattle.wot_types.specs.Keyring.{cert_total};
+ghost use Rattle.wot_types.specs.Keyring.{cert_total, key_certs};
 ghost use Rattle.wot_types.specs.Levels.{rows_of};
+ghost use Rattle.wot_types.specs.Limits.{most_certs};
 ghost use Rattle.wot_types.specs.Listing.{Spells};
 ghost use Rattle.wot_types.specs.Ownertrust.{ownertrust_of};
 ghost use Rattle.wot_types.specs.Printing.{cert_line, key_lines, list_text, listed_keyblocks, user_lines};
@@ -19,14 +20,64 @@ use crate::fits::{cert_fits, key_fits, state_fits, user_fits};
 use crate::ownertrust_walk::OwnertrustWalk;
 use crate::records::{push_cert, push_fpr, push_pub, push_tru, push_user};
 use std::alloc::Global;
-use std::marker::Brand;
+use std::marker::{Brand, Model};
 use std::sync::ledger::{Blank, Ledger};
-use wot_fields::Printed;
+use wot_fields::{Printed, Sink};
 use wot_levels::user_in;
 use wot_live::{Engine, Letters};
 use wot_print_laws::printed_reads_back;
-use wot_table::Keyblock;
-use wot_types::{KeyId, Mem, Ownertrust, Steps};
+use wot_table::{BlockOrder, Keyblock};
+use wot_types::{KeyId, MOST_CERTS, Mem, Ownertrust, Steps};
+
+/// All keys in rising order of key ID, as a listing for which all memory was taken: to print it takes no more.
+#[derive(Drop)]
+pub struct Printout<'a> {
+    engine: &'a Engine,
+    sigs: bool,
+    trusts: OwnertrustWalk<'a>,
+    order: BlockOrder<'a>,
+}
+
+impl<'a> Model for Printout<'a> {
+    ghost use Rattle.std.specs.Prelude.{List, ℕ, None, IsTrue, ◌≡◌, ◌≤◌, min};
+    ghost use Rattle.wot_types.specs.Keyring.{cert_total};
+    ghost use Rattle.wot_types.specs.Limits.{most_certs};
+    ghost use Rattle.wot_types.specs.Printing.{list_text};
+
+    ghost Value = { List ℕ };
+
+    ghost view = { λ p. list_text p.engine.now None p.sigs };
+
+    ghost invariant = { λ p. (p.trusts.trusts ≡ p.engine.now.trusts) × (p.trusts.from ≡ 0) × (IsTrue p.sigs → min (cert_total p.engine.now.keys) most_certs ≤ p.order.most) };
+}
+
+impl<'a> Printout<'a> {
+    /// Of all keys of the engine, with or without certifications.
+    pub fn of(alloc: Global, engine: &'a Engine, sigs: bool) -> Result<Printout<'a>, Mem>
+        ensures { IfOk result (λ printout. printout ≡ list_text engine.now None sigs) }
+    {
+        Ok(Printout {
+            engine,
+            sigs,
+            trusts: OwnertrustWalk::of(alloc, engine.trusts())?,
+            order: block_order(alloc, engine, sigs)?,
+        })
+    }
+
+    /// Prints it.
+    pub fn print<W: Sink>(self, text: &mut W) -> Result<(), W::Error>
+        ensures same { W.name text.new ≡ W.name text.old }
+        ensures adds { OnOk result (W.adds text.old self.entry text.new) }
+    {
+        let Printout {
+            engine,
+            sigs,
+            mut trusts,
+            mut order,
+        } = self;
+        push_all::<W, Brand>(text, engine, sigs, &mut trusts, &mut order, Blank::new(1))
+    }
+}
 
 /// All keys in rising order of key ID, or the key that `only` names; a key that isn't there has no lines.
 /// With `sigs` each user ID is followed by its certifications in the block's order.
@@ -38,175 +89,235 @@ pub fn list(alloc: Global, engine: &Engine, only: Option<KeyId>, sigs: bool) -> 
     // For the clause of reading back: the law, and that each key of the table is well formed.
     printed_reads_back();
     let _totals = engine.table().totals();
-    listing_by::<Brand>(alloc, engine, only, sigs, Blank::new(1))
-}
-
-/// The listing, over a counter of its own for the certifications that it reads.
-fn listing_by<L: Ledger>(
-    alloc: Global,
-    engine: &Engine,
-    only: Option<KeyId>,
-    sigs: bool,
-    blank: Blank,
-) -> Result<Vec<u8>, Mem>
-    requires own { (blank.name ≡ L.name) × (blank.parts ≡ L.parts) × (0 < L.parts) }
-    ensures text { IfOk result (λ text. text.items ≡ list_text engine.now only sigs) }
-    ensures fits { only ≡ None → IsTrue sigs → OnOk result (FitsState engine.now) }
-{
-    let mut steps = Steps::<L>::open(blank);
     let mut text = Printed::new(alloc);
-    push_tru(
-        &mut text,
-        engine.options(),
-        engine.date(),
-        engine.next_check(),
-    )?;
-    push_listed(&mut text, engine, only, sigs, &mut steps)?;
-    state_fits(engine);
+    let mut order = block_order(alloc, engine, sigs)?;
+    match only {
+        Some(id) => push_one::<Printed, Brand>(
+            &mut text,
+            engine,
+            id,
+            sigs,
+            &mut order,
+            Blank::new(1),
+        )?,
+        None => {
+            let mut trusts = OwnertrustWalk::of(alloc, engine.trusts())?;
+            push_all::<Printed, Brand>(
+                &mut text,
+                engine,
+                sigs,
+                &mut trusts,
+                &mut order,
+                Blank::new(1),
+            )?
+        }
+    }
     text.into_vec()
 }
 
-/// The lines of all keys, or of the one that `only` names.
-fn push_listed<L: Ledger>(
-    text: &mut Printed,
-    engine: &Engine,
-    only: Option<KeyId>,
-    sigs: bool,
-    steps: &mut Steps<L>,
-) -> Result<(), Mem>
-    ensures lines { OnOk result (text.new ≡ text.old ++ flat_map (key_lines engine.now (rows_of engine.now) sigs) (listed_keyblocks engine.now only)) }
-    ensures fits { only ≡ None → IsTrue sigs → OnOk result (All (λ e. FitsKey e.1) (map.entries engine.now.keys)) }
+/// Room for the certifications on each user ID, where they are printed.
+fn block_order<'a>(alloc: Global, engine: &'a Engine, sigs: bool) -> Result<BlockOrder<'a>, Mem>
+    ensures { IfOk result (λ order. IsTrue sigs → min (cert_total engine.now.keys) most_certs ≤ order.most) }
 {
-    match only {
-        Some(id) => push_key(text, engine, id, sigs, steps),
-        None => push_keys(text, engine, sigs, steps),
-    }
+    let most = if sigs {
+        engine.table().totals().certs.min(u64::from(MOST_CERTS))
+    } else {
+        0
+    };
+    BlockOrder::with_room(alloc, most as usize)
+}
+
+/// The listing of all keys, over a counter of its own for the certifications that it reads.
+fn push_all<'a, W: Sink, L: Ledger>(
+    text: &mut W,
+    engine: &'a Engine,
+    sigs: bool,
+    trusts: &mut OwnertrustWalk<'a>,
+    order: &mut BlockOrder<'a>,
+    blank: Blank,
+) -> Result<(), W::Error>
+    requires own { (blank.name ≡ L.name) × (blank.parts ≡ L.parts) × (0 < L.parts) }
+    requires trusts { (trusts.old.trusts ≡ engine.now.trusts) × (trusts.old.from ≡ 0) }
+    requires room { IsTrue sigs → min (cert_total engine.now.keys) most_certs ≤ order.old.most }
+    ensures same { W.name text.new ≡ W.name text.old }
+    ensures text { OnOk result (W.adds text.old (list_text engine.now None sigs) text.new) }
+    ensures fits { IsTrue sigs → OnOk result (FitsState engine.now) }
+{
+    let mut steps = Steps::<L>::open(blank);
+    push_tru(text, engine.options(), engine.date(), engine.next_check())?;
+    push_keys(text, engine, sigs, trusts, order, &mut steps)?;
+    state_fits(engine);
+    Ok(())
+}
+
+/// The listing of one key, in the same way.
+fn push_one<'a, W: Sink, L: Ledger>(
+    text: &mut W,
+    engine: &'a Engine,
+    id: KeyId,
+    sigs: bool,
+    order: &mut BlockOrder<'a>,
+    blank: Blank,
+) -> Result<(), W::Error>
+    requires own { (blank.name ≡ L.name) × (blank.parts ≡ L.parts) × (0 < L.parts) }
+    requires room { IsTrue sigs → min (cert_total engine.now.keys) most_certs ≤ order.old.most }
+    ensures same { W.name text.new ≡ W.name text.old }
+    ensures adds { OnOk result (W.adds text.old (list_text engine.now (Some id) sigs) text.new) }
+{
+    let mut steps = Steps::<L>::open(blank);
+    push_tru(text, engine.options(), engine.date(), engine.next_check())?;
+    push_key(text, engine, id, sigs, order, &mut steps)
 }
 
 /// The lines of all keys.
-fn push_keys<L: Ledger>(
-    text: &mut Printed,
-    engine: &Engine,
+fn push_keys<'a, W: Sink, L: Ledger>(
+    text: &mut W,
+    engine: &'a Engine,
     sigs: bool,
+    trusts: &mut OwnertrustWalk<'a>,
+    order: &mut BlockOrder<'a>,
     steps: &mut Steps<L>,
-) -> Result<(), Mem>
-    ensures lines { OnOk result (text.new ≡ text.old ++ flat_map (key_lines engine.now (rows_of engine.now) sigs) (listed_keyblocks engine.now None)) }
+) -> Result<(), W::Error>
+    requires trusts { (trusts.old.trusts ≡ engine.now.trusts) × (trusts.old.from ≡ 0) }
+    requires room { IsTrue sigs → min (cert_total engine.now.keys) most_certs ≤ order.old.most }
+    ensures same { W.name text.new ≡ W.name text.old }
+    ensures lines { OnOk result (W.adds text.old (flat_map (key_lines engine.now (rows_of engine.now) sigs) (listed_keyblocks engine.now None)) text.new) }
     ensures fits { IsTrue sigs → OnOk result (All (λ e. FitsKey e.1) (map.entries engine.now.keys)) }
 {
-    let mut trusts = OwnertrustWalk::of(engine.table().alloc(), engine.trusts())?;
     let mut walk = engine.letter_walk();
     for keyblock in engine.table().walk() {
         let kept = trusts.ownertrust_of(keyblock.key().fpr);
         let letters = walk.letters(keyblock.id());
-        push_keyblock(text, &letters, &keyblock, kept, sigs, steps)?;
+        push_keyblock(text, &letters, &keyblock, kept, sigs, order, steps)?;
     }
     Ok(())
 }
 
 /// The lines of the key of a key ID, if it is there.
-fn push_key<L: Ledger>(
-    text: &mut Printed,
-    engine: &Engine,
+fn push_key<'a, W: Sink, L: Ledger>(
+    text: &mut W,
+    engine: &'a Engine,
     id: KeyId,
     sigs: bool,
+    order: &mut BlockOrder<'a>,
     steps: &mut Steps<L>,
-) -> Result<(), Mem>
-    ensures { OnOk result (text.new ≡ text.old ++ flat_map (key_lines engine.now (rows_of engine.now) sigs) (listed_keyblocks engine.now (Some id))) }
+) -> Result<(), W::Error>
+    requires room { IsTrue sigs → min (cert_total engine.now.keys) most_certs ≤ order.old.most }
+    ensures same { W.name text.new ≡ W.name text.old }
+    ensures adds { OnOk result (W.adds text.old (flat_map (key_lines engine.now (rows_of engine.now) sigs) (listed_keyblocks engine.now (Some id))) text.new) }
 {
+    // For the room: each key of the table is well formed.
+    let _totals = engine.table().totals();
     match engine.table().keyblock(id) {
         Some(keyblock) => {
             let kept = engine.trusts().ownertrust_of(keyblock.key().fpr);
             let letters = engine.letters(id);
-            push_keyblock(text, &letters, &keyblock, kept, sigs, steps)
+            push_keyblock(text, &letters, &keyblock, kept, sigs, order, steps)
         }
         None => Ok(()),
     }
 }
 
 /// The lines of a key of the engine's table, of which this is kept.
-fn push_keyblock<L: Ledger>(
-    text: &mut Printed,
+fn push_keyblock<'a, W: Sink, L: Ledger>(
+    text: &mut W,
     letters: &Letters<'_>,
-    keyblock: &Keyblock<'_>,
+    keyblock: &Keyblock<'a>,
     kept: Ownertrust,
     sigs: bool,
+    order: &mut BlockOrder<'a>,
     steps: &mut Steps<L>,
-) -> Result<(), Mem>
+) -> Result<(), W::Error>
     requires told { AreOfKey letters.now keyblock.now }
     requires kept { kept ≡ ownertrust_of letters.now.state.trusts keyblock.now.1.fpr }
-    ensures lines { OnOk result (text.new ≡ text.old ++ key_lines letters.now.state (rows_of letters.now.state) sigs keyblock.now) }
+    requires room { IsTrue sigs → key_certs keyblock.now.1 ≤ order.old.most }
+    ensures same { W.name text.new ≡ W.name text.old }
+    ensures lines { OnOk result (W.adds text.old (key_lines letters.now.state (rows_of letters.now.state) sigs keyblock.now) text.new) }
     ensures fits { IsTrue sigs → OnOk result (FitsKey keyblock.now.1) }
+    ensures most { order.new.most ≡ order.old.most }
 {
     let id = keyblock.id();
     let head = keyblock.key();
     push_pub(text, letters.key_letter(keyblock), kept, id, &head)?;
     push_fpr(text, head.fpr)?;
-    push_users(text, letters, keyblock, head.users, sigs, steps)?;
+    push_users(text, letters, keyblock, head.users, sigs, order, steps)?;
     key_fits(&head);
     Ok(())
 }
 
 /// The lines of a key's user IDs, of which there are so many.
-fn push_users<L: Ledger>(
-    text: &mut Printed,
+fn push_users<'a, W: Sink, L: Ledger>(
+    text: &mut W,
     letters: &Letters<'_>,
-    keyblock: &Keyblock<'_>,
+    keyblock: &Keyblock<'a>,
     users: u32,
     sigs: bool,
+    order: &mut BlockOrder<'a>,
     steps: &mut Steps<L>,
-) -> Result<(), Mem>
+) -> Result<(), W::Error>
     requires told { AreOfKey letters.now keyblock.now }
     requires all { users ≡ length keyblock.now.1.users }
-    ensures lines { OnOk result (text.new ≡ text.old ++ flat_map (user_lines letters.now.state (rows_of letters.now.state) sigs keyblock.now.0 keyblock.now.1) (spots_from 0 keyblock.now.1.users)) }
+    requires room { IsTrue sigs → key_certs keyblock.now.1 ≤ order.old.most }
+    ensures same { W.name text.new ≡ W.name text.old }
+    ensures lines { OnOk result (W.adds text.old (flat_map (user_lines letters.now.state (rows_of letters.now.state) sigs keyblock.now.0 keyblock.now.1) (spots_from 0 keyblock.now.1.users)) text.new) }
     ensures fits { IsTrue sigs → OnOk result (All FitsUser keyblock.now.1.users) }
+    ensures most { order.new.most ≡ order.old.most }
 {
     for user in 0..users {
-        push_user_at(text, letters, keyblock, user, sigs, steps)?;
+        push_user_at(text, letters, keyblock, user, sigs, order, steps)?;
     }
     Ok(())
 }
 
 /// The lines of a user ID, numbered from 0.
-fn push_user_at<L: Ledger>(
-    text: &mut Printed,
+fn push_user_at<'a, W: Sink, L: Ledger>(
+    text: &mut W,
     letters: &Letters<'_>,
-    keyblock: &Keyblock<'_>,
+    keyblock: &Keyblock<'a>,
     user: u32,
     sigs: bool,
+    order: &mut BlockOrder<'a>,
     steps: &mut Steps<L>,
-) -> Result<(), Mem>
+) -> Result<(), W::Error>
     requires told { AreOfKey letters.now keyblock.now }
     requires there { IsSome (spot_of keyblock.now.1 user) }
+    requires room { IsTrue sigs → key_certs keyblock.now.1 ≤ order.old.most }
+    ensures same { W.name text.new ≡ W.name text.old }
     ensures lines { (spot : Spot) → spot_of keyblock.now.1 user ≡ Some spot
-        → OnOk result (text.new ≡ text.old ++ user_lines letters.now.state (rows_of letters.now.state) sigs keyblock.now.0 keyblock.now.1 spot) }
+        → OnOk result (W.adds text.old (user_lines letters.now.state (rows_of letters.now.state) sigs keyblock.now.0 keyblock.now.1 spot) text.new) }
     ensures fits { (spot : Spot) → spot_of keyblock.now.1 user ≡ Some spot
         → IsTrue sigs → OnOk result (FitsUser spot.user) }
+    ensures most { order.new.most ≡ order.old.most }
 {
     let head = user_in(keyblock, user).unwrap();
     let letter = letters.letter(keyblock, user).unwrap();
     push_user(text, letter, &head)?;
     if sigs {
-        push_certs(text, keyblock, user, steps)?;
+        push_certs(text, keyblock, user, order, steps)?;
     }
     user_fits(&head);
     Ok(())
 }
 
 /// The lines of the certifications on a user ID, in the block's order.
-fn push_certs<L: Ledger>(
-    text: &mut Printed,
-    keyblock: &Keyblock<'_>,
+fn push_certs<'a, W: Sink, L: Ledger>(
+    text: &mut W,
+    keyblock: &Keyblock<'a>,
     user: u32,
+    order: &mut BlockOrder<'a>,
     steps: &mut Steps<L>,
-) -> Result<(), Mem>
+) -> Result<(), W::Error>
     requires there { IsSome (spot_of keyblock.now.1 user) }
+    requires room { IfSome (spot_of keyblock.now.1 user) (λ spot. length spot.certs ≤ order.old.most) }
+    ensures same { W.name text.new ≡ W.name text.old }
     ensures lines { (spot : Spot) → spot_of keyblock.now.1 user ≡ Some spot
-        → OnOk result (text.new ≡ text.old ++ flat_map (λ placed. cert_line placed.cert) spot.certs) }
+        → OnOk result (W.adds text.old (flat_map (λ placed. cert_line placed.cert) spot.certs) text.new) }
     ensures fits { (spot : Spot) → spot_of keyblock.now.1 user ≡ Some spot
         → OnOk result (All (λ placed. FitsCert placed.cert) spot.certs) }
+    ensures most { order.new.most ≡ order.old.most }
 {
-    let certs = keyblock.certs_in_order(user, steps)?;
-    for placed in certs.iter() {
+    keyblock.arrange(user, order, steps);
+    for placed in order.certs.iter() {
         cert_fits(&placed.cert);
         push_cert(text, &placed.cert)?;
     }

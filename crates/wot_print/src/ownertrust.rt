@@ -4,7 +4,7 @@ ghost use Rattle.std.specs.Prelude.{◌≡◌, IfOk};
 ghost use Rattle.wot_types.specs.Ownertrust.{ownertrust_text};
 
 use std::alloc::Global;
-use wot_fields::{Printed, push_ownertrust_line};
+use wot_fields::{Printed, Sink, push_ownertrust_line};
 use wot_live::Engine;
 use wot_types::Mem;
 

@@ -1,6 +1,6 @@
 //! The lines of a listing, each by what it shows (doc/DETAILS).
 
-ghost use Rattle.std.specs.Prelude.{◌≡◌, ◌++◌, OnOk};
+ghost use Rattle.std.specs.Prelude.{◌≡◌, ◌==◌, ◌&&◌, OnOk};
 ghost use Rattle.wot_types.specs.Printing.{capabilities_text, cert_line, class_text, depth_text, ended_field, fpr_line, pub_line, tru_line, user_line};
 ghost use Rattle.wot_print.specs.Shown.{shown_key, shown_user};
 
@@ -9,13 +9,19 @@ use crate::fields::{
     push_quoted_field, push_scope,
 };
 use crate::names::{cert_name, kind_text, letter_text, model_text, trust_text};
-use wot_fields::{Printed, push_number};
+use wot_fields::{Sink, push_number};
 use wot_table::{KeyHead, UserHead};
-use wot_types::{Cert, Fpr, KeyId, Letter, Mem, Options, Ownertrust, Text};
+use wot_types::{Cert, Fpr, KeyId, Letter, Options, Ownertrust, Text};
 
 /// `tru::MODEL:DATE:NEXT:MARGINALS:COMPLETES:DEPTH`
-pub fn push_tru(text: &mut Printed, options: &Options, date: u32, next: u32) -> Result<(), Mem>
-    ensures { OnOk result (text.new ≡ text.old ++ tru_line options.now date next) }
+pub fn push_tru<W: Sink>(
+    text: &mut W,
+    options: &Options,
+    date: u32,
+    next: u32,
+) -> Result<(), W::Error>
+    ensures same { W.name text.new ≡ W.name text.old }
+    ensures adds { OnOk result (W.adds text.old (tru_line options.now date next) text.new) }
 {
     text.push_bytes(b"tru::")?;
     push_field(text, model_text(options))?;
@@ -29,14 +35,15 @@ pub fn push_tru(text: &mut Printed, options: &Options, date: u32, next: u32) -> 
 }
 
 /// `pub:LETTER:BITS:ALGO:KEYID:MADE:EXP::OWNERTRUST:::CAPS:`
-pub fn push_pub(
-    text: &mut Printed,
+pub fn push_pub<W: Sink>(
+    text: &mut W,
     letter: Letter,
     kept: Ownertrust,
     id: KeyId,
     key: &KeyHead<'_>,
-) -> Result<(), Mem>
-    ensures { OnOk result (text.new ≡ text.old ++ pub_line letter kept id (shown_key key.now)) }
+) -> Result<(), W::Error>
+    ensures same { W.name text.new ≡ W.name text.old }
+    ensures adds { OnOk result (W.adds text.old (pub_line letter kept id (shown_key key.now)) text.new) }
 {
     text.push_bytes(b"pub:")?;
     push_field(text, letter_text(letter))?;
@@ -54,20 +61,18 @@ pub fn push_pub(
 }
 
 /// The capabilities, with `D` where the key is disabled.
-fn push_capabilities(text: &mut Printed, caps: &Text, disabled: bool) -> Result<(), Mem>
-    ensures { OnOk result (text.new ≡ text.old ++ ended_field (capabilities_text disabled caps.now)) }
+fn push_capabilities<W: Sink>(text: &mut W, caps: &Text, disabled: bool) -> Result<(), W::Error>
+    ensures same { W.name text.new ≡ W.name text.old }
+    ensures adds { OnOk result (W.adds text.old (ended_field (capabilities_text disabled caps.now)) text.new) }
 {
     text.push_bytes(caps.as_bytes())?;
-    if disabled {
-        text.push(b'D')?;
-    }
-    text.push(b':')?;
-    Ok(())
+    push_field(text, if disabled { b"D" } else { b"" })
 }
 
 /// `fpr:::::::::FINGERPRINT:`
-pub fn push_fpr(text: &mut Printed, fpr: &Fpr) -> Result<(), Mem>
-    ensures { OnOk result (text.new ≡ text.old ++ fpr_line fpr.now) }
+pub fn push_fpr<W: Sink>(text: &mut W, fpr: &Fpr) -> Result<(), W::Error>
+    ensures same { W.name text.new ≡ W.name text.old }
+    ensures adds { OnOk result (W.adds text.old (fpr_line fpr.now) text.new) }
 {
     text.push_bytes(b"fpr:::::::::")?;
     push_hex_field(text, fpr.as_bytes())?;
@@ -76,8 +81,9 @@ pub fn push_fpr(text: &mut Printed, fpr: &Fpr) -> Result<(), Mem>
 }
 
 /// `uid:LETTER::::MADE:EXP:HASH::TEXT:`
-pub fn push_user(text: &mut Printed, letter: Letter, user: &UserHead<'_>) -> Result<(), Mem>
-    ensures { OnOk result (text.new ≡ text.old ++ user_line letter (shown_user user.now)) }
+pub fn push_user<W: Sink>(text: &mut W, letter: Letter, user: &UserHead<'_>) -> Result<(), W::Error>
+    ensures same { W.name text.new ≡ W.name text.old }
+    ensures adds { OnOk result (W.adds text.old (user_line letter (shown_user user.now)) text.new) }
 {
     push_field(text, kind_text(user.kind))?;
     push_field(text, letter_text(letter))?;
@@ -92,8 +98,9 @@ pub fn push_user(text: &mut Printed, letter: Letter, user: &UserHead<'_>) -> Res
 }
 
 /// `sig:!:::ISSUER:MADE:EXP:TRUST:SCOPE::CLASS:`
-pub fn push_cert(text: &mut Printed, cert: &Cert) -> Result<(), Mem>
-    ensures { OnOk result (text.new ≡ text.old ++ cert_line cert.now) }
+pub fn push_cert<W: Sink>(text: &mut W, cert: &Cert) -> Result<(), W::Error>
+    ensures same { W.name text.new ≡ W.name text.old }
+    ensures adds { OnOk result (W.adds text.old (cert_line cert.now) text.new) }
 {
     push_field(text, cert_name(cert))?;
     text.push_bytes(b"!:::")?;
@@ -109,21 +116,30 @@ pub fn push_cert(text: &mut Printed, cert: &Cert) -> Result<(), Mem>
 }
 
 /// The depth and the amount of a trust signature, or nothing where both are 0.
-fn push_depth(text: &mut Printed, cert: &Cert) -> Result<(), Mem>
-    ensures { OnOk result (text.new ≡ text.old ++ ended_field (depth_text cert.now)) }
+fn push_depth<W: Sink>(text: &mut W, cert: &Cert) -> Result<(), W::Error>
+    ensures same { W.name text.new ≡ W.name text.old }
+    ensures adds { OnOk result (W.adds text.old (ended_field (depth_text cert.now)) text.new) }
 {
-    if cert.depth != 0 || cert.amount != 0 {
-        push_number(text, u64::from(cert.depth))?;
-        text.push(b' ')?;
-        push_number(text, u64::from(cert.amount))?;
+    if is_ordinary(cert) {
+        return push_field(text, b"");
     }
-    text.push(b':')?;
+    push_number(text, u64::from(cert.depth))?;
+    text.push(b' ')?;
+    push_number_field(text, u32::from(cert.amount))?;
     Ok(())
 }
 
+/// Whether a certification is an ordinary one, and no trust signature.
+fn is_ordinary(cert: &Cert) -> bool
+    ensures { result ≡ ((cert.now.depth == 0) && (cert.now.amount == 0)) }
+{
+    cert.depth == 0 && cert.amount == 0
+}
+
 /// The class in two digits, and `l` where the certification is local, else `x`.
-fn push_class(text: &mut Printed, cert: &Cert) -> Result<(), Mem>
-    ensures { OnOk result (text.new ≡ text.old ++ ended_field (class_text cert.now)) }
+fn push_class<W: Sink>(text: &mut W, cert: &Cert) -> Result<(), W::Error>
+    ensures same { W.name text.new ≡ W.name text.old }
+    ensures adds { OnOk result (W.adds text.old (ended_field (class_text cert.now)) text.new) }
 {
     let mut digits = [0; 2];
     hex::encode_to_slice(&[cert.class], &mut digits).unwrap();

@@ -5,7 +5,7 @@ ghost use Rattle.wot_types.specs.Refusals.{fault_name, limit_name, ownertrust_fa
 
 use crate::fields::push_key_id;
 use std::alloc::Global;
-use wot_fields::{Printed, push_number};
+use wot_fields::{Printed, Sink, push_number};
 use wot_types::{KeyId, Limit, ListingFault, ListingWhat, Mem, OwnertrustFault, Refusal};
 
 /// The whole `err` line that says why a command is refused.

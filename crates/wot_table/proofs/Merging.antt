@@ -48,6 +48,22 @@ module _ (keys : Keyring) where
       itself : (a : ℕ) → (a == a) ≡ true
       itself a = grind (arith, nat_tests)
 
+-- ---- a list in pieces of one size
+
+module _ {X : Type 0} (size : ℕ) where
+  -- so many pieces are the first of them and the others of what is left
+  pub first_piece : (xs : List X) (m : ℕ) → take (suc m * size) xs ≡ slice_chunk xs size 0 ++ take (m * size) (drop size xs)
+  first_piece xs m =
+      let more : suc m * size ≡ size + m * size = omega arith in
+      let none : 0 * size ≡ 0 = omega arith in
+      ap (λ j. take j xs) more ∙ take-add size (m * size) xs ∙ ap (λ j. take size (drop j xs) ++ take (m * size) (drop size xs)) (sym none)
+
+  -- a later piece is one of what is left behind the first
+  pub later_piece : (xs : List X) (m : ℕ) → slice_chunk xs size (suc m) ≡ slice_chunk (drop size xs) size m
+  later_piece xs m =
+      let more : suc m * size ≡ size + m * size = omega arith in
+      ap (take size) (ap (λ j. drop j xs) more ∙ sym (drop-drop (m * size) size xs))
+
 -- ---- the pieces put together
 
 pub same_pairs : (n k : ℕ) (old new : List (ℕ × ℕ)) → IsPermutation old new → has_pair n k new ≡ has_pair n k old
@@ -65,17 +81,6 @@ module _ (keys : Keyring) (size : ℕ) (n k : ℕ) where
   one_found (Ok pairs) ids ok are = are n k
   one_found (Err e) ids ok are = cc
 
-  first_piece : (ids : List ℕ) (m : ℕ) → take (suc m * size) ids ≡ slice_chunk ids size 0 ++ take (m * size) (drop size ids)
-  first_piece ids m =
-      let more : suc m * size ≡ size + m * size = omega arith in
-      let none : 0 * size ≡ 0 = omega arith in
-      ap (λ j. take j ids) more ∙ take-add size (m * size) ids ∙ ap (λ j. take size (drop j ids) ++ take (m * size) (drop size ids)) (sym none)
-
-  later_piece : (ids : List ℕ) (m : ℕ) → slice_chunk ids size (suc m) ≡ slice_chunk (drop size ids) size m
-  later_piece ids m =
-      let more : suc m * size ≡ size + m * size = omega arith in
-      ap (take size) (ap (λ j. drop j ids) more ∙ sym (drop-drop (m * size) size ids))
-
   -- by the first piece, and the others of what is left of the list
   found_in : (founds : List Found) (ids : List ℕ) → All IsOk founds
       → ((m : ℕ) (one : Found) → slice_get founds m ≡ Some one → IfOk one (λ pairs. ArePairsOf keys (slice_chunk ids size m) pairs.items))
@@ -86,9 +91,9 @@ module _ (keys : Keyring) (size : ℕ) (n k : ℕ) where
   found_in (one ∷ founds) ids whole each =
       ap₂ (λ a b. a || b)
       (one_found one (slice_chunk ids size 0) (All-head IsOk one founds whole) (each 0 one refl))
-      (found_in founds (drop size ids) (All-tail IsOk one founds whole) (λ m r at. subst (λ piece. IfOk r (λ pairs. ArePairsOf keys piece pairs.items)) (later_piece ids m) (each (suc m) r at)))
+      (found_in founds (drop size ids) (All-tail IsOk one founds whole) (λ m r at. subst (λ piece. IfOk r (λ pairs. ArePairsOf keys piece pairs.items)) (later_piece size ids m) (each (suc m) r at)))
       ∙ sym (wanted_both (slice_chunk ids size 0) (take (length founds * size) (drop size ids)))
-      ∙ ap is_wanted (sym (first_piece ids (length founds)))
+      ∙ ap is_wanted (sym (first_piece size ids (length founds)))
 
   -- a pair was found for a piece where it is to be found for the keys
   found_all : (founds : List Found) (ids : List ℕ) → 0 < size → All IsOk founds → IsFoundByPiece keys size ids founds → list_any (has_found n k) founds ≡ is_wanted ids

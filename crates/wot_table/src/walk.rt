@@ -12,7 +12,7 @@ ghost use Rattle.wot_types.specs.Arrangement.{spot_of};
 
 use crate::head::{KeyHead, UserHead};
 use crate::held::{Held, HeldUser};
-use crate::order::in_block_order;
+use crate::order::{BlockOrder, in_block_order};
 use std::alloc::Global;
 use std::collections::btree_map::Iter;
 use std::marker::Model;
@@ -116,6 +116,17 @@ impl<'a> Keyblock<'a> {
             Some(held) => held.certs(steps),
             None => &[],
         }
+    }
+
+    /// The certifications on a user ID in the order of the key's block, where there is room for them; each is a tick.
+    pub fn arrange<L: Ledger>(&self, user: u32, order: &mut BlockOrder<'a>, steps: &mut Steps<L>)
+        requires there { IsSome (spot_of self.now.1 user) }
+        requires room { IfSome (spot_of self.now.1 user) (λ spot. length spot.certs ≤ order.old.most) }
+        ensures block { IfSome (spot_of self.now.1 user) (λ spot. map (λ p. p.now) order.new.certs.items ≡ spot.certs) }
+        ensures most { order.new.most ≡ order.old.most }
+        ensures cost { steps.new ≡ steps.old + length order.new.certs.items }
+    {
+        order.arrange(self.certs(user, steps));
     }
 
     /// The certifications on a user ID in the order of the key's block; each is a tick.

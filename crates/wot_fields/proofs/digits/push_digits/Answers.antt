@@ -1,4 +1,4 @@
-use Rattle.std.proofs.Common.{◌≡◌, ℕ, ◌+◌, ◌*◌, List, ◌++◌, OnOk, slice_set, subst, ◌∙◌, arith}
+use Rattle.std.proofs.Common.{ℕ, ◌+◌, ◌*◌, List, OnOk, slice_set, subst, ◌∙◌, arith}
 use Rattle.std.proofs.lemmas.List.{length-set}
 use Rattle.hex.specs.Hex.{upper_digits}
 use Rattle.hex.proofs.Pairs.{encode_step}
@@ -6,7 +6,7 @@ use Rattle.wot_fields.proofs.HexDigits.{digits_written}
 use Rattle.wot_fields.proofs.digits.push_digits.Goals as goal
 
 pub loop-at-preserved : goal.loop-at-preserved
-loop-at-preserved c =
+loop-at-preserved g c =
     let at = c.loop-at.at in
     let so_far = c.loop-at.invariant in
     record {
@@ -15,7 +15,7 @@ loop-at-preserved c =
           c.upper_digit.ensures c.upper_digit-in-loop-at.ensures so_far.written;
     }
 
-pub returns : goal.returns
-returns c =
+pub returns-clause-adds : goal.returns-clause-adds
+returns-clause-adds g c =
     let written = digits_written upper_digits c.args.bytes.now c.loop-at.digits c.loop-at.at (omega (arith, c.loop-at-test.false)) (omega (arith, c.loop-at.auto.at-end)) c.loop-at.invariant.written in
-    subst (λ (l : List ℕ). OnOk c.push_bytes.result (c.push_bytes.new.self ≡ c.args.text.now ++ l)) written c.push_bytes.ensures
+    subst (λ (l : List ℕ). OnOk c.push_bytes.result (g.W.Sink.adds c.args.text.now l c.push_bytes.new.self)) written c.push_bytes.ensures.adds

@@ -3,7 +3,7 @@ use Rattle.hex.specs.Hex.{encode_upper}
 use Rattle.wot_fields.proofs.digits.push_digits.Given as goal
 
 abbrev pub invariant-loop-at : goal.invariant-loop-at
-invariant-loop-at l = record {
+invariant-loop-at g l = record {
   size : length l.digits ≡ 64;
   written : take (2 * l.at) l.digits ++ encode_upper (drop l.at l.bytes) ≡ encode_upper l.bytes;
 }

@@ -1,4 +1,4 @@
-use Rattle.std.proofs.Common.{◌≡◌, ℕ, ◌++◌, [], All, Some, refl, sym, ap, subst, ◌∙◌, arith}
+use Rattle.std.proofs.Common.{◌≡◌, ℕ, ◌++◌, [], All, Some, sym, ap, subst, ◌∙◌, arith}
 use Rattle.std.specs.FinMap as finmap
 use Rattle.std.specs.List.{flat_map}
 use Rattle.std.proofs.lemmas.List.Elements.{All-head, All-tail}
@@ -56,7 +56,7 @@ loop-keyblock-preserved c =
       counted = (
         so_far.0 ++ more,
         c.add_letters.ensures so_far.0 so_far.1 ∙ ap (λ s. counts_of (so_far.0 ++ user_letters s (rows_of s) key.0 key.1)) same,
-        one_of_left (λ e. user_letters s (rows_of s) e.0 e.1) so_far.0 (so_far.0 ++ more) _ key rest c.loop-keyblock.keyblock-iterator refl step so_far.2,
+        one_of_left (λ e. user_letters s (rows_of s) e.0 e.1) so_far.0 _ key rest c.loop-keyblock.keyblock-iterator step so_far.2,
       );
     }
 

@@ -1,4 +1,4 @@
-use Rattle.std.proofs.Common.{◌+◌, All, drop, is_some, sym, ap, subst, arith}
+use Rattle.std.proofs.Common.{ℕ, ◌+◌, List, [], ◌++◌, All, drop, is_some, refl, sym, ap, subst, ◌∙◌, arith}
 use Rattle.std.proofs.lemmas.List.{drop_all}
 use Rattle.std.proofs.lemmas.List.Elements.{All-cons, All-nil}
 use Rattle.wot_types.specs.Levels.{rows_of}
@@ -19,6 +19,17 @@ push_user_at-requires-clause-there g c =
     let at = at_place (spots_from 0 users) c.loop-user.user (omega (arith, c.loop-user-test.true, count, many)) in
     ap is_some at.1
 
+pub push_user_at-requires-clause-room : goal.push_user_at-requires-clause-room
+push_user_at-requires-clause-room g c = λ sigs. let most = c.loop-user.invariant.most in let room = c.requires.room sigs in omega (arith, most, room)
+
+pub loop-user-init : goal.loop-user-init
+loop-user-init g c = record {
+  same = refl;
+  lines = ([], refl, g.met.W.Sink.none c.args.text.now);
+  fits = λ sigs h. h;
+  most = refl;
+}
+
 pub loop-user-preserved : goal.loop-user-preserved
 loop-user-preserved g c =
     let s = c.args.letters.now.state in
@@ -29,10 +40,17 @@ loop-user-preserved g c =
     let many = c.requires.all in
     let at = at_place spots i (omega (arith, c.loop-user-test.true, count, many)) in
     let P = λ (spot : Spot). FitsUser spot.user in
+    let f = user_lines s (rows_of s) c.args.sigs key.0 key.1 in
+    let so_far = c.loop-user.invariant.lines in
     record {
-      lines = one_of_left (user_lines s (rows_of s) c.args.sigs key.0 key.1) c.loop-user.text c.push_user_at.new.text _ at.0 (drop (i + 1) spots) (drop i spots)
-          (c.in_ok-push_user_at.ensures.lines at.0 at.1) at.2 c.loop-user.invariant.lines;
+      same = c.push_user_at.ensures.same ∙ c.loop-user.invariant.same;
+      lines = (
+        so_far.0 ++ f at.0,
+        one_of_left f so_far.0 _ at.0 (drop (i + 1) spots) (drop i spots) at.2 so_far.1,
+        g.met.W.Sink.both c.args.text.now c.loop-user.text c.push_user_at.new.text so_far.0 (f at.0) so_far.2 (c.in_ok-push_user_at.ensures.lines at.0 at.1),
+      );
       fits = λ sigs rest. c.loop-user.invariant.fits sigs (subst (All P) (sym at.2) (All-cons P at.0 (drop (i + 1) spots) (c.in_ok-push_user_at.ensures.fits at.0 at.1 sigs) rest));
+      most = c.in_ok-push_user_at.ensures.most ∙ c.loop-user.invariant.most;
     }
 
 pub returns-clause-lines : goal.returns-clause-lines
@@ -42,8 +60,9 @@ returns-clause-lines g c =
     let spots = spots_from 0 key.1.users in
     let count = length_spots 0 key.1.users in
     let many = c.requires.all in
-    none_of_left (user_lines s (rows_of s) c.args.sigs key.0 key.1) c.loop-user.text _ (drop c.loop-user.user spots)
-    (drop_all c.loop-user.user spots (omega (arith, c.loop-user-test.false, count, many))) c.loop-user.invariant.lines
+    let so_far = c.loop-user.invariant.lines in
+    let all = none_of_left (user_lines s (rows_of s) c.args.sigs key.0 key.1) so_far.0 _ (drop c.loop-user.user spots) (drop_all c.loop-user.user spots (omega (arith, c.loop-user-test.false, count, many))) so_far.1 in
+    subst (λ (l : List ℕ). g.W.Sink.adds c.args.text.now l c.loop-user.text) all so_far.2
 
 pub returns-clause-fits : goal.returns-clause-fits
 returns-clause-fits g c = λ sigs.

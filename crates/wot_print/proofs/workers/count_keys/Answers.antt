@@ -1,7 +1,7 @@
 use Rattle.std.proofs.Common.{take, take_all, ap, ◌∙◌, arith}
 use Rattle.wot_print.specs.Counts.{counts_of}
 use Rattle.wot_print.specs.KeyLetters.{letters_among, letters_at}
-use Rattle.wot_print.proofs.Counting.{one_key_more}
+use Rattle.wot_print.proofs.Loops.{one_more}
 use Rattle.wot_print.proofs.workers.count_keys.Goals as goal
 
 pub loop-id-preserved : goal.loop-id-preserved
@@ -11,7 +11,7 @@ loop-id-preserved g c =
     let ids = c.args.ids.now in
     let i = c.loop-id.id-index in
     c.count_key.ensures (letters_among s rows (take i ids)) c.loop-id.invariant
-    ∙ ap counts_of (one_key_more (letters_at s rows) ids i c.id-item.result c.loop-id-test.true c.id-item.is)
+    ∙ ap counts_of (one_more (letters_at s rows) ids i c.id-item.result c.loop-id-test.true c.id-item.is)
 
 pub returns : goal.returns
 returns g c =
