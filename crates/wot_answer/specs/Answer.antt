@@ -1,5 +1,5 @@
 -- What a line of a session is answered with.
-use Rattle.std.specs.Prelude.{◌≡◌, ℕ, List, ◌++◌, Bool, false, not, ◌&&◌, ◌||◌}
+use Rattle.std.specs.Prelude.{◌≡◌, ℕ, List, ◌++◌, Bool, true, false, not, None, ◌&&◌, ◌||◌}
 use Rattle.wot_types.specs.declared.edit.Edit.{Edit}
 use Rattle.wot_types.specs.declared.query.Query.{Query}
 use Rattle.wot_types.specs.declared.query.Query.TheVariants as query
@@ -12,6 +12,7 @@ use Rattle.wot_types.specs.Levels.{rows_of}
 use Rattle.wot_types.specs.LineByLine.{Position, after_line, reply_to_line}
 use Rattle.wot_types.specs.Outcome.{Accepts, Outcome, store_after, edited_store, ok_line}
 use Rattle.wot_types.specs.Payload.{IsPayload}
+use Rattle.wot_types.specs.Printing.{list_text}
 use Rattle.wot_types.specs.Store.{Store}
 use Rattle.wot_types.specs.Tally.{tally_line}
 use Rattle.wot_journal.specs.Record.{Framed}
@@ -22,7 +23,7 @@ use Rattle.wot_answer.specs.declared.division.Division.TheVariants.{Between, Wit
 use Rattle.wot_answer.specs.declared.reply.Effect.{Effect}
 use Rattle.wot_answer.specs.declared.reply.Effect.TheVariants.{Nothing, Append, Compact}
 use Rattle.wot_answer.specs.declared.reply.Reply.{Reply}
-use Rattle.wot_answer.specs.declared.reply.Reply.TheVariants.{Text, Recount}
+use Rattle.wot_answer.specs.declared.reply.Reply.TheVariants as told
 
 -- the lines so far are divided so
 abbrev pub IsDivision : Division → lines.Division → Type 0
@@ -55,10 +56,12 @@ abbrev pub effect_by : Query → Effect
 effect_by query.Compact = Compact
 effect_by _ = Nothing
 
--- what is told in a state: a text, or the tally with all rows counted anew
+-- what is told in a state: a text, all keys without certifications or with them, or the tally with all rows counted anew
 abbrev pub reply_of : Reply → State → List ℕ
-reply_of (Text text) s = text.items
-reply_of Recount s = tally_line s (rows_of s) ++ ok_line
+reply_of (told.Text text) s = text.items
+reply_of told.List s = list_text s None false ++ ok_line
+reply_of told.Sigs s = list_text s None true ++ ok_line
+reply_of told.Recount s = tally_line s (rows_of s) ++ ok_line
 
 -- the answer to a command with this outcome in this store: its reply, and the state after it; the store's change is due
 pub record Ends (answered : Answered) (s : Store) (o : Outcome) : Type 0 where

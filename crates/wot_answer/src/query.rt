@@ -100,9 +100,9 @@ fn query_reply(alloc: Global, engine: &Engine, query: &Query) -> Result<Reply, M
 {
     let mut text = match query {
         Query::Check => return Ok(Reply::Recount),
-        Query::List => list(alloc, engine, None, false)?,
+        Query::List => return Ok(Reply::List),
+        Query::Sigs => return Ok(Reply::Sigs),
         Query::ListOne(fpr) => list(alloc, engine, Some(fpr.key_id()), false)?,
-        Query::Sigs => list(alloc, engine, None, true)?,
         Query::SigsOne(fpr) => list(alloc, engine, Some(fpr.key_id()), true)?,
         Query::Export => export(alloc, engine)?,
         Query::Why(fpr, place) => explanation_text(alloc, engine, fpr.key_id(), *place)?,

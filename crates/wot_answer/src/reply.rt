@@ -27,6 +27,10 @@ pub enum Effect {
 pub enum Reply {
     /// The whole reply: nothing for a line with no command.
     Text(Vec<u8>),
+    /// The listing of all keys, and the last line of a reply.
+    List,
+    /// The same with the certifications.
+    Sigs,
     /// The tally of the letters by rows that are counted anew, and the last line of a reply.
     Recount,
 }

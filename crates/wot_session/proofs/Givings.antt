@@ -33,7 +33,8 @@ use Rattle.wot_session.specs.Here.{Holds, IsDue, IsHere, IsPlace, Performs}
 use Rattle.wot_session.specs.declared.session.Session.{Session}
 use Rattle.wot_session.specs.Kept.{AllShow, AllShowEither, IsAround}
 use Rattle.wot_session.specs.Written.{IsAnswered, WritesTo}
-use Rattle.wot_session.specs.Told.{Given, GivenPrefix, IsTelling, Telling, TellingPrefix}
+use Rattle.wot_tell.specs.Telling.{IsTelling, Telling, TellingPrefix}
+use Rattle.wot_session.specs.Told.{Given, GivenPrefix}
 use Rattle.wot_session.proofs.Keeping.{stored_shows}
 use Rattle.wot_session.proofs.Compactings.{epoch_moves, place_moves, same_true}
 use Rattle.wot_session.proofs.Trails.{writes_still}

@@ -11,7 +11,7 @@ use Rattle.wot_types.proofs.Divisions.{after_commands_append, commands_append, d
 use Rattle.wot_session.specs.AtEnd.{at_end, last_commands}
 use Rattle.wot_session.specs.Fed.{last_lines, open_from, whole_from}
 use Rattle.wot_session.specs.Input.{commands_at, division_at, end_at, so_far_at, whole_at}
-use Rattle.wot_session.specs.Kept.{IsPrefixOf}
+use Rattle.wot_tell.specs.Telling.{IsPrefixOf}
 use Rattle.wot_session.specs.Turn.{commands_fed, division_fed}
 use Rattle.wot_session.proofs.Feeds.{over_commands, over_lines}
 use Rattle.wot_session.proofs.Parts.{last_is, open_start, whole_append, whole_start}

@@ -12,5 +12,4 @@ mod Trails
 mod Runs
 mod Sayings
 mod Splits
-mod Texts
 mod Turns

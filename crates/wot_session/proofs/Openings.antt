@@ -27,7 +27,8 @@ use Rattle.wot_answer.specs.declared.block.Block.{Block}
 use Rattle.wot_session.specs.Here.{Holds}
 use Rattle.wot_session.specs.Input as input
 use Rattle.wot_session.specs.Input.{HasQuit, IsFurther, IsOnTime, IsPunctual, IsRead, commands_at}
-use Rattle.wot_session.specs.Kept.{IsPrefixOf, IsSafe, IsWhole, Kept}
+use Rattle.wot_tell.specs.Telling.{IsPrefixOf}
+use Rattle.wot_session.specs.Kept.{IsSafe, IsWhole, Kept}
 use Rattle.wot_session.specs.Open.{IsOpen}
 use Rattle.wot_session.specs.Run.{RunEnded, IsCrashSafe, IsUntouched, IsWritten, Ran, RunStopped, Unopened, WritesForChanges}
 use Rattle.wot_session.specs.Stop.{status_of}

@@ -20,7 +20,8 @@ use Rattle.wot_store.specs.declared.place.Place.{Place}
 use Rattle.wot_session.specs.declared.stop.Stop.{Stop}
 use Rattle.wot_session.specs.AtEnd.{at_end, last_commands}
 use Rattle.wot_session.specs.Fed.{open_from}
-use Rattle.wot_session.specs.Kept.{IsPrefixOf, IsWhole, Kept}
+use Rattle.wot_tell.specs.Telling.{IsPrefixOf}
+use Rattle.wot_session.specs.Kept.{IsWhole, Kept}
 use Rattle.wot_session.specs.Open.{IsOpen}
 use Rattle.wot_session.specs.Told.{IsAnswering, Said, SaidPrefix}
 use Rattle.wot_session.specs.Turn.{StoppedTurn, TookAll, Turned, commands_fed}

@@ -22,7 +22,7 @@ use Rattle.wot_session.specs.declared.stop.Stop.TheVariants.{Memory}
 use Rattle.wot_session.proofs.Keeping.{kept_here, kept_more, kept_then, stored_shows, whole_here, whole_more, whole_then}
 use Rattle.wot_session.specs.Written.{IsAnswered, WritesTo, Written}
 use Rattle.wot_session.proofs.Trails.{written_more, written_none, written_one, written_start, written_then}
-use Rattle.wot_session.proofs.Texts.{told_none, told_then, told_then_prefix, prefix_more}
+use Rattle.wot_tell.proofs.Texts.{told_none, told_then, told_then_prefix, prefix_more}
 
 -- nothing was done yet
 pub said_none : {place : Place} (p : Progress) (x : Seen) → IsStored place p.store x.disks → Said p [] x x

@@ -6,11 +6,8 @@ use Rattle.wot_types.specs.Session.{Progress, acknowledged_count, after_command,
 use Rattle.wot_site.specs.Disk.{Disks, Image, Leaves}
 use Rattle.wot_site.specs.Seen.{Moment, Seen}
 use Rattle.wot_store.specs.Shows.{Shows}
+use Rattle.wot_tell.specs.Telling.{IsPrefixOf}
 use Rattle.wot_session.specs.Open.{IsOpen}
-
--- some text begins with this one
-abbrev pub IsPrefixOf : List ℕ → List ℕ → Type 0
-IsPrefixOf prefix text = (rest : List ℕ) × (prefix ++ rest ≡ text)
 
 -- whatever a crash leaves of the sides shows this store
 abbrev pub AllShow : Store → Disks → Type 0

@@ -12,7 +12,8 @@ use Rattle.wot_site.specs.Work.{Quiet, Since, Works, moment_of}
 use Rattle.wot_store.specs.Opening.{AreBlank, AreUnwritten, FindsBad, IsSettled, Opening, WritesOnlyBlank}
 use Rattle.wot_store.specs.Shows.{Shows, all_settled}
 use Rattle.wot_session.specs.Input.{IsPunctual, division_at, so_far_at}
-use Rattle.wot_session.specs.Kept.{IsPrefixOf, IsSafe, ShowsState}
+use Rattle.wot_tell.specs.Telling.{IsPrefixOf}
+use Rattle.wot_session.specs.Kept.{IsSafe, ShowsState}
 use Rattle.wot_session.specs.Open.{IsOpen}
 use Rattle.wot_session.specs.Stop.{Causes}
 use Rattle.wot_session.specs.Turn.{IsBetween}

@@ -1,49 +1,17 @@
 -- What was told, and what a crash left meanwhile.
-use Rattle.std.specs.Prelude.{ℕ, ◌≡◌, ◌⊎◌, List, ◌++◌, Result, OnOk, IfErr}
+use Rattle.std.specs.Prelude.{ℕ, ◌≡◌, ◌⊎◌, List, Result, OnOk, IfErr}
 use Rattle.wot_types.specs.Store.{Store}
 use Rattle.wot_types.specs.Commands.{Command}
 use Rattle.wot_types.specs.Session.{Progress, replies}
-use Rattle.wot_site.specs.Disk.{Disks}
-use Rattle.wot_site.specs.Seen.{Faults, Moment, Seen}
+use Rattle.wot_site.specs.Seen.{Faults, Seen}
 use Rattle.wot_site.specs.Site.{NoneFell}
 use Rattle.wot_site.specs.Work.{Since, moment_of}
-use Rattle.wot_session.specs.Kept.{IsAround, IsPrefixOf, IsWhole, Kept}
+use Rattle.wot_tell.specs.Telling.{Told, ToldPrefix}
+use Rattle.wot_session.specs.Kept.{IsAround, IsWhole, Kept}
 use Rattle.wot_session.specs.Written.{IsAnswered, WritesTo, Written}
 use Rattle.wot_session.specs.Stop.{StopCauses}
 use Rattle.wot_session.specs.declared.stop.Stop.{Stop}
 use Rattle.wot_session.specs.declared.stop.Stop.TheVariants.{DiskFault, TellFault, Memory}
-
--- this text was told, and nothing was taken
-pub record Told (text : List ℕ) (old new : Seen) : Type 0 where
-  pub told : new.told ≡ old.told ++ text
-  pub left : new.left ≡ old.left
-  pub taken : new.taken ≡ old.taken
-  pub asks : new.asks ≡ old.asks
-
--- a prefix of this text was told
-pub record ToldPrefix (text : List ℕ) (old new : Seen) : Type 0 where
-  pub prefix : List ℕ
-  pub is_prefix : IsPrefixOf prefix text
-  pub told : Told prefix old new
-
--- a moment at which a prefix of this text was told after another, with the sides as they were
-pub record IsTelling (sides : Disks) (before text : List ℕ) (m : Moment) : Type 0 where
-  pub disks : m.disks ≡ sides
-  pub prefix : List ℕ
-  pub is_prefix : IsPrefixOf prefix text
-  pub told : m.told ≡ before ++ prefix
-
--- this text was told, and nothing else was done
-pub record Telling (text : List ℕ) (old new : Seen) : Type 0 where
-  pub told : Told text old new
-  pub disks : new.disks ≡ old.disks
-  pub since : Since (IsTelling old.disks old.told text) old new
-
--- a prefix of it was told
-pub record TellingPrefix (text : List ℕ) (old new : Seen) : Type 0 where
-  pub prefix : List ℕ
-  pub is_prefix : IsPrefixOf prefix text
-  pub telling : Telling prefix old new
 
 -- the store was led from the one to the other, and then the reply was told; nothing was written but what leads there
 pub record Given (s t : Store) (reply : List ℕ) (old new : Seen) : Type 0 where

@@ -8,7 +8,8 @@ use Rattle.wot_types.specs.Session.{at_start, commands_of, end_of, output_of}
 use Rattle.wot_site.specs.Seen.{Seen}
 use Rattle.wot_site.specs.Work.{Since, moment_of}
 use Rattle.wot_session.specs.Input.{HasQuit, IsPunctual, IsRead, division_at, so_far_at}
-use Rattle.wot_session.specs.Kept.{IsPrefixOf, IsWhole, Kept}
+use Rattle.wot_tell.specs.Telling.{IsPrefixOf}
+use Rattle.wot_session.specs.Kept.{IsWhole, Kept}
 use Rattle.wot_session.specs.Open.{IsOpen}
 use Rattle.wot_session.specs.Written.{Written}
 use Rattle.wot_session.specs.Turn.{IsBetween}

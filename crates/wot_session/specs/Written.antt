@@ -10,7 +10,7 @@ use Rattle.wot_site.specs.Seen.{Moment, Seen}
 use Rattle.wot_site.specs.Work.{Quiet}
 use Rattle.wot_site.specs.declared.side.Side.{Side}
 use Rattle.wot_store.specs.Written.{IsShownSide, Spares, WritesBehind}
-use Rattle.wot_session.specs.Kept.{IsPrefixOf}
+use Rattle.wot_tell.specs.Telling.{IsPrefixOf}
 
 -- of these sides the shown one alone was written, and behind the end of this store's journal alone
 pub record WritesRecord (s : Store) (d e : Disks) : Type 0 where

@@ -16,12 +16,12 @@ ghost use Rattle.wot_session.specs.Here.{CanGive, Holds, IsAt, IsDue, IsHere, Is
 ghost use Rattle.wot_session.specs.Told.{Given, GivenPrefix, HasStopCause, Said, SaidPrefix, StopsTelling};
 ghost use Rattle.wot_session.specs.Turn.{Turned, StoppedTurn};
 
-use crate::counting::reply_text;
 use crate::lines::split_line;
 use crate::open_line::OpenLine;
 use crate::perform::do_effect;
+use crate::ready::make_ready;
 use crate::stop::Stop;
-use crate::tell::tell_all;
+use crate::tell::tell_ready;
 use std::alloc::Global;
 use std::mem;
 use std::thread::Threads;
@@ -170,15 +170,15 @@ impl Session {
             return Err(Stop::Memory);
         };
         let Answer { reply, effect, .. } = answer;
-        let text = match reply_text(workers, self.alloc, engine, reply) {
-            Ok(text) => text,
+        let ready = match make_ready(workers, self.alloc, engine, reply) {
+            Ok(ready) => ready,
             Err(Mem::Memory) => return Err(Stop::Memory),
         };
         match do_effect(self.alloc, site, engine, self.place, &effect) {
             Ok(place) => self.place = place,
             Err(stop) => return Err(stop),
         }
-        match tell_all(site, &text) {
+        match tell_ready(site, ready) {
             Ok(()) => Ok(()),
             Err(Failed) => Err(Stop::TellFault),
         }

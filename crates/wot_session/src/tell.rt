@@ -1,24 +1,49 @@
-//! Telling a whole text.
+//! Telling what was made ready.
 
-ghost use Rattle.std.specs.Prelude.{OnOk, OnErr};
+ghost use Rattle.std.specs.Prelude.{◌≡◌, ◌++◌, OnOk, OnErr, IsOk};
+ghost use Rattle.wot_types.specs.Outcome.{ok_line};
 ghost use Rattle.wot_site.specs.Seen.{Honestly};
 ghost use Rattle.wot_site.specs.Site.{HasCause, tell_faults};
-ghost use Rattle.wot_session.specs.Told.{Telling, TellingPrefix};
+ghost use Rattle.wot_tell.specs.Telling.{Telling, TellingPrefix};
+ghost use Rattle.wot_session.specs.Ready.{text_of};
 
+use crate::ready::Ready;
+use std::convert::Infallible;
+use wot_fields::Sink;
+use wot_print::Printout;
 use wot_site::{Failed, Site};
+use wot_tell::{Teller, tell_all};
 
-/// Tells all of the bytes, a part of them at a time. Nothing is called for no bytes.
-pub fn tell_all<S: Site>(site: &mut S, bytes: &[u8]) -> Result<(), Failed>
-    ensures told { OnOk result (Honestly (S.seen site.old) (S.seen site.new) (Telling bytes.now)) }
-    ensures prefix { OnErr result (Honestly (S.seen site.old) (S.seen site.new) (TellingPrefix bytes.now)) }
+/// Tells it. No memory is taken.
+pub fn tell_ready<S: Site>(site: &mut S, ready: Ready<'_>) -> Result<(), Failed>
+    ensures told { OnOk result (Honestly (S.seen site.old) (S.seen site.new) (Telling (text_of ready.entry))) }
+    ensures prefix { OnErr result (Honestly (S.seen site.old) (S.seen site.new) (TellingPrefix (text_of ready.entry))) }
     ensures cause { HasCause tell_faults (S.faults site.old) (S.faults site.new) result }
 {
-    let mut done = 0;
-    while done < bytes.len() {
-        match site.tell(&bytes[done..]) {
-            Ok(n) => done += n,
-            Err(failed) => return Err(failed),
-        }
+    match ready {
+        Ready::Text(text) => tell_all(site, &text),
+        Ready::Printout(printout) => tell_printout(site, printout),
     }
-    Ok(())
+}
+
+// Tells a listing while it is printed, and then the last line of a reply.
+fn tell_printout<S: Site>(site: &mut S, printout: Printout<'_>) -> Result<(), Failed>
+    ensures told { OnOk result (Honestly (S.seen site.old) (S.seen site.new) (Telling (printout.entry ++ ok_line))) }
+    ensures prefix { OnErr result (Honestly (S.seen site.old) (S.seen site.new) (TellingPrefix (printout.entry ++ ok_line))) }
+    ensures cause { HasCause tell_faults (S.faults site.old) (S.faults site.new) result }
+{
+    let mut teller = Teller::new(site);
+    taken(printout.print(&mut teller));
+    taken(teller.push_bytes(b"ok\n"));
+    teller.finish()
+}
+
+// A teller takes whatever is printed.
+fn taken(printed: Result<(), Infallible>)
+    ensures { IsOk printed }
+{
+    match printed {
+        Ok(()) => (),
+        Err(never) => match never {},
+    }
 }

@@ -1,5 +1,6 @@
 use Rattle.std.proofs.Common.{◌∙◌}
 use Rattle.wot_site.proofs.Honest.{honest_and, honest_weaker}
+use Rattle.wot_session.specs.Ready.{text_of}
 use Rattle.wot_session.proofs.Givings.{due_performs, due_text, given_here, given_none, giving_all, giving_prefix, nothing_written, still_holds, undone}
 use Rattle.wot_session.proofs.session.Session.give.Goals as goal
 
@@ -20,26 +21,26 @@ returns-in-Err-clause-prefix g c s after reply due holds =
     honest_weaker _ _ _ _ (honest_and _ _ _ _ (c.do_effect.ensures.any_moment s t performs holds) (c.do_effect.ensures.written s t performs holds))
     (λ x y both. given_none s t reply x y both.0 both.1)
 
-pub returns-in-Ok-tell_all-clause-here : goal.returns-in-Ok-tell_all-clause-here
-returns-in-Ok-tell_all-clause-here g c s after reply due holds =
+pub returns-in-Ok-tell_ready-clause-here : goal.returns-in-Ok-tell_ready-clause-here
+returns-in-Ok-tell_ready-clause-here g c s after reply due holds =
     let t = after.progress.store in
     let performs = due_performs c.args.self.now c.in-Some.engine c.args.answer s after reply c.in-Some.is due in
-    given_here c.args.self.now c.in-Some.engine c.args.answer s after reply c.in-Some.is due c.in-Ok-do_effect.place (g.S.Site.seen c.tell_all.new.site)
+    given_here c.args.self.now c.in-Some.engine c.args.answer s after reply c.in-Some.is due c.in-Ok-do_effect.place (g.S.Site.seen c.tell_ready.new.site)
     (c.in-Ok-do_effect.ensures.place s t performs)
-    (still_holds c.in-Ok-do_effect.place t c.deref.result.now _ _ (c.in-Ok-do_effect.ensures.holds s t performs holds) c.in-Ok-tell_all.ensures.told)
+    (still_holds c.in-Ok-do_effect.place t (text_of c.in-Ok.ready) _ _ (c.in-Ok-do_effect.ensures.holds s t performs holds) c.in-Ok-tell_ready.ensures.told)
 
-pub returns-in-Ok-tell_all-clause-given : goal.returns-in-Ok-tell_all-clause-given
-returns-in-Ok-tell_all-clause-given g c s after reply due holds =
+pub returns-in-Ok-tell_ready-clause-given : goal.returns-in-Ok-tell_ready-clause-given
+returns-in-Ok-tell_ready-clause-given g c s after reply due holds =
     let t = after.progress.store in
     let performs = due_performs c.args.self.now c.in-Some.engine c.args.answer s after reply c.in-Some.is due in
     giving_all _ s t _ _ _ (c.in-Ok-do_effect.ensures.holds s t performs holds)
-    (honest_and _ _ _ _ (c.do_effect.ensures.any_moment s t performs holds) (c.do_effect.ensures.written s t performs holds)) c.deref.result.now reply
-    (c.deref.ensures.value ∙ c.in-Ok.ensures ∙ due_text c.args.self.now c.in-Some.engine c.args.answer s after reply c.in-Some.is due) c.in-Ok-tell_all.ensures.told
+    (honest_and _ _ _ _ (c.do_effect.ensures.any_moment s t performs holds) (c.do_effect.ensures.written s t performs holds)) (text_of c.in-Ok.ready) reply
+    (c.in-Ok.ensures ∙ due_text c.args.self.now c.in-Some.engine c.args.answer s after reply c.in-Some.is due) c.in-Ok-tell_ready.ensures.told
 
 pub returns-clause-prefix : goal.returns-clause-prefix
 returns-clause-prefix g c s after reply due holds =
     let t = after.progress.store in
     let performs = due_performs c.args.self.now c.in-Some.engine c.args.answer s after reply c.in-Some.is due in
     giving_prefix _ s t _ _ _ (c.in-Ok-do_effect.ensures.holds s t performs holds)
-    (honest_and _ _ _ _ (c.do_effect.ensures.any_moment s t performs holds) (c.do_effect.ensures.written s t performs holds)) c.deref.result.now reply
-    (c.deref.ensures.value ∙ c.in-Ok.ensures ∙ due_text c.args.self.now c.in-Some.engine c.args.answer s after reply c.in-Some.is due) c.in-Err-tell_all.ensures.prefix
+    (honest_and _ _ _ _ (c.do_effect.ensures.any_moment s t performs holds) (c.do_effect.ensures.written s t performs holds)) (text_of c.in-Ok.ready) reply
+    (c.in-Ok.ensures ∙ due_text c.args.self.now c.in-Some.engine c.args.answer s after reply c.in-Some.is due) c.in-Err-tell_ready.ensures.prefix

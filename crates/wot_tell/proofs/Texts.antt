@@ -9,7 +9,7 @@ use Rattle.wot_site.specs.Seen.{Moment, Seen}
 use Rattle.wot_site.specs.Site.{Tells, Stays, moments_telling}
 use Rattle.wot_site.specs.Work.{moment_of}
 use Rattle.wot_site.proofs.Works.{since_start, since_then, since_weaker}
-use Rattle.wot_session.specs.Told.{IsTelling, Told, ToldPrefix, Telling, TellingPrefix}
+use Rattle.wot_tell.specs.Telling.{IsTelling, Told, ToldPrefix, Telling, TellingPrefix}
 
 -- before the first byte
 pub told_none : (x : Seen) → Told [] x x
@@ -58,9 +58,11 @@ telling_each sides before text done (b ∷ rest) told split so_far =
     (record { disks = refl; prefix = done ++ b ∷ []; is_prefix = (rest, joined); told = next })
     (telling_each sides before text (done ++ b ∷ []) rest (told ++ b ∷ []) joined next)
 
+-- the first moment, before a byte is told
 telling_first : (text : List ℕ) (x : Seen) → IsTelling x.disks x.told text (moment_of x)
 telling_first text x = record { disks = refl; prefix = []; is_prefix = (text, refl); told = sym (append-nil x.told) }
 
+-- a call that told some bytes
 tells_telling : (n : ℕ) (bytes : List ℕ) (y z : Seen) → Tells n bytes y z → Telling (take n bytes) y z
 tells_telling n bytes y z tells = record {
   told = record {
@@ -78,10 +80,12 @@ tells_telling n bytes y z tells = record {
   };
 }
 
+-- before the first byte, with each moment
 pub telling_none : (x : Seen) → Telling [] x x
 telling_none x = record { told = told_none x; disks = refl; since = since_start _ x (telling_first [] x) }
 
-telling_then : (front back : List ℕ) (x y z : Seen) → Telling front x y → Telling back y z → Telling (front ++ back) x z
+-- a text and then another, with each moment
+pub telling_then : (front back : List ℕ) (x y z : Seen) → Telling front x y → Telling back y z → Telling (front ++ back) x z
 telling_then front back x y z before after = record {
   told = told_then front back x y z before.told after.told;
   disks = after.disks ∙ before.disks;
@@ -103,6 +107,24 @@ telling_then front back x y z before after = record {
       is_prefix = (is.is_prefix.0, append_assoc front is.prefix is.is_prefix.0 ∙ ap (λ back. front ++ back) is.is_prefix.1);
       told = is.told ∙ ap (λ told. told ++ is.prefix) before.told.told ∙ append_assoc x.told front is.prefix;
     }
+
+-- a prefix of a text, where more was to be told
+pub telling_more : (text more : List ℕ) (x y : Seen) → TellingPrefix text x y → TellingPrefix (text ++ more) x y
+telling_more text more x y telling =
+    let back = telling.is_prefix.0 in
+    record {
+      prefix = telling.prefix;
+      is_prefix = (back ++ more, sym (append_assoc telling.prefix back more) ∙ ap (λ text. text ++ more) telling.is_prefix.1);
+      telling = telling.telling;
+    }
+
+-- a text and then a prefix of another
+pub telling_then_prefix : (text more : List ℕ) (x y z : Seen) → Telling text x y → TellingPrefix more y z → TellingPrefix (text ++ more) x z
+telling_then_prefix text more x y z before after = record {
+  prefix = text ++ after.prefix;
+  is_prefix = (after.is_prefix.0, append_assoc text after.prefix after.is_prefix.0 ∙ ap (λ back. text ++ back) after.is_prefix.1);
+  telling = telling_then text after.prefix x y z before after.telling;
+}
 
 -- so many bytes of a text, and then the first of those that are left
 pub tells_more : (bytes : List ℕ) (done n : ℕ) (x y z : Seen) → Telling (take done bytes) x y

@@ -1,7 +1,7 @@
 use Rattle.std.proofs.Common.{◌++◌, ap, ◌∙◌}
 use Rattle.wot_types.specs.Levels.{rows_of}
 use Rattle.wot_types.specs.Tally.{tally_line}
-use Rattle.wot_session.proofs.counting.recounted_tally.Goals as goal
+use Rattle.wot_session.proofs.ready.recounted_tally.Goals as goal
 
 pub returns : goal.returns
 returns g c =

@@ -1,8 +1,8 @@
 use Rattle.std.proofs.Common.{◌∙◌, length, ap, length-drop, arith}
 use Rattle.std.proofs.lemmas.List.{take_rest}
 use Rattle.wot_site.proofs.Honest.{honest_then}
-use Rattle.wot_session.proofs.Texts.{tells_more, tells_stops}
-use Rattle.wot_session.proofs.tell.tell_all.Goals as goal
+use Rattle.wot_tell.proofs.Texts.{tells_more, tells_stops}
+use Rattle.wot_tell.proofs.tell.tell_all.Goals as goal
 
 pub loop-done-preserved : goal.loop-done-preserved
 loop-done-preserved g c = record {

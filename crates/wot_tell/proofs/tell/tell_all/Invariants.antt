@@ -1,7 +1,7 @@
 use Rattle.std.proofs.Common.{◌≡◌, ◌-◌, ◌≤◌, length, take}
 use Rattle.wot_site.specs.Seen.{Honestly}
-use Rattle.wot_session.specs.Told.{Telling}
-use Rattle.wot_session.proofs.tell.tell_all.Given as goal
+use Rattle.wot_tell.specs.Telling.{Telling}
+use Rattle.wot_tell.proofs.tell.tell_all.Given as goal
 
 abbrev pub invariant-loop-done : goal.invariant-loop-done
 invariant-loop-done g l = record {
