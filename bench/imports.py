@@ -2,7 +2,7 @@
 import os
 
 import keyrings
-from measure import megabytes, middle, opened, ran, shown, spread, table, turns
+from measure import megabytes, middle, opened, ran, session, shown, spread, table, turns
 
 KEYS = 100_000
 
@@ -10,6 +10,19 @@ KEYS = 100_000
 def import_of(bench, listing):
     """Seconds of an import into an empty store."""
     return ran([bench.program, "import"], listing, bench.store("importing"))
+
+
+def import_in_session(bench, listing):
+    """Seconds of the same in an open session, over pipes."""
+    with open(listing, encoding="utf-8") as file:
+        block = f"import\n{file.read()}.\n"
+    with session([bench.program], bench.store("importing")) as program:
+        return program.accept(block)
+
+
+def less(seconds, others):
+    """Turn by turn, without what takes as long as another thing."""
+    return [one - other for one, other in zip(seconds, others)]
 
 
 def part(bench):
@@ -21,15 +34,21 @@ def part(bench):
         jobs = (
             lambda path=listing: ran([cut], path),
             lambda path=listing: import_of(bench, path),
+            lambda path=listing: import_in_session(bench, path),
             lambda where=recorded: opened([bench.program], where),
             lambda where=recorded: ran([bench.program, "list", keyrings.fingerprint(1)], where=where),
         )
-        floor, took, again, asked = turns(*jobs)
+        floor, took, within, again, asked = turns(*jobs)
         size, peak = os.path.getsize(listing), bench.peak(["import"], listing, bench.store("importing"))
         times_cut = spread(took, floor)
         rows.append((name, megabytes(size), *map(shown, map(middle, (floor, took))), times_cut, megabytes(peak), f"{peak / size:.2f}"))
-        openings.append((name, *(shown(middle(seconds)) for seconds in (again, asked)), *(spread(seconds, took) for seconds in (again, asked))))
+        openings.append((name, *opening_of(again, less(within, floor)), *opening_of(asked, less(took, floor))))
     columns = ("listing", "size", "cut alone", "import", "times the cut", "memory at the peak", "times the listing")
     table(f"Import of {KEYS:,} keys with four certifications each", columns, rows)
-    columns = ("listing", "a session", "a run of one query", "the session, times the import", "the run, times the import")
+    columns = ("listing", "opening a session", "an import in a session, less the cut", "times that", "a run of one query", "a run of one import, less the cut", "times that")
     table("Opening the record of such an import", columns, openings)
+
+
+def opening_of(seconds, others):
+    """What an opening takes, beside another thing."""
+    return shown(middle(seconds)), shown(middle(others)), spread(seconds, others)
