@@ -8,13 +8,14 @@ ghost use Rattle.wot_live.specs.FoundCounts.{IsCountedByPiece, found_pairs, kept
 ghost use Rattle.wot_workers.specs.Pieces.{IsPieceSize};
 
 use crate::counts::{Counts, have_candidates};
+use crate::counts_of_key::KeyCounts;
 use crate::key_counts::counts_at;
 use std::alloc::{AllocError, Global};
 use std::marker::Brand;
 use std::sync::ledger::{Blank, Ledger};
 use std::thread::{Threads, map_chunks};
 use wot_table::LentState;
-use wot_types::{Count, KeyId, List, Mem, Rows, Steps};
+use wot_types::{KeyId, Mem, Rows, Steps};
 use wot_workers::{Gate, Workers, piece_size};
 
 /// Adds the counts of a key, if it has a candidate.
@@ -22,14 +23,14 @@ fn push_counts_of_id<L: Ledger>(
     state: &LentState<'_>,
     rows: &Rows,
     id: KeyId,
-    to: &mut Vec<(KeyId, List<Count>)>,
+    to: &mut Vec<(KeyId, KeyCounts)>,
     steps: &mut Steps<L>,
 ) -> Result<(), Mem>
     ensures { OnOk result (to.new.items ≡ to.old.items ++ kept_pair id (counts_rule state.now.keys state.now.options state.now.date rows.now id)) }
 {
     let counts = counts_at(state, rows, id, steps)?;
     if have_candidates(counts.as_slice()) {
-        to.push((id, counts))?;
+        to.push((id, KeyCounts::of(counts)))?;
     }
     Ok(())
 }
@@ -40,7 +41,7 @@ fn count_keys<L: Ledger>(
     rows: &Rows,
     ids: &[KeyId],
     blank: Blank,
-) -> Result<Vec<(KeyId, List<Count>)>, Mem>
+) -> Result<Vec<(KeyId, KeyCounts)>, Mem>
     requires own { (blank.name ≡ L.name) × (blank.parts ≡ L.parts) × (0 < L.parts) }
     ensures { IfOk result (λ pairs. pairs.items ≡ kept_pairs state.now rows.now ids.now) }
 {
@@ -57,7 +58,7 @@ fn count_piece(
     state: &LentState<'_>,
     rows: &Rows,
     ids: &[KeyId],
-) -> Result<Vec<(KeyId, List<Count>)>, Mem>
+) -> Result<Vec<(KeyId, KeyCounts)>, Mem>
     ensures { IfOk result (λ pairs. pairs.items ≡ kept_pairs state.now rows.now ids.now) }
 {
     count_keys::<Brand>(state, rows, ids, Blank::new(1))
@@ -70,7 +71,7 @@ fn count_pieces<R: Threads + Sync, G: Gate + Sync>(
     rows: &Rows,
     ids: &[KeyId],
     size: usize,
-) -> Result<Vec<Result<Vec<(KeyId, List<Count>)>, Mem>>, AllocError>
+) -> Result<Vec<Result<Vec<(KeyId, KeyCounts)>, Mem>>, AllocError>
     requires size { IsPieceSize workers.now.count (length ids.now) size }
     ensures { IfOk result (λ found. IsCountedByPiece state.now rows.now size ids.now found.items) }
 {
@@ -79,7 +80,7 @@ fn count_pieces<R: Threads + Sync, G: Gate + Sync>(
         state.table().alloc(),
         ids,
         size,
-        &|_start: usize, piece: &[KeyId]| -> Result<Vec<(KeyId, List<Count>)>, Mem>
+        &|_start: usize, piece: &[KeyId]| -> Result<Vec<(KeyId, KeyCounts)>, Mem>
             ensures { IfOk result (λ pairs. pairs.items ≡ kept_pairs state.entry.now rows.entry.now piece.entry.now) }
         { count_piece(state, rows, piece) },
     )
@@ -88,8 +89,8 @@ fn count_pieces<R: Threads + Sync, G: Gate + Sync>(
 /// The counts of all pieces together.
 fn merged(
     alloc: Global,
-    pieces: Vec<Result<Vec<(KeyId, List<Count>)>, Mem>>,
-) -> Result<Vec<(KeyId, List<Count>)>, Mem>
+    pieces: Vec<Result<Vec<(KeyId, KeyCounts)>, Mem>>,
+) -> Result<Vec<(KeyId, KeyCounts)>, Mem>
     ensures whole { IfOk result (λ _. All IsOk pieces.items) }
     ensures exact { IfOk result (λ pairs. pairs.items ≡ flat_map found_pairs pieces.items) }
 {

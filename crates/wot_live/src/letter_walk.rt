@@ -10,17 +10,18 @@ ghost use Rattle.wot_live.specs.KeyLetters.{AreOfKey};
 
 use crate::beside::Beside;
 use crate::counts::Counts;
+use crate::counts_of_key::KeyCounts;
 use crate::letters::Letters;
 use std::marker::Model;
 use wot_table::LentState;
-use wot_types::{Count, KeyId, List, Row, Rows};
+use wot_types::{Count, KeyId, Row, Rows};
 
 /// What tells the letters of keys that come in rising order of their key IDs: rows and counts are walked beside them.
 #[derive(Drop)]
 pub struct LetterWalk<'a> {
     state: LentState<'a>,
     rows: Beside<'a, Row>,
-    counts: Beside<'a, List<Count>>,
+    counts: Beside<'a, KeyCounts>,
     /// The key that was asked for last.
     from: KeyId,
 }
@@ -78,7 +79,7 @@ fn again<'a>(state: &LentState<'a>) -> LentState<'a>
 }
 
 /// The counts of a key, and none where nothing is kept of it.
-fn kept_at<'a>(counts: &mut Beside<'a, List<Count>>, id: KeyId) -> &'a [Count]
+fn kept_at<'a>(counts: &mut Beside<'a, KeyCounts>, id: KeyId) -> &'a [Count]
     ensures kept { (m : CountMap) → IsAhead m id counts.old → result.now ≡ counts_at m id }
     ensures ahead { (m : CountMap) → IsAhead m id counts.old → IsAhead m id counts.new }
 {
