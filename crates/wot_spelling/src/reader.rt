@@ -9,6 +9,9 @@ use std::alloc::Global;
 use std::marker::Model;
 use wot_types::{Fpr, KeyId, List, Mem, Options, Ownertrust, Scope, Text, Trust, UserKind};
 
+/// A row without a scope, the shortest part that stands in a list, takes so many bytes.
+const SHORTEST: usize = 12;
+
 /// The bytes that are left to read.
 #[derive(Drop)]
 pub struct Reader<'a> {
@@ -201,12 +204,14 @@ impl<'a> Reader<'a> {
     }
 
     #[tactic(auto, unfolding(crate::specs::Reading::list_at))]
-    /// A count, and that many parts. What is kept grows with the bytes that are read, and not with the count.
+    /// A count, and that many parts. Room for them is taken at once, and for no more than the bytes that are left can spell: what is kept grows
+    /// with the bytes, whatever the count.
     pub fn list<T: Part>(&mut self, alloc: Global) -> Result<List<T>, Stop>
         ensures { Gives (list_at T.at self.old) result self.new }
     {
         let count = self.number_4()?;
-        let mut parts = List::new(alloc);
+        let room = (count as usize).min(self.len() / SHORTEST);
+        let mut parts = List::with_capacity(alloc, room)?;
         for _ in 0..count {
             let part = T::read(alloc, self)?;
             parts.push(part)?;

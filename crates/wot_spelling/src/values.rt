@@ -10,7 +10,7 @@ use crate::reader::{Part, Reader};
 use crate::stop::Stop;
 use crate::writer::Writer;
 use std::alloc::Global;
-use wot_types::{Cert, Entry, Key, Mem, Ownertrust, Row, User, UserKind};
+use wot_types::{Cert, Entry, Key, Mem, Ownertrust, Row, User};
 
 impl Part for Cert {
     ghost bytes = { cert_bytes };

@@ -9,7 +9,7 @@ use Rattle.wot_site.specs.Seen.{Moment, Seen}
 use Rattle.wot_site.specs.Site.{Tells, Stays, moments_telling}
 use Rattle.wot_site.specs.Work.{moment_of}
 use Rattle.wot_site.proofs.Works.{since_start, since_then, since_weaker}
-use Rattle.wot_tell.specs.Telling.{IsTelling, Told, ToldPrefix, Telling, TellingPrefix}
+use Rattle.wot_tell.specs.Telling.{IsTelling, IsPrefixOf, Told, ToldPrefix, Telling, TellingPrefix}
 
 -- before the first byte
 pub told_none : (x : Seen) → Told [] x x
@@ -34,19 +34,16 @@ told_then_prefix text more x y z before after = record {
   told = told_then text after.prefix x y z before after.told;
 }
 
--- a text, where more was to be told
-pub told_prefix : (text more : List ℕ) (x y : Seen) → Told text x y → ToldPrefix (text ++ more) x y
-told_prefix text more x y told = record { prefix = text; is_prefix = (more, refl); told = told }
+-- what a text begins with, a longer one begins with
+begins_longer : (prefix text more : List ℕ) → IsPrefixOf prefix text → IsPrefixOf prefix (text ++ more)
+begins_longer prefix text more begins =
+    let back = begins.0 in
+    (back ++ more, sym (append_assoc prefix back more) ∙ ap (λ text. text ++ more) begins.1)
 
 -- a prefix of a text, where more was to be told
 pub prefix_more : (text more : List ℕ) (x y : Seen) → ToldPrefix text x y → ToldPrefix (text ++ more) x y
 prefix_more text more x y told =
-    let back = told.is_prefix.0 in
-    record {
-      prefix = told.prefix;
-      is_prefix = (back ++ more, sym (append_assoc told.prefix back more) ∙ ap (λ text. text ++ more) told.is_prefix.1);
-      told = told.told;
-    }
+    record { prefix = told.prefix; is_prefix = begins_longer told.prefix text more told.is_prefix; told = told.told }
 
 -- the moments while a text is told, where a prefix of it was told before
 telling_each : (sides : Disks) (before text done rest told : List ℕ) → done ++ rest ≡ text → told ≡ before ++ done → All (IsTelling sides before text) (moments_telling sides told rest)
@@ -93,12 +90,7 @@ telling_then front back x y z before after = record {
 }
   where
     earlier : (m : Moment) → IsTelling x.disks x.told front m → IsTelling x.disks x.told (front ++ back) m
-    earlier m is = record {
-      disks = is.disks;
-      prefix = is.prefix;
-      is_prefix = (is.is_prefix.0 ++ back, sym (append_assoc is.prefix is.is_prefix.0 back) ∙ ap (λ text. text ++ back) is.is_prefix.1);
-      told = is.told;
-    }
+    earlier m is = record { disks = is.disks; prefix = is.prefix; is_prefix = begins_longer is.prefix front back is.is_prefix; told = is.told }
 
     later : (m : Moment) → IsTelling y.disks y.told back m → IsTelling x.disks x.told (front ++ back) m
     later m is = record {
@@ -111,12 +103,7 @@ telling_then front back x y z before after = record {
 -- a prefix of a text, where more was to be told
 pub telling_more : (text more : List ℕ) (x y : Seen) → TellingPrefix text x y → TellingPrefix (text ++ more) x y
 telling_more text more x y telling =
-    let back = telling.is_prefix.0 in
-    record {
-      prefix = telling.prefix;
-      is_prefix = (back ++ more, sym (append_assoc telling.prefix back more) ∙ ap (λ text. text ++ more) telling.is_prefix.1);
-      telling = telling.telling;
-    }
+    record { prefix = telling.prefix; is_prefix = begins_longer telling.prefix text more telling.is_prefix; telling = telling.telling }
 
 -- a text and then a prefix of another
 pub telling_then_prefix : (text more : List ℕ) (x y z : Seen) → Telling text x y → TellingPrefix more y z → TellingPrefix (text ++ more) x z
