@@ -1,5 +1,5 @@
 -- A signature's record, in its block.
-use Rattle.std.proofs.Common.{◌≡◌, ℕ, ◌≤◌, ◌==◌, Bool, true, false, cond, not, ◌&&◌, [], ◌∷◌, ◌++◌, Some, None, Err, is_some, is_none, refl, ap, ◌∙◌}
+use Rattle.std.proofs.Common.{◌≡◌, ℕ, ◌≤◌, ◌==◌, Bool, true, false, cond, not, ◌&&◌, [], ◌∷◌, ◌++◌, Some, None, Err, is_none, refl, ap, ◌∙◌}
 use Rattle.std.specs.Prelude.{nat_le, unwrap_or, if◌then◌else◌}
 use Rattle.std.proofs.lemmas.Bool.{le-leb}
 use Rattle.wot_types.specs.declared.cert.Cert.{Cert}
@@ -11,7 +11,6 @@ use Rattle.wot_types.specs.Limits.{most_certs}
 use Rattle.wot_types.specs.Records.{class_at, class_of, is_good, is_kept_class, key_id, key_id_at}
 use Rattle.wot_types.proofs.LineChecks.{passes_more}
 use Rattle.wot_listing.specs.declared.error.LineError.{LineError}
-use Rattle.wot_listing.specs.declared.key_block.KeyBlock.{KeyBlock}
 use Rattle.wot_listing.specs.Answer.{Answers}
 use Rattle.wot_listing.proofs.AnswerLemmas.{error_at, error_more}
 
@@ -32,13 +31,13 @@ module _ (id certs : ℕ) (line : Line) (class issuer : ℕ) (long : has_fewer 1
       checks_left ∙ passes_more (cert_checks line) ((nat_le most_certs certs, LimitReached CertsLimit) ∷ []) passes
       ∙ ap (λ t. cond t (Some (LimitReached CertsLimit)) None) (le-leb most_certs certs full)
 
--- a good signature in a user ID
-module _ (b : KeyBlock) (line : Line) (there : is_some b.user ≡ true) (good : is_good line ≡ true) where
-  pub counts_is : (is_some b.user && certifies b.primary.id line) ≡ (is_kept_class (class_at line) && not (key_id_at line == b.primary.id))
-  counts_is = λ i. there i && (good i && is_kept_class (class_at line) && not (key_id_at line == b.primary.id))
+-- a good signature
+module _ (id certs : ℕ) (line : Line) (good : is_good line ≡ true) where
+  pub counts_is : certifies id line ≡ (is_kept_class (class_at line) && not (key_id_at line == id))
+  counts_is = λ i. good i && is_kept_class (class_at line) && not (key_id_at line == id)
 
-  pub checks_at : first_failing (if is_some b.user && is_good line then sig_checks b.primary.id b.certs line else []) ≡ first_failing (sig_checks b.primary.id b.certs line)
-  checks_at = λ i. first_failing (if there i && good i then sig_checks b.primary.id b.certs line else [])
+  pub checks_at : first_failing (if is_good line then sig_checks id certs line else []) ≡ first_failing (sig_checks id certs line)
+  checks_at = λ i. first_failing (if good i then sig_checks id certs line else [])
 
 -- a certification is given where the line certifies
 pub chosen : (t : Bool) (x y : Cert) → Some x ≡ cond t (Some y) None → (t ≡ true) × (x ≡ y)

@@ -1,6 +1,6 @@
 //! The block that is being read.
 
-ghost use Rattle.std.specs.Prelude.{◌≡◌, ◌∷◌, [], ◌++◌, ◌<◌, ◌&&◌, is_none, is_some, length, nat_le, IfOk, OnOk, if◌then◌else◌};
+ghost use Rattle.std.specs.Prelude.{◌≡◌, ◌∷◌, [], ◌++◌, ◌<◌, ◌&&◌, is_none, is_some, true, length, nat_le, IfOk, OnOk, if◌then◌else◌};
 ghost use Rattle.wot_types.specs.Listing.{certifies, first_failing, fpr_checks, sig_checks, user_at, user_checks};
 ghost use Rattle.wot_types.specs.Limits.{most_users, most_certs};
 ghost use Rattle.wot_types.specs.Records.{cert_of, fingerprint_at, is_good};
@@ -70,12 +70,12 @@ impl KeyBlock {
     }
 
     /// An `fpr` is the key's own where none has come.
-    pub fn feed_fpr(&mut self, line: &Fields<'_>) -> Result<(), LineError>
+    pub fn feed_fpr(&mut self, line: &[u8]) -> Result<(), LineError>
         ensures { Answers result (first_failing (if self.old.wants_fpr then fpr_checks self.old.primary.id line.now else []))
             (λ _. self.new ≡ with_fpr line.now self.old) }
     {
         if self.wants_fpr {
-            let fpr = read_fpr(self.primary.id, line)?;
+            let fpr = read_fpr(self.primary.id, &Fields::new(line))?;
             self.fpr = Some(fpr);
             self.wants_fpr = false;
         }
@@ -114,13 +114,26 @@ impl KeyBlock {
         Ok(())
     }
 
-    /// A `sig` or `rev`. Answers whether it is kept.
-    pub fn feed_sig(&mut self, alloc: Global, line: &Fields<'_>) -> Result<bool, LineError>
+    /// A `sig` or `rev`. Answers whether it is kept. Where no user ID is open, none of its fields is looked for.
+    pub fn feed_sig(&mut self, alloc: Global, line: &[u8]) -> Result<bool, LineError>
         ensures { Answers result (first_failing (if is_some self.old.user && is_good line.now then sig_checks self.old.primary.id self.old.certs line.now else []))
             (λ kept. (kept ≡ is_some self.old.user && certifies self.old.primary.id line.now)
             × (self.new ≡ (if kept then with_cert (cert_of line.now) self.old else self.old))) }
     {
-        if self.user.is_none() || !is_good(line) {
+        if self.user.is_none() {
+            return Ok(false);
+        }
+        self.feed_cert(alloc, &Fields::new(line))
+    }
+
+    /// The same within a user ID.
+    fn feed_cert(&mut self, alloc: Global, line: &Fields<'_>) -> Result<bool, LineError>
+        requires { is_some self.old.user ≡ true }
+        ensures { Answers result (first_failing (if is_good line.now then sig_checks self.old.primary.id self.old.certs line.now else []))
+            (λ kept. (kept ≡ certifies self.old.primary.id line.now)
+            × (self.new ≡ (if kept then with_cert (cert_of line.now) self.old else self.old))) }
+    {
+        if !is_good(line) {
             return Ok(false);
         }
         match read_cert(alloc, self.primary.id, self.certs, line)? {

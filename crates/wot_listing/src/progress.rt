@@ -44,8 +44,7 @@ impl Progress {
     pub fn add_line(&mut self, alloc: Global, line: &[u8]) -> Result<(), LineError>
         ensures { Answers result (failing_in self.old line.now) (λ _. self.new ≡ after_line self.old line.now) }
     {
-        let line = Fields::new(line);
-        self.feed_record(alloc, kind_of(&line), &line)?;
+        self.feed_record(alloc, kind_of(line), line)?;
         self.lines = self.lines.saturating_add(1);
         Ok(())
     }
@@ -70,18 +69,14 @@ impl Progress {
         })
     }
 
-    fn feed_record(
-        &mut self,
-        alloc: Global,
-        kind: RecordKind,
-        line: &Fields<'_>,
-    ) -> Result<(), LineError>
+    /// Reads a record of this kind. Fields are looked for only where the record's are read.
+    fn feed_record(&mut self, alloc: Global, kind: RecordKind, line: &[u8]) -> Result<(), LineError>
         ensures { Answers result (first_failing (checks_in kind self.old line.now)) (λ _. self.new ≡ after_kind kind self.old line.now) }
     {
         match kind {
-            RecordKind::Primary => self.feed_primary(alloc, line),
+            RecordKind::Primary => self.feed_primary(alloc, &Fields::new(line)),
             RecordKind::Fingerprint => self.feed_fpr(line),
-            RecordKind::UserId(kind) => self.feed_user(alloc, kind, line),
+            RecordKind::UserId(kind) => self.feed_user(alloc, kind, &Fields::new(line)),
             RecordKind::Signature => self.feed_sig(alloc, line),
             RecordKind::Subkey => self.feed_sub(),
             RecordKind::Foreign => self.end_block(),
@@ -103,7 +98,7 @@ impl Progress {
         Ok(())
     }
 
-    fn feed_fpr(&mut self, line: &Fields<'_>) -> Result<(), LineError>
+    fn feed_fpr(&mut self, line: &[u8]) -> Result<(), LineError>
         ensures { Answers result (first_failing (checks_in RecordKind.Fingerprint self.old line.now))
             (λ _. self.new ≡ after_kind RecordKind.Fingerprint self.old line.now) }
     {
@@ -138,7 +133,7 @@ impl Progress {
     }
 
     /// A signature is kept or passed.
-    fn feed_sig(&mut self, alloc: Global, line: &Fields<'_>) -> Result<(), LineError>
+    fn feed_sig(&mut self, alloc: Global, line: &[u8]) -> Result<(), LineError>
         ensures { Answers result (first_failing (checks_in RecordKind.Signature self.old line.now))
             (λ _. self.new ≡ after_kind RecordKind.Signature self.old line.now) }
     {

@@ -13,16 +13,22 @@ ghost use Rattle.wot_listing.specs.Answer.{Gives, Makes};
 use crate::error::LineError;
 use hex::FromHex;
 use std::alloc::Global;
-use wot_fields::{Fields, date_or_0, number, number_or_0, unquote};
+use wot_fields::{Fields, date_or_0, field, number, number_or_0, unquote};
 use wot_types::{
     Fpr, KeyId, ListingWhat, Mem, RecordKind, Text, UserKind, is_capability, is_hash_byte,
 };
 
-/// The type of a record, by its first field.
-pub fn kind_of(line: &Fields<'_>) -> RecordKind
+/// The type of a record, by its first field: no other field is looked for.
+pub fn kind_of(line: &[u8]) -> RecordKind
     ensures { result ≡ records.kind_of line.now }
 {
-    kind_of_name(line.get_or_empty(1))
+    kind_of_name(first_field(line))
+}
+
+fn first_field(line: &[u8]) -> &[u8]
+    ensures { result.now ≡ fields.field 1 line.now }
+{
+    field(line, 1).unwrap_or(&[])
 }
 
 fn kind_of_name(name: &[u8]) -> RecordKind

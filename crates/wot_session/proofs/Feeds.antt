@@ -113,45 +113,40 @@ module _ {first now : Option Seen} {start session : Session} {bytes rest : List 
         (λ x y said. subst (λ commands. Said p.progress commands x y)
         (sym (append-nil (commands_in p feeding.done)) ∙ ap (λ last. commands_in p feeding.done ++ last) (sym none) ∙ sym (all_commands p)) said)
 
-  module _ (held : Session) (part after : List ℕ) (split : slice_split is_newline rest ≡ part ∷ slice_split is_newline after)
-      (line : held.line ≡ more session.line part) (held_at : (p : Position) → IsAt session p → IsAt held p) (held_place : held.place ≡ session.place) where
-    held_here : (p : Position) → IsHere start first p → IsHere held now (after_lines p feeding.done)
-    held_here p here = here_at held now (after_lines p feeding.done) held_place (held_at _ (feeding.at p here).at) (feeding.at p here).holds
-
-    next_whole : feeding.done ++ held.line ∷ [] ++ whole_from (Some []) after ≡ whole_from start.line bytes
+  module _ (part after : List ℕ) (split : slice_split is_newline rest ≡ part ∷ slice_split is_newline after) where
+    next_whole : feeding.done ++ (more session.line part) ∷ [] ++ whole_from (Some []) after ≡ whole_from start.line bytes
     next_whole =
-        append_assoc feeding.done (held.line ∷ []) (whole_from (Some []) after)
-        ∙ ap (λ next. feeding.done ++ next ∷ whole_from (Some []) after) line
+        append_assoc feeding.done ((more session.line part) ∷ []) (whole_from (Some []) after)
         ∙ ap (λ lines. feeding.done ++ lines) (sym (whole_at session.line rest part after split))
         ∙ feeding.whole
 
-    -- the next line was held and answered
+    -- the next line was answered
     pub feeding_more : (next : Option Seen) (answered : Session)
-        → ((p : Position) → IsHere held now p → IsHere answered next (after_line p held.line))
+        → ((p : Position) → IsHere session now p → IsHere answered next (after_line p (more session.line part)))
         → answered.line ≡ Some []
-        → ((p : Position) → IsHere held now p → Honestly now next (Said p.progress (made_by p.division held.line)))
+        → ((p : Position) → IsHere session now p → Honestly now next (Said p.progress (made_by p.division (more session.line part))))
         → Feeding first next start answered bytes after
     feeding_more next answered at clear said = record {
-      done = feeding.done ++ held.line ∷ [];
-      at = λ p here. subst (IsHere answered next) (sym (after_push p feeding.done held.line)) (at (after_lines p feeding.done) (held_here p here));
-      said = λ p here. honest_then _ _ _ first now next (feeding.said p here) (said (after_lines p feeding.done) (held_here p here))
-          (λ x y z before after. subst (λ commands. Said p.progress commands x z) (sym (commands_push p feeding.done held.line))
-          (said_then p.progress (commands_in p feeding.done) (made_by (after_lines p feeding.done).division held.line) x y z before after));
-      whole = ap (λ line. feeding.done ++ held.line ∷ [] ++ whole_from line after) clear ∙ next_whole;
+      done = feeding.done ++ (more session.line part) ∷ [];
+      at = λ p here. subst (IsHere answered next) (sym (after_push p feeding.done (more session.line part))) (at (after_lines p feeding.done) (feeding.at p here));
+      said = λ p here. honest_then _ _ _ first now next (feeding.said p here) (said (after_lines p feeding.done) (feeding.at p here))
+          (λ x y z before after. subst (λ commands. Said p.progress commands x z) (sym (commands_push p feeding.done (more session.line part)))
+          (said_then p.progress (commands_in p feeding.done) (made_by (after_lines p feeding.done).division (more session.line part)) x y z before after));
+      whole = ap (λ line. feeding.done ++ (more session.line part) ∷ [] ++ whole_from line after) clear ∙ next_whole;
       line = ap (λ line. open_from line after) clear ∙ sym (open_at session.line rest part after split) ∙ feeding.line;
     }
 
     -- it stopped there
     pub feeding_broken : (next : Option Seen) (stop : Stop)
-        → ((p : Position) → IsHere held now p → Honestly now next (SaidPrefix p.progress (made_by p.division held.line) stop))
+        → ((p : Position) → IsHere session now p → Honestly now next (SaidPrefix p.progress (made_by p.division (more session.line part)) stop))
         → (p : Position) → IsHere start first p → Honestly first next (SaidPrefix p.progress (commands_in p (whole_from start.line bytes)) stop)
     feeding_broken next stop prefix p here =
-        let line = made_by (after_lines p feeding.done).division held.line in
-        let others = commands_in (after_lines p (feeding.done ++ held.line ∷ [])) (whole_from (Some []) after) in
+        let line = made_by (after_lines p feeding.done).division (more session.line part) in
+        let others = commands_in (after_lines p (feeding.done ++ (more session.line part) ∷ [])) (whole_from (Some []) after) in
         let split : commands_in p (whole_from start.line bytes) ≡ (commands_in p feeding.done ++ line) ++ others =
-        ap (commands_in p) (sym next_whole) ∙ whole_append p.division (feeding.done ++ held.line ∷ []) (whole_from (Some []) after)
-        ∙ ap (λ front. front ++ others) (commands_push p feeding.done held.line) in
-        honest_then _ _ _ first now next (feeding.said p here) (prefix (after_lines p feeding.done) (held_here p here))
+        ap (commands_in p) (sym next_whole) ∙ whole_append p.division (feeding.done ++ (more session.line part) ∷ []) (whole_from (Some []) after)
+        ∙ ap (λ front. front ++ others) (commands_push p feeding.done (more session.line part)) in
+        honest_then _ _ _ first now next (feeding.said p here) (prefix (after_lines p feeding.done) (feeding.at p here))
         (λ x y z before broken. subst (λ commands. SaidPrefix p.progress commands stop x z) (sym split)
         (said_prefix_more p.progress (commands_in p feeding.done ++ line) others x z stop
         (said_then_prefix p.progress (commands_in p feeding.done) line x y stop z before broken)))

@@ -105,6 +105,20 @@ impl Session {
         Ok(true)
     }
 
+    // Reads the line that these bytes end into the block that goes on with it, where they are all of it; says whether there is such a block.
+    fn read_whole(&mut self, bytes: &[u8]) -> Result<bool, Mem>
+        ensures at { result ≡ Ok true → (p : Position) → IsAt self.old p → IsAt self.new (after_line p (more self.old.line bytes.now)) }
+        ensures quiet { result ≡ Ok true → (p : Position) → IsAt self.old p → made_by p.division (more self.old.line bytes.now) ≡ [] }
+        ensures place { self.new.place ≡ self.old.place }
+        ensures line { result ≡ Ok true → self.new.line ≡ Some [] }
+        ensures left { result ≡ Ok false → self.new ≡ self.old }
+    {
+        match self.line.whole(bytes) {
+            Some(line) => self.division.read_on(Some(line)),
+            None => Ok(false),
+        }
+    }
+
     // Keeps what an answer leaves, but for the division, which counts only where more lines may come; the answer is handed on.
     fn keep(&mut self, engine: Engine, answer: Answer) -> Answer
         ensures answer { result ≡ answer }
@@ -212,6 +226,34 @@ impl Session {
         self.give(workers, site, answer)
     }
 
+    // Ends the open line with these bytes, and answers it. A line of a block that lies whole in the bytes is read where it stands, and not copied first.
+    fn end_line<R: Threads + Sync, S: Site, G: Gate + Sync>(
+        &mut self,
+        workers: &Workers<'_, R, G>,
+        site: &mut S,
+        bytes: &[u8],
+    ) -> Result<(), Stop>
+        requires { IsSomewhere self.old (S.seen site.old) }
+        ensures at { OnOk result ((p : Position) → IsHere self.old (S.seen site.old) p
+            → IsHere self.new (S.seen site.new) (after_line p (more self.old.line bytes.now))) }
+        ensures line { OnOk result (self.new.line ≡ Some []) }
+        ensures told { OnOk result ((p : Position) → IsHere self.old (S.seen site.old) p
+            → Honestly (S.seen site.old) (S.seen site.new) (Said p.progress (made_by p.division (more self.old.line bytes.now)))) }
+        ensures prefix { IfErr result (λ stop. (p : Position) → IsHere self.old (S.seen site.old) p
+            → Honestly (S.seen site.old) (S.seen site.new) (SaidPrefix p.progress (made_by p.division (more self.old.line bytes.now)) stop)) }
+        ensures cause { StopsTelling (S.faults site.old) (S.faults site.new) result }
+    {
+        match self.read_whole(bytes) {
+            Ok(true) => return Ok(()),
+            Ok(false) => {}
+            Err(Mem::Memory) => return Err(Stop::Memory),
+        }
+        if let Err(Mem::Memory) = self.hold(bytes) {
+            return Err(Stop::Memory);
+        }
+        self.answer(workers, site)
+    }
+
     /// Answers each line that these bytes end, one after the other, up to `quit`; what they leave open is kept.
     pub fn answer_bytes<R: Threads + Sync, S: Site, G: Gate + Sync>(
         &mut self,
@@ -231,10 +273,7 @@ impl Session {
     {
         let mut rest = bytes;
         while let Some((line, after)) = split_line(rest) {
-            if let Err(Mem::Memory) = self.hold(line) {
-                return Err(Stop::Memory);
-            }
-            if let Err(stop) = self.answer(workers, site) {
+            if let Err(stop) = self.end_line(workers, site, line) {
                 return Err(stop);
             }
             if self.is_over() {

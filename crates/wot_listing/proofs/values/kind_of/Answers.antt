@@ -4,4 +4,4 @@ use Rattle.wot_listing.proofs.values.kind_of.Goals as goal
 
 pub returns : goal.returns
 unfolding kind_of
-returns c = c.kind_of_name.ensures ∙ ap kind_of_name c.get_or_empty.ensures
+returns c = c.kind_of_name.ensures ∙ ap kind_of_name c.first_field.ensures
