@@ -13,5 +13,6 @@ pub mod SoundKeys
 pub mod TrustLemmas
 pub mod CertLemmas
 pub mod PlaceLemmas
+pub mod DigitLemmas
 pub mod HashLemmas
 pub mod MarkLemmas

@@ -6,6 +6,7 @@
 mod block_keys; // the keys of the blocks that have ended
 mod blocks; // what a listing gives
 mod cert; // `sig` and `rev`
+mod digits; // bytes that hexadecimal digits spell
 mod ended_users; // the user IDs of a block that a line has ended
 mod error; // what stops the reader
 mod key_block; // the block that is being read

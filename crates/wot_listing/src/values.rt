@@ -10,6 +10,7 @@ ghost use Rattle.wot_types.specs.Quotes.{text_of_quoted};
 ghost use Rattle.wot_types.specs.Records as records;
 ghost use Rattle.wot_listing.specs.Answer.{Gives, Makes};
 
+use crate::digits::hex_bytes;
 use crate::error::LineError;
 use hex::FromHex;
 use std::alloc::Global;
@@ -87,7 +88,7 @@ pub fn key_id_in(line: &Fields<'_>) -> Result<KeyId, LineError>
 pub fn fingerprint_in(line: &Fields<'_>) -> Result<Fpr, LineError>
     ensures { Gives result (fingerprint (fields.field 10 line.now)) ListingWhat.BadHex }
 {
-    Fpr::from_hex(line.get_or_empty(10)).ok_or(LineError::Failed(ListingWhat::BadHex))
+    read_fingerprint(line.get_or_empty(10)).ok_or(LineError::Failed(ListingWhat::BadHex))
 }
 
 /// The signature class in field 11.
@@ -118,8 +119,18 @@ fn byte(f: &[u8]) -> Option<u8>
 fn read_key_id(f: &[u8]) -> Option<KeyId>
     ensures { result ≡ records.key_id f.now }
 {
-    let bytes = <[u8; 8]>::from_hex(f).ok()?;
+    let bytes = hex_bytes::<8>(f)?;
     Some(KeyId(u64::from_be_bytes(bytes)))
+}
+
+/// Most are of version 4 keys.
+fn read_fingerprint(f: &[u8]) -> Option<Fpr>
+    ensures { result ≡ fingerprint f.now }
+{
+    match hex_bytes::<20>(f) {
+        Some(bytes) => Fpr::from_bytes(&bytes),
+        None => Fpr::from_hex(f),
+    }
 }
 
 /// The byte that the first two digits spell.

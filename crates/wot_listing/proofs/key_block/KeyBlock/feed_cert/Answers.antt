@@ -1,4 +1,4 @@
-use Rattle.std.proofs.Common.{not, ap, sym, ◌∙◌, refl}
+use Rattle.std.proofs.Common.{ap, sym, ◌∙◌, refl}
 use Rattle.wot_types.specs.Records.{cert_of}
 use Rattle.wot_listing.specs.Machine.{with_cert}
 use Rattle.wot_listing.proofs.CertLemmas.{checks_at, chosen, counts_is, not_chosen}
