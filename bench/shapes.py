@@ -6,7 +6,7 @@ from typing import NamedTuple
 
 from measure import in_turn, megabytes, ran, session, shown, table, times
 
-DATE, DEPTH, USERS = 1600000000, 255, 1024
+DATE, DEPTH, USERS, ROUNDS = 1600000000, 255, 1024, 5
 
 
 def numbered(number):
@@ -123,7 +123,7 @@ def figures(bench, name):
         made = bench.store(f"shape-{len(listings)}", *prepared(bench, shape, bench.keys))
         jobs.append(lambda listing=listing, made=made: ran([bench.program, "import"], listing, copied(bench, made)))
         listings.append((listing, made))
-    ordinary, took = in_turn(*jobs)
+    ordinary, took = in_turn(*jobs, rounds=ROUNDS)
     listing, made = listings[-1]
     peak = bench.peak(["import"], listing, copied(bench, made))
     return os.path.getsize(listing), took, peak, ordinary / os.path.getsize(listings[0][0])
@@ -147,7 +147,7 @@ def beside(bench, name):
         with session([bench.program], copied(bench, made)) as program:
             return program.accept(given)
 
-    return os.path.getsize(listing), in_turn(imported)[0]
+    return os.path.getsize(listing), in_turn(imported, rounds=ROUNDS)[0]
 
 
 def part(bench):
