@@ -82,13 +82,24 @@ fn said_by_all<R: Threads + Sync>(
     }
 }
 
+/// What the check says of a sample whose rows have this one among them.
+fn said_with<R: Threads + Sync>(
+    rt: &R,
+    alloc: Global,
+    of: &Sample,
+    row: Row,
+) -> Result<Option<Said>, Mem> {
+    let rows = sample_rows(of)?.insert(row)?;
+    said_by_all(rt, alloc, of, &rows)
+}
+
 #[test]
 fn rows_that_do_not_stand_are_named(rt: HostRuntime) -> Result<(), Fail> {
     let alloc = rt.alloc();
     let of = filled_sample(alloc, 7, 500)?;
-    let mut rows = sample_rows(&of)?;
-    let (own, of_own) = of_level(&rows, 0).expect(&rt, "a row of level 0");
-    let (given, of_given) = of_level(&rows, 2).expect(&rt, "a row of level 2");
+    let rows = sample_rows(&of)?;
+    let (own, of_own) = of_level(&rows, 0).ok_or("a row of level 0")?;
+    let (given, of_given) = of_level(&rows, 2).ok_or("a row of level 2")?;
     // Key 96 is revoked.
     let revoked = key_id(7, 96);
     // A row that is put among those of the sample, and the level and trust number of the one that is counted.
@@ -102,10 +113,19 @@ fn rows_that_do_not_stand_are_named(rt: HostRuntime) -> Result<(), Fail> {
         (KeyId(u64::MAX), 4, Trust::Marginal, None),
     ];
     for (id, level, trust, counted) in cases {
-        let changed = sample_rows(&of)?.insert(row(id, level, trust))?;
         let told = Some((id, Some((level, trust.number())), counted));
-        assert_eq!(rt; said_by_all(&rt, alloc, &of, &changed)?, Some(told));
+        let said = said_with(&rt, alloc, &of, row(id, level, trust))?;
+        assert_eq!(rt; said, Some(told));
     }
+    Ok(())
+}
+
+#[test]
+fn a_row_that_is_missing_is_named(rt: HostRuntime) -> Result<(), Fail> {
+    let alloc = rt.alloc();
+    let of = filled_sample(alloc, 7, 500)?;
+    let mut rows = sample_rows(&of)?;
+    let (given, of_given) = of_level(&rows, 2).ok_or("a row of level 2")?;
     rows.remove(given);
     let told = Some((given, None, Some(of_given)));
     assert_eq!(rt; said_by_all(&rt, alloc, &of, &rows)?, Some(told));

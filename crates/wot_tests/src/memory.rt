@@ -132,6 +132,18 @@ fn keeps_acknowledged<R: Threads + Sync>(
     keeps_edits(rt, alloc, site, QUESTION, &shown, acknowledged)
 }
 
+// Whether a session ended well or by want of memory, a prefix of what it had to tell being told.
+fn ends_well(site: &MemorySite, status: &Status, told: &[u8]) -> bool {
+    let ends_well = match status {
+        Status::Done => site.told() == told,
+        Status::Memory => true,
+        // The site had no memory for its own note.
+        Status::ReadFault | Status::TellFault | Status::DiskFault => 0 < site.starved(),
+        _ => false,
+    };
+    ends_well && told.starts_with(site.told())
+}
+
 #[test]
 fn want_of_memory_loses_no_edit(rt: HostRuntime) -> Result<(), Fail> {
     let alloc = rt.alloc();
@@ -139,14 +151,7 @@ fn want_of_memory_loses_no_edit(rt: HostRuntime) -> Result<(), Fail> {
     for Session { edits, last, told } in SESSIONS {
         let mut site = site_of(alloc, edits, last)?;
         let status = session(&rt, alloc, &mut site);
-        let ends_well = match status {
-            Status::Done => site.told() == told,
-            Status::Memory => true,
-            // The site had no memory for its own note.
-            Status::ReadFault | Status::TellFault | Status::DiskFault => 0 < site.starved(),
-            _ => false,
-        };
-        assert!(rt; ends_well && told.starts_with(site.told()), "{status:?}");
+        assert!(rt; ends_well(&site, &status, told), "{status:?}");
         was_short = was_short || status != Status::Done;
         match keeps_acknowledged(&rt, alloc, site, edits) {
             Ok(keeps) => assert!(rt; keeps, "{status:?}"),

@@ -48,8 +48,7 @@ fn after_sync(k: u32) -> (usize, Exports) {
         7 => (0, (NONE, FIRST)),
         8 => (1, (FIRST, FIRST)),
         9 => (1, (FIRST, BOTH)),
-        10..=12 => (2, (BOTH, BOTH)),
-        _ => (3, (BOTH, BOTH)),
+        _ => (2, (BOTH, BOTH)),
     }
 }
 
@@ -75,39 +74,81 @@ fn is_exported_so<R: Threads + Sync>(
     Ok(true)
 }
 
+// Whether a session over the site ends so, and each image of it is exported so.
+fn ends_so<R: Threads + Sync>(
+    rt: &R,
+    alloc: Global,
+    mut site: MemorySite,
+    status: Status,
+    exports: Exports,
+) -> Result<bool, Fail> {
+    let ended = session(rt, alloc, &mut site);
+    Ok(ended == status && is_exported_so(rt, alloc, &site, exports)?)
+}
+
 #[test]
 fn an_image_shows_what_its_gates_say(rt: HostRuntime) -> Result<(), Fail> {
     let alloc = rt.alloc();
-    for n in 1u32..30 {
-        let mut site = over(alloc, INPUT)?.with_stop(n);
-        let ends = if n < 29 {
-            Status::DiskFault
-        } else {
-            Status::Done
-        };
-        assert_eq!(rt; session(&rt, alloc, &mut site), ends, "stopped at call {n}");
+    for n in 1u32..29 {
+        let site = over(alloc, INPUT)?.with_stop(n);
         assert!(rt;
-            is_exported_so(&rt, alloc, &site, after_stop(n))?,
+            ends_so(&rt, alloc, site, Status::DiskFault, after_stop(n))?,
             "stopped at call {n}"
         );
     }
-    for k in 1u32..14 {
-        let fails = vec![in alloc; (CallKind::Sync, k)]?;
-        let mut site = over(alloc, INPUT)?.with_failures(fails);
-        let ends = if k < 13 {
-            Status::DiskFault
-        } else {
-            Status::Done
-        };
-        let (told, exports) = after_sync(k);
-        assert_eq!(rt; session(&rt, alloc, &mut site), ends, "sync {k} failed");
-        assert_eq!(rt; lines(&site), told, "sync {k} failed");
+    let site = over(alloc, INPUT)?.with_stop(29);
+    assert!(rt; ends_so(&rt, alloc, site, Status::Done, (BOTH, BOTH))?);
+    Ok(())
+}
+
+// Whether a session of which this sync fails ends by a disk fault after so many lines, and each image of it is exported so.
+fn fails_so<R: Threads + Sync>(
+    rt: &R,
+    alloc: Global,
+    sync: u32,
+    told: usize,
+    exports: Exports,
+) -> Result<bool, Fail> {
+    let fails = vec![in alloc; (CallKind::Sync, sync)]?;
+    let mut site = over(alloc, INPUT)?.with_failures(fails);
+    let ended = session(rt, alloc, &mut site);
+    let well = ended == Status::DiskFault && lines(&site) == told;
+    Ok(well && is_exported_so(rt, alloc, &site, exports)?)
+}
+
+#[test]
+fn an_image_shows_what_was_synced(rt: HostRuntime) -> Result<(), Fail> {
+    let alloc = rt.alloc();
+    for sync in 1u32..13 {
+        let (told, exports) = after_sync(sync);
         assert!(rt;
-            is_exported_so(&rt, alloc, &site, exports)?,
-            "sync {k} failed"
+            fails_so(&rt, alloc, sync, told, exports)?,
+            "sync {sync} failed"
         );
     }
     Ok(())
+}
+
+// Whether a session in which a call failed ended so, and keeps what it acknowledged.
+fn failed_so<R: Threads + Sync>(
+    rt: &R,
+    alloc: Global,
+    site: MemorySite,
+    status: &Status,
+    fault: &Status,
+) -> Result<bool, Fail> {
+    let well = status == fault && TOLD.starts_with(site.told());
+    let acknowledged = lines(&site).min(2);
+    Ok(
+        well && keeps_edits(
+            rt,
+            alloc,
+            site,
+            QUESTION,
+            &[NONE, FIRST, BOTH],
+            acknowledged,
+        )?,
+    )
 }
 
 // Lets each call of a kind fail, one in a run, until a run has none of that number, and answers in how many runs one did.
@@ -124,19 +165,12 @@ fn failed_runs<R: Threads + Sync + Abort>(
         let fails = vec![in alloc; (kind, number)]?;
         let mut site = over(alloc, INPUT)?.with_failures(fails).with_cut(cut);
         let status = session(rt, alloc, &mut site);
-        if status == Status::Done {
-            assert_eq!(rt; site.told(), TOLD);
+        if status == Status::Done && site.told() == TOLD {
             return Ok(number - 1);
         }
         assert!(rt;
-            status == *fault && TOLD.starts_with(site.told()),
+            failed_so(rt, alloc, site, &status, fault)?,
             "{kind:?} {number}: {status:?}"
-        );
-        let acknowledged = lines(&site).min(2);
-        let shown = [NONE, FIRST, BOTH];
-        assert!(rt;
-            keeps_edits(rt, alloc, site, QUESTION, &shown, acknowledged)?,
-            "{kind:?} {number}"
         );
     }
     Err(Fail::new("no run ended well"))
@@ -161,11 +195,16 @@ fn a_call_that_fails_ends_the_run(rt: HostRuntime) -> Result<(), Fail> {
             assert!(rt; least <= failed, "{kind:?} failed in {failed} runs");
         }
     }
-    // An edit is there whose answer could not be told.
+    Ok(())
+}
+
+#[test]
+fn an_edit_is_there_whose_answer_could_not_be_told(rt: HostRuntime) -> Result<(), Fail> {
+    let alloc = rt.alloc();
     let fails = vec![in alloc; (CallKind::Tell, 1)]?;
     let mut site = over(alloc, FIRST_EDIT)?.with_failures(fails);
-    assert_eq!(rt; session(&rt, alloc, &mut site), Status::TellFault);
-    assert_eq!(rt; site.told().len(), 0);
+    let ended = session(&rt, alloc, &mut site);
+    assert!(rt; ended == Status::TellFault && site.told().is_empty());
     let site = asked_again(&rt, alloc, site, QUESTION)?;
     assert_eq!(rt; site.told(), FIRST);
     Ok(())
