@@ -94,7 +94,7 @@ impl KeyBlock {
             (λ _. self.new ≡ with_user kind line.now self.old) }
     {
         let user = read_user(alloc, kind, self.primary.revoked, line)?;
-        if self.has_user(&user) {
+        if self.has_user(&user)? {
             return Err(LineError::Failed(ListingWhat::RepeatedUser));
         }
         if self.is_full() {
@@ -156,13 +156,13 @@ impl KeyBlock {
         Ok(())
     }
 
-    fn has_user(&self, user: &User) -> bool
-        ensures { result ≡ repeats_user self.now user.now }
+    fn has_user(&self, user: &User) -> Result<bool, Mem>
+        ensures { IfOk result (λ there. there ≡ repeats_user self.now user.now) }
     {
-        let ended = self.users.contains(user);
+        let ended = self.users.contains(user)?;
         match &self.user {
-            Some(last) => ended || last.is_same(user),
-            None => ended,
+            Some(last) => Ok(ended || last.is_same(user)),
+            None => Ok(ended),
         }
     }
 

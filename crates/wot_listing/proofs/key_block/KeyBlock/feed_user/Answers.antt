@@ -10,14 +10,14 @@ returns-in_err-user c =
     let p = err_from_is_err_and c.from_residual.result c.from_residual.ensures.1 in
     rw (p.1, p.2) (error_more c.in_err-user.field-0.0 (user_checks c.args.line.now) (block_checks c.args.self.now c.args.kind c.args.line.now) _ _ c.in_err-user.ensures)
 
-pub returns-then-has_user : goal.returns-then-has_user
-returns-then-has_user c = repeat_fails c.args.self.now c.args.kind c.args.line.now _ c.in_ok-user.ensures.0 c.in_ok-user.ensures.1 (sym c.has_user.ensures ∙ c.if-has_user.true)
+pub returns-then-branch : goal.returns-then-branch
+returns-then-branch c = repeat_fails c.args.self.now c.args.kind c.args.line.now _ c.in_ok-user.ensures.0 c.in_ok-user.ensures.1 (sym c.in_ok-has_user.ensures ∙ c.if-branch.true)
 
 pub returns-then-is_full : goal.returns-then-is_full
-returns-then-is_full c = full_fails c.args.self.now c.args.kind c.args.line.now _ c.in_ok-user.ensures.0 c.in_ok-user.ensures.1 (sym c.has_user.ensures ∙ c.if-has_user.false) (sym c.is_full.ensures ∙ c.if-is_full.true)
+returns-then-is_full c = full_fails c.args.self.now c.args.kind c.args.line.now _ c.in_ok-user.ensures.0 c.in_ok-user.ensures.1 (sym c.in_ok-has_user.ensures ∙ c.if-branch.false) (sym c.is_full.ensures ∙ c.if-is_full.true)
 
 pub returns : goal.returns
 returns c = (
-  user_passes c.args.self.now c.args.kind c.args.line.now _ c.in_ok-user.ensures.0 c.in_ok-user.ensures.1 (sym c.has_user.ensures ∙ c.if-has_user.false) (sym c.is_full.ensures ∙ c.if-is_full.false),
+  user_passes c.args.self.now c.args.kind c.args.line.now _ c.in_ok-user.ensures.0 c.in_ok-user.ensures.1 (sym c.in_ok-has_user.ensures ∙ c.if-branch.false) (sym c.is_full.ensures ∙ c.if-is_full.false),
   (λ i. record (c.in_ok-end_user.ensures i) { user = Some (c.in_ok-user.ensures.1 i) }),
 )
