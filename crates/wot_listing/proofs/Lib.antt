@@ -1,5 +1,4 @@
 pub mod RunsLemmas
-pub mod SameUsers
 pub mod Growing
 pub mod Stepping
 pub mod Checking
@@ -15,4 +14,4 @@ pub mod CertLemmas
 pub mod PlaceLemmas
 pub mod DigitLemmas
 pub mod HashLemmas
-pub mod MarkLemmas
+pub mod OtherLemmas

@@ -1,6 +1,6 @@
 pub mod Answer
 pub mod EndedRuns
 pub mod Machine
-pub mod Marks
+pub mod Others
 pub mod Places
 pub mod Reading

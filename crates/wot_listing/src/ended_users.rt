@@ -1,25 +1,21 @@
 //! The user IDs of a block that a line has ended.
 
-ghost use Rattle.std.specs.Prelude.{◌≡◌, ◌∷◌, [], ◌++◌, length, true, IfOk, OnOk};
+ghost use Rattle.std.specs.Prelude.{◌≡◌, ◌∷◌, [], ◌++◌, length, IfOk, OnOk};
 ghost use Rattle.std.specs.List.{list_any};
 ghost use Rattle.wot_types.specs.Listing.{is_same_user};
-ghost use Rattle.wot_listing.specs.Marks.{AreMarked, KeepsMarks, has_mark, mark_of};
 
-use crate::mark::Mark;
 use std::alloc::Global;
-use std::collections::BTreeSet;
 use std::marker::Model;
-use wot_types::{List, Mem, User, Users, is_among};
+use wot_marks::{Marks, add_mark, is_among_marked};
+use wot_types::{List, Mem, User, Users};
 
 /// User IDs in the order in which they came, with marks by which a new one is held against them.
 ///
-/// They are compared only where marks agree: a key may have so many user IDs that all their texts, held against each
-/// other, would be most of an import. Marks are kept in order. The first user ID has none, and is compared always, since
-/// most keys have no other.
+/// The first has none, and is compared always, since most keys have no other.
 #[derive(Debug, Drop)]
 pub struct EndedUsers {
     users: Users,
-    marks: BTreeSet<Mark>,
+    marks: Marks,
     alloc: Global,
 }
 
@@ -28,7 +24,7 @@ impl Model for EndedUsers {
     ghost use Rattle.std.specs.Coded.{coded_list};
     ghost use Rattle.wot_types.specs.declared.user.User.{User};
     ghost use Rattle.wot_types.specs.contracts.user.User as user_struct;
-    ghost use Rattle.wot_listing.specs.Marks.{OthersAreMarked};
+    ghost use Rattle.wot_listing.specs.Others.{OthersAreMarked};
 
     ghost Value = { List User };
 
@@ -46,7 +42,7 @@ impl EndedUsers {
     {
         Ok(EndedUsers {
             users: List::with_capacity(alloc, 1)?,
-            marks: BTreeSet::new(alloc),
+            marks: Marks::new(alloc),
             alloc,
         })
     }
@@ -65,8 +61,7 @@ impl EndedUsers {
             [] => Ok(false),
             [only] => Ok(only.is_same(user)),
             [first, others @ ..] => {
-                let mark = Mark::new(self.alloc, user)?;
-                Ok(first.is_same(user) || is_among_marked(&self.marks, &mark, others, user))
+                Ok(first.is_same(user) || is_among_marked(self.alloc, &self.marks, others, user)?)
             }
         }
     }
@@ -75,7 +70,7 @@ impl EndedUsers {
         ensures { OnOk result (self.new ≡ self.old ++ user ∷ []) }
     {
         if !self.users.is_empty() {
-            push_mark(&mut self.marks, Mark::new(self.alloc, &user)?)?;
+            add_mark(self.alloc, &mut self.marks, &user)?;
         }
         self.users.push(user)?;
         Ok(())
@@ -91,23 +86,4 @@ impl EndedUsers {
         } = self;
         users
     }
-}
-
-/// Adds a mark. None is taken away, with memory or without.
-fn push_mark(marks: &mut BTreeSet<Mark>, mark: Mark) -> Result<(), Mem>
-    ensures there { OnOk result (has_mark marks.new mark ≡ true) }
-    ensures keeps { KeepsMarks marks.old marks.new }
-{
-    marks.insert(mark)?;
-    Ok(())
-}
-
-/// Whether one of these user IDs, whose marks are among these, has the kind, text and hash of the other, which has this mark.
-#[tactic(auto, using(crate::proofs::SameUsers::one_agrees))]
-fn is_among_marked(marks: &BTreeSet<Mark>, mark: &Mark, users: &[User], user: &User) -> bool
-    requires marked { AreMarked marks.now users.now }
-    requires its { mark.now ≡ mark_of user.now }
-    ensures { result ≡ list_any (λ earlier. is_same_user earlier user.now) users.now }
-{
-    marks.contains(mark) && is_among(users, user)
 }

@@ -11,7 +11,6 @@ mod ended_users; // the user IDs of a block that a line has ended
 mod error; // what stops the reader
 mod key_block; // the block that is being read
 mod listing; // the reader
-mod mark; // numbers that tell user IDs apart
 mod primary; // `pub`
 mod progress; // what is kept of the lines so far
 mod user; // `uid` and `uat`

@@ -2,6 +2,7 @@ pub mod Lists
 pub mod Lengths
 pub mod Parts
 pub mod ValueParts
+pub mod Distinct
 pub mod CheckLaws
 pub mod Payloads
 pub mod Rooms

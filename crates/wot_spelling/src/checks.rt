@@ -1,16 +1,18 @@
 //! What is tested of the values that were read.
 
-ghost use Rattle.std.specs.Prelude.{◌≡◌, ◌==◌, ◌&&◌, not};
+ghost use Rattle.std.specs.Prelude.{◌≡◌, ◌==◌, ◌&&◌, not, IfOk};
 ghost use Rattle.std.specs.List.{list_all};
 ghost use Rattle.wot_types.specs.Ownertrust.{is_unset, kept_of};
 ghost use Rattle.wot_types.specs.Records.{is_capability, is_hash_byte};
 ghost use Rattle.wot_spelling.specs.Stored.{are_rising_rows, are_stored};
 ghost use Rattle.wot_spelling.specs.Checks.{are_rising_entries, are_settable, are_distinct, are_importable, has_few_certs, has_scope, is_cert, is_in_range, is_marked_once, is_rising, is_sample_count, is_user, is_well_formed};
 
+use std::alloc::Global;
+use wot_marks::{Marks, add_mark, is_among_marked};
 use wot_types::{
     Cert, Entry, Key, KeyId, LEAST_COMPLETES, LEAST_DEPTH, LEAST_LEVEL, LEAST_MARGINALS,
-    MOST_CERTS, MOST_LEVEL, MOST_SAMPLE, MOST_SCOPE, MOST_USERS, Options, Row, Scope, User,
-    is_among, is_capability, is_hash_byte, is_kept_class,
+    MOST_CERTS, MOST_LEVEL, MOST_SAMPLE, MOST_SCOPE, MOST_USERS, Mem, Options, Row, Scope, User,
+    is_capability, is_hash_byte, is_kept_class,
 };
 
 fn has_scope(scope: &Option<Scope>) -> bool
@@ -66,19 +68,33 @@ fn are_unmarked(users: &[User]) -> bool
     users.iter().all(|user| !user.revoked)
 }
 
-/// Whether no two agree in kind, text and hash. Each is compared with all later ones: a key has at most 1,024.
+/// Whether no two agree in kind, text and hash.
 #[tactic(auto, unfolding(crate::specs::Checks::are_distinct))]
-fn are_distinct(users: &[User]) -> bool
-    ensures { result ≡ are_distinct users.now }
+fn are_distinct(alloc: Global, users: &[User]) -> Result<bool, Mem>
+    ensures { IfOk result (λ distinct. distinct ≡ are_distinct users.now) }
 {
-    let mut left = users;
-    while let [user, rest @ ..] = left {
-        if is_among(rest, user) {
-            return false;
-        }
-        left = rest;
+    match users {
+        [] | [_] => Ok(true),
+        [user, other] => Ok(!user.is_same(other)),
+        _ => are_found_once(alloc, users),
     }
-    true
+}
+
+/// The same, by marks: each is looked for among the later ones, from the last on.
+fn are_found_once(alloc: Global, users: &[User]) -> Result<bool, Mem>
+    ensures { IfOk result (λ distinct. distinct ≡ are_distinct users.now) }
+{
+    let mut marks = Marks::new(alloc);
+    let mut place = users.len();
+    while place > 0 {
+        place -= 1;
+        let user = &users[place];
+        if is_among_marked(alloc, &marks, &users[place + 1..], user)? {
+            return Ok(false);
+        }
+        add_mark(alloc, &mut marks, user)?;
+    }
+    Ok(true)
 }
 
 #[tactic(auto, unfolding(crate::specs::Checks::has_few_certs))]
@@ -103,22 +119,31 @@ fn is_marked_once(key: &Key) -> bool
 }
 
 #[tactic(auto, unfolding(crate::specs::Checks::is_well_formed))]
-fn is_well_formed(key: &Key) -> bool
-    ensures { result ≡ is_well_formed key.now }
+fn is_well_formed(alloc: Global, key: &Key) -> Result<bool, Mem>
+    ensures { IfOk result (λ well_formed. well_formed ≡ is_well_formed key.now) }
 {
     let id = key.fpr.key_id();
-    are_capabilities(key.caps.as_bytes())
-        && key.users.len() <= MOST_USERS
-        && has_few_certs(key)
-        && are_distinct(key.users.as_slice())
-        && are_users(id, key.users.as_slice())
-        && is_marked_once(key)
+    Ok(
+        are_capabilities(key.caps.as_bytes())
+            && key.users.len() <= MOST_USERS
+            && has_few_certs(key)
+            && are_distinct(alloc, key.users.as_slice())?
+            && are_users(id, key.users.as_slice())
+            && is_marked_once(key),
+    )
 }
 
-fn are_well_formed(keys: &[Key]) -> bool
-    ensures { result ≡ list_all is_well_formed keys.now }
+fn are_well_formed(alloc: Global, keys: &[Key]) -> Result<bool, Mem>
+    ensures { IfOk result (λ well_formed. well_formed ≡ list_all is_well_formed keys.now) }
 {
-    keys.iter().all(|key| is_well_formed(key))
+    let mut left = keys;
+    while let [key, rest @ ..] = left {
+        if !is_well_formed(alloc, key)? {
+            return Ok(false);
+        }
+        left = rest;
+    }
+    Ok(true)
 }
 
 #[tactic(auto, unfolding(crate::specs::Checks::is_rising))]
@@ -138,10 +163,10 @@ fn is_rising(keys: &[Key]) -> bool
 }
 
 #[tactic(auto, unfolding(crate::specs::Checks::are_importable))]
-pub fn are_importable(keys: &[Key]) -> bool
-    ensures { result ≡ are_importable keys.now }
+pub fn are_importable(alloc: Global, keys: &[Key]) -> Result<bool, Mem>
+    ensures { IfOk result (λ importable. importable ≡ are_importable keys.now) }
 {
-    are_well_formed(keys) && is_rising(keys)
+    Ok(are_well_formed(alloc, keys)? && is_rising(keys))
 }
 
 #[tactic(auto, unfolding(crate::specs::Checks::is_in_range))]

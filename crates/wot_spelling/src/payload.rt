@@ -24,7 +24,7 @@ impl<'a> Reader<'a> {
         ensures { Gives (keys_at self.old) result self.new }
     {
         let keys = self.list::<Key>(alloc)?;
-        if are_importable(keys.as_slice()) {
+        if are_importable(alloc, keys.as_slice())? {
             Ok(keys)
         } else {
             Err(Stop::NoSpelling)

@@ -6,7 +6,7 @@ ghost use Rattle.std.specs.Ordering.{as_partial_cmp, eq_by_cmp, nat_cmp};
 ghost use Rattle.std.specs.Cmp.{partial_order_from_own_ties};
 ghost use Rattle.std.specs.Cmp.Lexicographic.{slice_cmp};
 ghost use Rattle.std.specs.Cmp.Rules.{comparing};
-ghost use Rattle.wot_listing.specs.Marks.{kind_byte, mark_of, number_of, with_byte};
+ghost use Rattle.wot_marks.specs.Marks.{kind_byte, mark_of, number_of, with_byte};
 
 use std::alloc::Global;
 use std::cmp::Ordering;

@@ -41,8 +41,3 @@ KeepsMarks old new = (mark : List ℕ) → has_mark old mark ≡ true → has_ma
 abbrev pub AreMarked : BTreeSet (List ℕ) → List User → Type 0
 AreMarked marks [] = Unit {0}
 AreMarked marks (user ∷ users) = (has_mark marks (mark_of user) ≡ true) × AreMarked marks users
-
--- each but the first has
-abbrev pub OthersAreMarked : BTreeSet (List ℕ) → List User → Type 0
-OthersAreMarked marks [] = Unit {0}
-OthersAreMarked marks (first ∷ others) = AreMarked marks others

@@ -28,6 +28,6 @@ users_agree : (u v : User) → is_same_user u v ≡ is_same_user v u
 users_agree u v = λ i. kinds_agree u.kind v.kind i && texts_agree u.text v.text i && texts_agree u.hash v.hash i
 
 -- whether a user ID is the same as one of these
-pub one_agrees : (user : User) (users : List User) → list_any (is_same_user user) users ≡ list_any (λ earlier. is_same_user earlier user) users
+pub one_agrees : (user : User) (users : List User) → list_any (is_same_user user) users ≡ list_any (λ other. is_same_user other user) users
 one_agrees user [] = refl
 one_agrees user (u ∷ users) = λ i. users_agree user u i || one_agrees user users i

@@ -1,0 +1,2 @@
+pub mod SameUsers
+pub mod MarkLemmas
