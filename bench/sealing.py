@@ -93,7 +93,7 @@ fn main(rt: HostRuntime) -> io::Result<()> {
     Ok(())
 }
 """
-CRATES = ("wot_types", "wot_index", "wot_table", "wot_spelling", "wot_image", "wot_site", "wot_workers", "wot_pages")
+CRATES = ("wot_types", "wot_index", "wot_table", "wot_marks", "wot_spelling", "wot_image", "wot_site", "wot_workers", "wot_pages")
 JOBS = {
     "the seals alone, by the kit's SHA-256": "sums",
     "reading the pages, by 1 worker": "pages 1",

@@ -78,7 +78,7 @@ def payload_of(bench):
 
 def part(bench):
     """Encoding and decoding the record of an import, beside a copy of its bytes."""
-    program = timing.built(bench.path("spelling"), os.path.dirname(HERE), "spelling", SOURCE, ("wot_types", "wot_spelling"))
+    program = timing.built(bench.path("spelling"), os.path.dirname(HERE), "spelling", SOURCE, ("wot_types", "wot_marks", "wot_spelling"))
     payload, copy = payload_of(bench), bench.floor("copy")
     size = os.path.getsize(payload)
     rows = in_turn(lambda: (int(output([copy, payload, "5"])) / 1e9,), lambda: least(program, payload))
