@@ -13,9 +13,13 @@ asked_at s = record { taken = s.taken; told = length s.told }
 abbrev pub after_asking : Seen → Seen
 after_asking s = record s { asks = s.asks ++ asked_at s ∷ [] }
 
+-- after the next n bytes of the input were given
+abbrev pub after_giving : ℕ → Seen → Seen
+after_giving n s = record s { left = drop n s.left; taken = s.taken + n }
+
 -- after a call of `take` that moved n bytes
 abbrev pub after_take : ℕ → Seen → Seen
-after_take n s = record s { left = drop n s.left; taken = s.taken + n; asks = s.asks ++ asked_at s ∷ [] }
+after_take n s = after_giving n (after_asking s)
 
 -- a moment for each byte told, where these were told before
 abbrev pub moments_telling : Disks → List ℕ → List ℕ → List Moment

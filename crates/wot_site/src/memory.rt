@@ -1,6 +1,6 @@
 //! A site in memory, whose calls fail where they are planned to.
 
-ghost use Rattle.std.specs.Prelude.{◌≡◌, ◌⊎◌, ◌↔◌, ◌<◌, ◌≤◌, ◌+◌, [], length, min, vec_len, Some, None, IsTrue, IfOk, OnOk, OnErr, IsErr};
+ghost use Rattle.std.specs.Prelude.{◌≡◌, ◌⊎◌, ◌↔◌, ◌<◌, ◌≤◌, ◌+◌, [], length, take, min, vec_len, Some, None, IsTrue, IfOk, OnOk, OnErr, IsErr};
 ghost use Rattle.wot_site.specs.Notes.{IsNoted};
 
 mod calls; // how many calls there were
@@ -52,7 +52,9 @@ pub struct MemorySite {
 
 impl MemorySite {
     ghost use Rattle.wot_site.specs.Disk.{IsImageOf};
-    ghost use Rattle.wot_site.specs.MemorySite.{seen_of, first_seen, starved_of, plan_of, stop_of, cut_of, calls_of, device_of, past_of, again_seen, IsPickedOf, IsPlanned, IsDue, SameCounts, SameRun};
+    ghost use Rattle.wot_site.specs.CallBytes.{bytes_per_call};
+    ghost use Rattle.wot_site.specs.Site.{after_giving};
+    ghost use Rattle.wot_site.specs.MemorySite.{seen_of, first_seen, starved_of, plan_of, stop_of, cut_of, calls_of, device_of, past_of, again_seen, IsPickedOf, IsPlanned, IsDue, SameCounts, SamePlan, SameRun};
 
     /// A site over this input and these sides, with nothing told, nothing pending, no call planned to fail and no cut.
     pub fn new(
@@ -203,6 +205,24 @@ impl MemorySite {
     {
         self.is_planned(kind) || self.plan.is_stopped(self.calls.device.saturating_add(1))
     }
+
+    // Gives the next bytes of the input, as many as fit and pass in one call, and answers how many.
+    fn give(&mut self, buf: &mut [u8]) -> usize
+        ensures moved { result ≡ bytes_per_call (cut_of self.old) (min (length buf.old) (length (seen_of self.old).left)) }
+        ensures front { take result buf.new ≡ take result (seen_of self.old).left }
+        ensures within { result ≤ length (seen_of self.old).left }
+        ensures last { result ≡ 0 → 0 < length buf.new → (seen_of self.old).left ≡ [] }
+        ensures same { length buf.new ≡ length buf.old }
+        ensures given { seen_of self.new ≡ after_giving result (seen_of self.old) }
+        ensures counts { SameCounts self.old self.new }
+        ensures plan { SamePlan self.old self.new }
+    {
+        let left = &self.input[self.taken..];
+        let n = bytes_per_call(self.plan.cut, buf.len().min(left.len()));
+        copy_front(buf, left, n);
+        self.taken += n;
+        n
+    }
 }
 
 impl Site for MemorySite {
@@ -235,11 +255,7 @@ impl Site for MemorySite {
     {
         let planned = self.is_planned(CallKind::Take);
         self.calls.count(CallKind::Take);
-        let asked = Asked {
-            taken: self.taken,
-            told: self.told.len(),
-        };
-        if self.asks.push(asked).is_err() {
+        if self.note_ask().is_err() {
             self.starved = self.starved.saturating_add(1);
             self.take_faults = self.take_faults.saturating_add(1);
             return Err(Failed);
@@ -248,11 +264,7 @@ impl Site for MemorySite {
             self.take_faults = self.take_faults.saturating_add(1);
             return Err(Failed);
         }
-        let left = &self.input[self.taken..];
-        let n = bytes_per_call(self.plan.cut, buf.len().min(left.len()));
-        copy_front(buf, left, n);
-        self.taken += n;
-        Ok(n)
+        Ok(self.give(buf))
     }
 
     /// Fails where it is planned to, and else notes what it tells.

@@ -2,8 +2,9 @@
 
 ghost use Rattle.std.specs.Prelude.{◌≡◌, ◌≤◌, length, OnOk, OnErr};
 ghost use Rattle.wot_site.specs.Disk.{disk_of, after_write, after_sync};
-ghost use Rattle.wot_site.specs.Site.{on_disk, after_tell};
+ghost use Rattle.wot_site.specs.Site.{on_disk, after_asking, after_tell};
 
+use crate::asked::Asked;
 use crate::memory::MemorySite;
 use crate::side::Side;
 use wot_types::Mem;
@@ -29,6 +30,20 @@ pub struct Noted {
 impl MemorySite {
     ghost use Rattle.wot_site.specs.MemorySite.{seen_of, SameCounts, SamePlan};
 
+    // Notes a call of `take`; want of memory leaves all as it was.
+    pub(super) fn note_ask(&mut self) -> Result<(), Mem>
+        ensures ok { OnOk result (seen_of self.new ≡ after_asking (seen_of self.old)) }
+        ensures err { OnErr result (seen_of self.new ≡ seen_of self.old) }
+        ensures counts { SameCounts self.old self.new }
+        ensures plan { SamePlan self.old self.new }
+    {
+        self.asks.push(Asked {
+            taken: self.taken,
+            told: self.told.len(),
+        })?;
+        Ok(())
+    }
+
     // Writes, and notes it; want of memory leaves all as it was.
     #[tactic(auto, using(crate::specs::Notes::replay_push))]
     pub(super) fn note_write(&mut self, side: Side, at: u64, bytes: &[u8]) -> Result<(), Mem>
@@ -43,24 +58,16 @@ impl MemorySite {
             first: self.fresh,
             note: Note::Wrote(side, at, copy),
         })?;
-        match side {
-            Side::Zero => {
-                if self.zero.write(self.alloc, at as usize, bytes).is_err() {
-                    let _ = self.notes.pop();
-                    return Err(Mem::Memory);
-                }
-                self.fresh = false;
-                Ok(())
-            }
-            Side::One => {
-                if self.one.write(self.alloc, at as usize, bytes).is_err() {
-                    let _ = self.notes.pop();
-                    return Err(Mem::Memory);
-                }
-                self.fresh = false;
-                Ok(())
-            }
+        let written = match side {
+            Side::Zero => self.zero.write(self.alloc, at as usize, bytes),
+            Side::One => self.one.write(self.alloc, at as usize, bytes),
+        };
+        if written.is_err() {
+            let _ = self.notes.pop();
+            return Err(Mem::Memory);
         }
+        self.fresh = false;
+        Ok(())
     }
 
     // Tells, and notes it; want of memory leaves all as it was.
@@ -96,23 +103,15 @@ impl MemorySite {
             first: self.fresh,
             note: Note::Synced(side),
         })?;
-        match side {
-            Side::Zero => {
-                if self.zero.sync(self.alloc).is_err() {
-                    let _ = self.notes.pop();
-                    return Err(Mem::Memory);
-                }
-                self.fresh = false;
-                Ok(())
-            }
-            Side::One => {
-                if self.one.sync(self.alloc).is_err() {
-                    let _ = self.notes.pop();
-                    return Err(Mem::Memory);
-                }
-                self.fresh = false;
-                Ok(())
-            }
+        let synced = match side {
+            Side::Zero => self.zero.sync(self.alloc),
+            Side::One => self.one.sync(self.alloc),
+        };
+        if synced.is_err() {
+            let _ = self.notes.pop();
+            return Err(Mem::Memory);
         }
+        self.fresh = false;
+        Ok(())
     }
 }
