@@ -27,6 +27,10 @@ pub error_after : {X Y : Type 0} (e : LineError) (b : Bool) (w : ListingWhat) (r
 error_after (Failed what) b w rest P Q p h = ap (λ t. cond t (Some w) rest) p ∙ h
 error_after Memory b w rest P Q p h = tt
 
+-- and where further checks follow as well
+pub error_amid : {X Y : Type 0} (e : LineError) (b : Bool) (w : ListingWhat) (xs ys : List Check) (P : X → Type 0) (Q : Y → Type 0) → b ≡ false → Answers (Err e) (first_failing xs) P → Answers (Err e) (cond b (Some w) (first_failing (xs ++ ys))) Q
+error_amid e b w xs ys P Q p h = error_after e b w (first_failing (xs ++ ys)) Q Q p (error_more e xs ys P Q h)
+
 -- the same checks in other words
 pub error_at : {X Y : Type 0} (e : LineError) (o p : Option ListingWhat) (P : X → Type 0) (Q : Y → Type 0) → p ≡ o → Answers (Err e) o P → Answers (Err e) p Q
 error_at (Failed what) o p P Q same h = same ∙ h

@@ -1,13 +1,13 @@
 //! Certifications of a user ID.
 
-ghost use Rattle.std.specs.Prelude.{◌≡◌, ◌<◌, ◌&&◌, ◌==◌, not, IfOk, IsSome, if◌then◌else◌};
-ghost use Rattle.wot_types.specs.Listing.{cert_checks, first_failing, sig_checks};
-ghost use Rattle.wot_types.specs.Limits.{most_certs};
+ghost use Rattle.std.specs.Prelude.{◌≡◌, ◌<◌, ◌∷◌, [], ◌&&◌, ◌==◌, length, nat_lt, not, IfOk, IsSome, if◌then◌else◌};
+ghost use Rattle.wot_types.specs.Listing.{cert_checks, first_failing, is_bad_quote, sig_checks};
+ghost use Rattle.wot_types.specs.Limits.{longest_scope, most_certs};
 ghost use Rattle.wot_types.specs.Records.{cert_of, class_at, depth_at, amount_at, is_kept_class, key_id_at, scope_of, text_at};
 ghost use Rattle.wot_listing.specs.Answer.{Answers};
 
 use crate::error::LineError;
-use crate::values::{class_in, date_in, is_local, key_id_in, text_in, trust_in};
+use crate::values::{class_in, dates_in, is_local, key_id_in, text_in, trust_in};
 use std::alloc::Global;
 use wot_fields::Fields;
 use wot_types::{
@@ -52,13 +52,9 @@ fn read_values(
 ) -> Result<Cert, LineError>
     ensures { Answers result (first_failing (cert_checks line.now)) (λ cert. cert ≡ record (cert_of line.now) { class = class; issuer = issuer }) }
 {
-    let made = date_in(line, 6)?;
-    let expires = date_in(line, 7)?;
+    let (made, expires) = dates_in(line)?;
     let (depth, amount) = trust_in(line)?;
-    let text = text_in(alloc, line, 9)?;
-    if text.as_bytes().len() > MOST_SCOPE {
-        return Err(LineError::Failed(ListingWhat::LimitReached(Limit::Scope)));
-    }
+    let scope = scope_in(alloc, line)?;
     Ok(Cert {
         issuer,
         class,
@@ -67,12 +63,24 @@ fn read_values(
         expires,
         depth,
         amount,
-        scope: scope_in(alloc, text)?,
+        scope,
     })
 }
 
+/// The regular expression in field 9.
+fn scope_in(alloc: Global, line: &Fields<'_>) -> Result<Option<Scope>, LineError>
+    ensures { Answers result (first_failing ((is_bad_quote 9 line.now, ListingWhat.BadQuote)
+        ∷ (nat_lt longest_scope (length (text_at 9 line.now)), ListingWhat.LimitReached Limit.Scope) ∷ [])) (λ scope. scope ≡ scope_of (text_at 9 line.now)) }
+{
+    let text = text_in(alloc, line, 9)?;
+    if text.as_bytes().len() > MOST_SCOPE {
+        return Err(LineError::Failed(ListingWhat::LimitReached(Limit::Scope)));
+    }
+    Ok(scope_from(alloc, text)?)
+}
+
 /// A regular expression that is empty is none.
-fn scope_in(alloc: Global, text: Text) -> Result<Option<Scope>, Mem>
+fn scope_from(alloc: Global, text: Text) -> Result<Option<Scope>, Mem>
     ensures { IfOk result (λ scope. scope ≡ scope_of text) }
 {
     if text.as_bytes().is_empty() {

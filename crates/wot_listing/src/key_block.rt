@@ -1,11 +1,11 @@
 //! The block that is being read.
 
-ghost use Rattle.std.specs.Prelude.{◌≡◌, ◌∷◌, [], ◌++◌, ◌<◌, ◌&&◌, is_none, is_some, true, length, nat_le, IfOk, OnOk, if◌then◌else◌};
+ghost use Rattle.std.specs.Prelude.{◌≡◌, ◌∷◌, [], ◌++◌, ◌<◌, ◌&&◌, is_none, is_some, true, length, nat_le, option_to_list, IfOk, OnOk, if◌then◌else◌};
 ghost use Rattle.wot_types.specs.Listing.{certifies, first_failing, fpr_checks, sig_checks, user_at, user_checks};
 ghost use Rattle.wot_types.specs.Limits.{most_users, most_certs};
 ghost use Rattle.wot_types.specs.Records.{cert_of, fingerprint_at, is_good};
 ghost use Rattle.wot_listing.specs.Answer.{Answers};
-ghost use Rattle.wot_listing.specs.Machine.{at_primary, at_sub, after_user, key_at_end, repeats_user, users_of, with_cert, with_fpr, with_user};
+ghost use Rattle.wot_listing.specs.Machine.{at_primary, at_sub, key_at_end, repeats_user, users_of, with_cert, with_fpr, with_user};
 
 use crate::cert::read_cert;
 use crate::ended_users::EndedUsers;
@@ -50,19 +50,19 @@ impl KeyBlock {
     }
 
     /// Ends the block: its key ID and its key.
-    pub fn into_key(mut self) -> Result<(KeyId, Key), LineError>
+    pub fn into_key(self) -> Result<(KeyId, Key), LineError>
         ensures { Answers result (first_failing ((is_none self.fpr, ListingWhat.NoFingerprint) ∷ []))
             (λ p. (p.0 ≡ self.primary.id) × (p.1 ≡ key_at_end self)) }
     {
-        self.end_user()?;
         let KeyBlock {
             primary,
             fpr,
             wants_fpr: _,
-            users,
-            user: _,
+            mut users,
+            user,
             certs: _,
         } = self;
+        keep_user(&mut users, user)?;
         match fpr {
             Some(fpr) => Ok(key_of(primary, fpr, users.into_users())),
             None => Err(LineError::Failed(ListingWhat::NoFingerprint)),
@@ -94,14 +94,23 @@ impl KeyBlock {
             (λ _. self.new ≡ with_user kind line.now self.old) }
     {
         let user = read_user(alloc, kind, self.primary.revoked, line)?;
-        if self.has_user(&user)? {
+        self.check_user(&user)?;
+        let ended = self.user.replace(user);
+        keep_user(&mut self.users, ended)?;
+        Ok(())
+    }
+
+    /// Refuses a user ID that is there already, or is one too many.
+    fn check_user(&self, user: &User) -> Result<(), LineError>
+        ensures { Answers result (first_failing ((repeats_user self.now user.now, ListingWhat.RepeatedUser)
+            ∷ (nat_le most_users (length (users_of self.now)), ListingWhat.LimitReached Limit.Users) ∷ [])) (λ _. Unit {0}) }
+    {
+        if self.has_user(user)? {
             return Err(LineError::Failed(ListingWhat::RepeatedUser));
         }
         if self.is_full() {
             return Err(LineError::Failed(ListingWhat::LimitReached(Limit::Users)));
         }
-        self.end_user()?;
-        self.user = Some(user);
         Ok(())
     }
 
@@ -109,7 +118,8 @@ impl KeyBlock {
     pub fn feed_sub(&mut self) -> Result<(), Mem>
         ensures { OnOk result (self.new ≡ at_sub self.old) }
     {
-        self.end_user()?;
+        let ended = self.user.take();
+        keep_user(&mut self.users, ended)?;
         self.wants_fpr = false;
         Ok(())
     }
@@ -176,14 +186,15 @@ impl KeyBlock {
         };
         self.users.len() >= most_ended
     }
+}
 
-    fn end_user(&mut self) -> Result<(), Mem>
-        ensures { OnOk result (self.new ≡ after_user self.old) }
-    {
-        match self.user.take() {
-            Some(user) => self.users.push(user),
-            None => Ok(()),
-        }
+/// Keeps the user ID that was open, if one was.
+fn keep_user(users: &mut EndedUsers, ended: Option<User>) -> Result<(), Mem>
+    ensures { OnOk result (users.new ≡ users.old ++ option_to_list ended) }
+{
+    match ended {
+        Some(user) => users.push(user),
+        None => Ok(()),
     }
 }
 

@@ -6,7 +6,7 @@ ghost use Rattle.wot_listing.specs.Answer.{Answers};
 ghost use Rattle.wot_listing.specs.Machine.{primary_of};
 
 use crate::error::LineError;
-use crate::values::{capabilities_in, date_in, is_marked_revoked, key_id_in, number_in};
+use crate::values::{capabilities_in, dates_in, is_marked_revoked, key_id_in, number_in};
 use std::alloc::Global;
 use wot_fields::Fields;
 use wot_types::{KeyId, ListingWhat, Text};
@@ -33,8 +33,7 @@ pub fn read_primary(alloc: Global, line: &Fields<'_>) -> Result<Primary, LineErr
     let bits = number_in(line, 3)?;
     let algo = number_in(line, 4)?;
     let id = key_id_in(line)?;
-    let made = date_in(line, 6)?;
-    let expires = date_in(line, 7)?;
+    let (made, expires) = dates_in(line)?;
     let revoked = is_marked_revoked(line);
     let caps = capabilities_in(alloc, line)?;
     Ok(Primary {

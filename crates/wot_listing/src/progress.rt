@@ -4,7 +4,7 @@ ghost use Rattle.std.specs.Prelude.{◌≡◌, ◌∷◌, [], None, option_map};
 ghost use Rattle.std.specs.FinMap as map;
 ghost use Rattle.wot_types.specs.Listing.{first_failing};
 ghost use Rattle.wot_listing.specs.Answer.{Answers};
-ghost use Rattle.wot_listing.specs.Machine.{after_block, after_kind, after_line, at_sub, checks_in, failing_in, is_unnamed, progress_of, with_count};
+ghost use Rattle.wot_listing.specs.Machine.{after_block, after_kind, after_line, at_sub, checks_in, failing_in, is_unnamed, progress_of, with_block, with_count};
 
 use crate::block_keys::BlockKeys;
 use crate::blocks::Blocks;
@@ -50,18 +50,18 @@ impl Progress {
     }
 
     /// Ends the last block: the keys of all blocks.
-    pub fn into_blocks(mut self, alloc: Global) -> Result<Blocks, LineError>
+    pub fn into_blocks(self, alloc: Global) -> Result<Blocks, LineError>
         ensures { Answers result (first_failing ((is_unnamed self.block, ListingWhat.NoFingerprint) ∷ []))
             (λ blocks. (blocks.keys ≡ map.values (after_block self).keys) × (blocks.kept ≡ self.kept) × (blocks.passed ≡ self.passed)) }
     {
-        self.end_block()?;
         let Progress {
             lines: _,
-            keys,
-            block: _,
+            mut keys,
+            block,
             kept,
             passed,
         } = self;
+        keep_key(&mut keys, block)?;
         Ok(Blocks {
             keys: keys.into_keys(alloc)?,
             kept,
@@ -157,17 +157,22 @@ impl Progress {
         }
     }
 
-    /// Ends the open block: its key is kept by its key ID.
+    /// Ends the open block.
     fn end_block(&mut self) -> Result<(), LineError>
         ensures { Answers result (first_failing ((is_unnamed self.old.block, ListingWhat.NoFingerprint) ∷ [])) (λ _. self.new ≡ after_block self.old) }
     {
-        match self.block.take() {
-            Some(block) => {
-                let (id, key) = block.into_key()?;
-                self.keys.insert(id, key)?;
-                Ok(())
-            }
-            None => Ok(()),
-        }
+        let block = self.block.take();
+        keep_key(&mut self.keys, block)
     }
+}
+
+/// Keeps the key of a block that ends, by its key ID.
+fn keep_key(keys: &mut BlockKeys, block: Option<KeyBlock>) -> Result<(), LineError>
+    ensures { Answers result (first_failing ((is_unnamed block, ListingWhat.NoFingerprint) ∷ [])) (λ _. keys.new ≡ with_block keys.old block) }
+{
+    if let Some(block) = block {
+        let (id, key) = block.into_key()?;
+        keys.insert(id, key)?;
+    }
+    Ok(())
 }

@@ -5,7 +5,7 @@ ghost use Rattle.wot_types.specs.Listing.{first_failing, user_at, user_checks};
 ghost use Rattle.wot_listing.specs.Answer.{Answers};
 
 use crate::error::LineError;
-use crate::values::{date_in, hash_in, is_marked_revoked, text_in};
+use crate::values::{dates_in, hash_in, is_marked_revoked, text_in};
 use std::alloc::Global;
 use wot_fields::Fields;
 use wot_types::{List, ListingWhat, User, UserKind};
@@ -22,8 +22,7 @@ pub fn read_user(
     if line.has_fewer(10) {
         return Err(LineError::Failed(ListingWhat::ShortRecord));
     }
-    let made = date_in(line, 6)?;
-    let expires = date_in(line, 7)?;
+    let (made, expires) = dates_in(line)?;
     let text = text_in(alloc, line, 10)?;
     let hash = hash_in(alloc, line)?;
     Ok(User {

@@ -1,14 +1,15 @@
 //! The values of a record's fields.
 
-ghost use Rattle.std.specs.Prelude.{◌≡◌, IfOk};
+ghost use Rattle.std.specs.Prelude.{◌≡◌, ◌∷◌, [], Some, IfOk};
 ghost use Rattle.std.specs.List.{filter, list_all};
 ghost use Rattle.wot_types.specs.Dates.{date_or_0};
 ghost use Rattle.wot_types.specs.Fields as fields;
 ghost use Rattle.wot_types.specs.Fingerprint.{fingerprint};
+ghost use Rattle.wot_types.specs.Listing.{first_failing, is_bad_date};
 ghost use Rattle.wot_types.specs.Numbers.{depth_and_amount, number_or_0, number_up_to};
 ghost use Rattle.wot_types.specs.Quotes.{text_of_quoted};
 ghost use Rattle.wot_types.specs.Records as records;
-ghost use Rattle.wot_listing.specs.Answer.{Gives, Makes};
+ghost use Rattle.wot_listing.specs.Answer.{Answers, Gives, Makes};
 
 use crate::digits::hex_bytes;
 use crate::error::LineError;
@@ -55,8 +56,18 @@ pub fn number_in(line: &Fields<'_>, n: u32) -> Result<u32, LineError>
     number.ok().ok_or(LineError::Failed(ListingWhat::BadNumber))
 }
 
+/// When it was made, in field 6, and when it expires, in field 7.
+pub fn dates_in(line: &Fields<'_>) -> Result<(u32, u32), LineError>
+    ensures { Answers result (first_failing ((is_bad_date 6 line.now, ListingWhat.BadDate) ∷ (is_bad_date 7 line.now, ListingWhat.BadDate) ∷ []))
+        (λ dates. (date_or_0 (fields.field 6 line.now) ≡ Some dates.0) × (date_or_0 (fields.field 7 line.now) ≡ Some dates.1)) }
+{
+    let made = date_in(line, 6)?;
+    let expires = date_in(line, 7)?;
+    Ok((made, expires))
+}
+
 /// A date in seconds since 1970; an empty field is 0.
-pub fn date_in(line: &Fields<'_>, n: u32) -> Result<u32, LineError>
+fn date_in(line: &Fields<'_>, n: u32) -> Result<u32, LineError>
     ensures { Gives result (date_or_0 (fields.field n line.now)) ListingWhat.BadDate }
 {
     let date = date_or_0(line.get_or_empty(n));
