@@ -40,6 +40,19 @@ pub struct Answered {
     pub division: Division,
 }
 
+impl Answered {
+    /// The same with what a session holds after it.
+    fn with_division(self, division: Division) -> Answered
+        ensures { result ≡ record self { division = division } }
+    {
+        Answered {
+            engine: self.engine,
+            answer: self.answer,
+            division,
+        }
+    }
+}
+
 /// Answers a line without its newline; None is a line that is too long. A line that a block goes on with is read by `Division::read_on`, and not answered here. The journal ends at `end`.
 pub fn answer_line(
     alloc: Global,
@@ -83,19 +96,14 @@ fn answer_text(alloc: Global, engine: Engine, end: u64, line: &[u8]) -> Result<A
 {
     let words = line_words(alloc, without_return(line))?;
     if has_block(&words) {
-        let body = Body::begin(alloc, &words)?;
         let block = Block {
             to_end: false,
-            body,
+            body: Body::begin(alloc, &words)?,
         };
         return Ok(say_nothing(alloc, engine, Division::Within(block)));
     }
-    let Answered { engine, answer, .. } = answer_words(alloc, engine, end, &words)?;
-    Ok(Answered {
-        engine,
-        answer,
-        division: division_after(&words),
-    })
+    let answered = answer_words(alloc, engine, end, &words)?;
+    Ok(answered.with_division(division_after(&words)))
 }
 
 /// An accepted `quit` ends the session.

@@ -10,9 +10,8 @@ ghost use Rattle.wot_answer.specs.EditReply.{reply_text};
 ghost use Rattle.wot_answer.specs.declared.division.Division.TheVariants.{Between};
 
 use crate::answer::Answered;
-use crate::division::Division;
 use crate::edit_reply::EditReply;
-use crate::reply::{Answer, Effect, Reply, refuse};
+use crate::reply::{Effect, Reply, answered, refuse};
 use std::alloc::Global;
 use wot_commands::{change, refusal};
 use wot_journal::{BuildError, Built, build_in_place};
@@ -54,21 +53,29 @@ fn make_allowed(
 {
     match build_record(alloc, &edit, end) {
         Ok(built) => {
-            let engine = change(engine, edit)?;
-            let text = reply.into_text(alloc, &engine)?;
-            Ok(Answered {
-                engine,
-                answer: Answer {
-                    reply: Reply::Text(text),
-                    refused: false,
-                    effect: Effect::Append(built),
-                },
-                division: Division::Between,
-            })
+            let (engine, text) = make(alloc, engine, edit, reply)?;
+            Ok(answered(engine, Reply::Text(text), Effect::Append(built)))
         }
         Err(BuildError::JournalFull) => refuse(alloc, engine, Refusal::JournalFull),
         Err(BuildError::Memory) => Err(Mem::Memory),
     }
+}
+
+/// The engine with an edit made, and what is told of it.
+fn make(
+    alloc: Global,
+    engine: Engine,
+    edit: Edit,
+    reply: EditReply,
+) -> Result<(Engine, Vec<u8>), Mem>
+    requires proper { IsProper edit }
+    requires allowed { refusal_of engine edit ≡ None }
+    ensures engine { IfOk result (λ made. made.0 ≡ state_after engine edit) }
+    ensures text { IfOk result (λ made. made.1.items ≡ reply_text reply (state_after engine edit)) }
+{
+    let engine = change(engine, edit)?;
+    let text = reply.into_text(alloc, &engine)?;
+    Ok((engine, text))
 }
 
 /// The record of an edit, for the journal's end. It is built in the memory of the payload, so that this stands in memory once.

@@ -1,8 +1,12 @@
 //! What a query is answered with.
 
-ghost use Rattle.std.specs.Prelude.{◌≡◌, ◌++◌, ◌-◌, ◌<◌, ◌≤◌, None, IsSome, IfOk};
+ghost use Rattle.std.specs.Prelude.{◌≡◌, ◌++◌, ◌-◌, ◌<◌, ◌≤◌, None, Some, IsSome, IfOk};
+ghost use Rattle.std.specs.FinMap as map;
 ghost use Rattle.wot_types.specs.Arrangement.{spot_at};
+ghost use Rattle.wot_types.specs.CutState.{cut};
+ghost use Rattle.wot_types.specs.Explanation.{explained_rows, explanation};
 ghost use Rattle.wot_types.specs.Keyring.{has_fpr};
+ghost use Rattle.wot_types.specs.Letters.{letter_at};
 ghost use Rattle.wot_types.specs.Outcome.{answer_to, ok_line, query_outcome, query_refusal, user_count};
 ghost use Rattle.wot_types.specs.WhyText.{why_text};
 ghost use Rattle.wot_types.specs.Store.{Store};
@@ -15,11 +19,11 @@ use crate::reply::{Effect, Reply, answered, refuse};
 use std::alloc::Global;
 use std::marker::Brand;
 use std::sync::ledger::{Blank, Ledger};
-use wot_explain::{cut, explain, recount};
+use wot_explain::{Why, cut, explain, recount};
 use wot_live::Engine;
 use wot_print::{export, list, why};
 use wot_table::LentState;
-use wot_types::{Fpr, KeyId, Mem, Query, Refusal, Steps};
+use wot_types::{Fpr, KeyId, Letter, Mem, Query, Refusal, Steps};
 
 /// Answers a query; the engine stays.
 pub fn answer_query(alloc: Global, engine: Engine, query: &Query) -> Result<Answered, Mem>
@@ -137,8 +141,23 @@ fn explanation_text_by<L: Ledger>(
     let mut steps = Steps::<L>::open(blank);
     let user = place - 1;
     let found = explain(engine, id, user, &mut steps)?;
-    let table = cut(engine, &found, id, user, &mut steps)?;
-    let state = LentState::of(&table, engine.trusts(), engine.date(), engine.options());
-    let letter = recount(&state, id, user, &mut steps)?;
+    let letter = cut_letter(engine, &found, id, user, &mut steps)?;
     why(alloc, id, place, &found, letter)
+}
+
+/// The letter of a user ID, numbered from 0, in the keyring cut down to its explanation.
+fn cut_letter<L: Ledger>(
+    engine: &Engine,
+    found: &Why,
+    id: KeyId,
+    user: u32,
+    steps: &mut Steps<L>,
+) -> Result<Letter, Mem>
+    requires there { IsSome (spot_at engine.now.keys id user) }
+    requires its_own { found.now.rows ≡ map.values (explained_rows engine.now (explanation engine.now id user)) }
+    ensures { IfOk result (λ letter. letter_at (cut engine.now (explanation engine.now id user) id) id user ≡ Some letter) }
+{
+    let table = cut(engine, found, id, user, steps)?;
+    let state = LentState::of(&table, engine.trusts(), engine.date(), engine.options());
+    recount(&state, id, user, steps)
 }

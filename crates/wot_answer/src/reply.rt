@@ -60,7 +60,7 @@ pub fn refuse(alloc: Global, engine: Engine, refusal: Refusal) -> Result<Answere
     })
 }
 
-/// A query's reply; the engine stays.
+/// A reply that is no `err` line; the engine is the one that it speaks of.
 pub fn answered(engine: Engine, reply: Reply, effect: Effect) -> Answered
     ensures engine { result.engine ≡ engine }
     ensures answer { result.answer ≡ record { reply = reply; refused = false; effect = effect } }

@@ -1,11 +1,12 @@
 use Rattle.std.proofs.Common.{◌≡◌, Some, [], true, false, if◌then◌else◌, refl, sym, ap, subst, ◌∙◌}
-use Rattle.wot_types.specs.Commands.{begun_command, is_quit, line_words, opened_command}
+use Rattle.wot_types.specs.Commands.{begun_command, is_quit, line_words, of_line, opened_command}
 use Rattle.wot_types.specs.Commands.Division.{between, over, within}
 use Rattle.wot_types.specs.Grammar.{command_of, has_block}
 use Rattle.wot_types.specs.Lines.{without_return}
 use Rattle.wot_types.specs.Outcome.{outcome}
 use Rattle.wot_answer.specs.Answer.{Ends, IsDivision}
 use Rattle.wot_answer.specs.Block.{HasHad, IsBlockOf}
+use Rattle.wot_answer.specs.declared.answer.Answered.{Answered}
 use Rattle.wot_answer.proofs.Answering.{answers_line, answers_opened, redivided}
 use Rattle.wot_answer.proofs.answer.answer_text.Goals as goal
 
@@ -14,8 +15,8 @@ returns-then-has_block c =
     let words = line_words (without_return c.args.line.now) in
     let is : c.in_ok-words.words ≡ words = c.in_ok-words.ensures ∙ ap line_words c.without_return.ensures in
     let opens : has_block words ≡ true = ap has_block (sym is) ∙ sym c.has_block.ensures ∙ c.if-has_block.true in
-    let block : IsBlockOf (record { to_end = false; body = c.in_ok-body.body }) (opened_command (Some c.args.line.now)) = record {
-      read = record { words = words; given = refl; opens = opens; had = subst (λ w. HasHad c.in_ok-body.body (command_of w) []) is c.in_ok-body.ensures.begun };
+    let block : IsBlockOf (record { to_end = false; body = c.in_ok-begin.field-0 }) (opened_command (Some c.args.line.now)) = record {
+      read = record { words = words; given = refl; opens = opens; had = subst (λ w. HasHad c.in_ok-begin.field-0 (command_of w) []) is c.in_ok-begin.ensures.begun };
       to_end = refl;
     } in
     record {
@@ -32,7 +33,9 @@ returns c =
     record {
       answers = λ p same at here.
           answers_line _ p (Some c.args.line.now) here single
-          (redivided c.in_ok-engine.field-0 c.division_after.result p.progress.store _
-          (subst (λ w. Ends c.in_ok-engine.field-0 p.progress.store (outcome p.progress.store (begun_command w))) is (c.in_ok-engine.ensures.ends p.progress.store same at)))
-          (subst (λ w. IsDivision c.division_after.result (if is_quit (Some w) then over else between)) is c.division_after.ensures);
+          (subst (λ answered. Ends answered p.progress.store (outcome p.progress.store (of_line (Some c.args.line.now)))) (sym c.with_division.ensures)
+          (redivided c.in_ok-answered.answered c.division_after.result p.progress.store _
+          (subst (λ w. Ends c.in_ok-answered.answered p.progress.store (outcome p.progress.store (begun_command w))) is (c.in_ok-answered.ensures.ends p.progress.store same at))))
+          (subst (λ division. IsDivision division (if is_quit (Some words) then over else between)) (sym (ap (λ (answered : Answered). answered.division) c.with_division.ensures))
+          (subst (λ w. IsDivision c.division_after.result (if is_quit (Some w) then over else between)) is c.division_after.ensures));
     }

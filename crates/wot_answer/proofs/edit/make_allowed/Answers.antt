@@ -1,7 +1,9 @@
-use Rattle.std.proofs.Common.{Err, refl, ap, ◌∙◌}
+use Rattle.std.proofs.Common.{Err, ap, ◌∙◌}
 use Rattle.std.proofs.lemmas.Result.{IfOk-weaker}
 use Rattle.wot_types.specs.Outcome.{state_after}
+use Rattle.wot_answer.specs.Answer.{reply_of}
 use Rattle.wot_answer.specs.EditReply.{reply_text}
+use Rattle.wot_answer.specs.declared.reply.Answer.{Answer}
 use Rattle.wot_answer.proofs.Making.{edit_full, edit_made, has_room}
 use Rattle.wot_answer.proofs.edit.make_allowed.Goals as goal
 
@@ -15,9 +17,12 @@ returns-in-Err-JournalFull-clause-ends c =
     (c.in-Err-JournalFull.ensures.full (ap Err c.in-Err-JournalFull.field-0-is)) reply)
     c.refuse.ensures.reply
 
-pub returns-in_ok-text-in-Ok-clause-ends : goal.returns-in_ok-text-in-Ok-clause-ends
-returns-in_ok-text-in-Ok-clause-ends c s same at =
+pub returns-in_ok-engine-in-Ok-clause-ends : goal.returns-in_ok-engine-in-Ok-clause-ends
+returns-in_ok-engine-in-Ok-clause-ends c s same at =
     let built = c.in-Ok.ensures.built in
-    edit_made (reply_text c.args.reply (state_after s.state c.args.edit)) s c.args.edit c.args.engine c.args.end same at _ c.in-Ok.built c.requires.allowed
-    built.2 built.0 built.1 c.in_ok-engine-in-Ok.ensures
-    (c.in_ok-text-in-Ok.ensures ∙ ap (reply_text c.args.reply) (c.in_ok-engine-in-Ok.ensures ∙ ap (λ state. state_after state c.args.edit) same)) refl refl
+    let made = c.in_ok-engine-in-Ok.ensures in
+    let answer = c.answered.ensures.answer in
+    edit_made (reply_text c.args.reply (state_after s.state c.args.edit)) s c.args.edit c.args.engine c.args.end same at c.answered.result c.in-Ok.built c.requires.allowed
+    built.2 built.0 built.1 (c.answered.ensures.engine ∙ made.engine)
+    (ap (λ a. reply_of a.reply c.answered.result.engine) answer ∙ made.text ∙ ap (λ state. reply_text c.args.reply (state_after state c.args.edit)) same)
+    (ap (λ (a : Answer). a.refused) answer) (ap (λ (a : Answer). a.effect) answer)
