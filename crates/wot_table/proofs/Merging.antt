@@ -2,6 +2,7 @@
 use Rattle.std.proofs.Common.{◌≡◌, ◌==◌, ◌&&◌, ◌||◌, ◌+◌, ◌*◌, ◌<◌, suc, ℕ, Bool, true, false, List, [], ◌∷◌, ◌++◌, All, IfOk, IsOk, length, drop, take, take_all, Some, None, Ok, Err, refl, sym, ap, ap₂, subst, ◌∙◌, arith}
 use Rattle.std.specs.FinMap as finmap
 use Rattle.std.specs.Fork.{slice_chunk}
+use Rattle.std.specs.Global.{Vec}
 use Rattle.std.specs.Int.{div_ceil}
 use Rattle.std.specs.List.{list_any, slice_get}
 use Rattle.std.specs.List.Sorted.{IsPermutation}
@@ -48,6 +49,23 @@ module _ (keys : Keyring) where
       itself : (a : ℕ) → (a == a) ≡ true
       itself a = grind (arith, nat_tests)
 
+  -- the pairs of one key more
+  pub one_more : (n k id : ℕ) (ids : List ℕ) (had new : Bool) → had ≡ (is_one_of k ids && stands n k) → new ≡ (had || ((k == id) && stands n id))
+      → new ≡ (is_one_of k (ids ++ id ∷ []) && stands n k)
+  one_more n k id ids had new e f =
+      f ∙ ap₂ (λ a b. a || b) e (own (k == id) refl)
+      ∙ sym (ap (λ b. b && stands n k) (list_any-append (λ m. m == k) ids (id ∷ [])) ∙ spread (is_one_of k ids) (is_one_of k (id ∷ [])) (stands n k))
+    where
+      same : (k id : ℕ) → (k == id) ≡ true → id ≡ k
+      same k id t = grind (arith, nat_tests)
+
+      turned : (k id : ℕ) → (k == id) ≡ ((id == k) || false)
+      turned k id = grind (arith, nat_tests)
+
+      own : (b : Bool) → (k == id) ≡ b → ((k == id) && stands n id) ≡ (is_one_of k (id ∷ []) && stands n k)
+      own true t = ap₂ (λ a i. a && stands n i) (turned k id) (same k id t)
+      own false f = ap (λ a. a && stands n id) f ∙ sym (ap (λ a. a && stands n k) (sym (turned k id) ∙ f))
+
 -- ---- a list in pieces of one size
 
 module _ {X : Type 0} (size : ℕ) where
@@ -68,6 +86,18 @@ module _ {X : Type 0} (size : ℕ) where
 
 pub same_pairs : (n k : ℕ) (old new : List (ℕ × ℕ)) → IsPermutation old new → has_pair n k new ≡ has_pair n k old
 same_pairs n k old new moved = sym (list_any-IsPermutation (λ pair. (pair.0 == n) && (pair.1 == k)) old new moved)
+
+-- the pairs of one piece more
+pub one_piece : (n k : ℕ) (pairs : List (ℕ × ℕ)) (founds : List Found) (one : Found) (come : Vec (ℕ × ℕ)) → one ≡ Ok come → has_pair n k pairs ≡ list_any (has_found n k) founds
+    → has_pair n k (pairs ++ come.items) ≡ list_any (has_found n k) (founds ++ one ∷ [])
+one_piece n k pairs founds one come is e =
+    list_any-append (λ pair. (pair.0 == n) && (pair.1 == k)) pairs come.items
+    ∙ ap₂ (λ a b. a || b) e (sym (ap (λ r. has_found n k r || false) is ∙ or_false (has_pair n k come.items)))
+    ∙ sym (list_any-append (has_found n k) founds (one ∷ []))
+  where
+    or_false : (b : Bool) → (b || false) ≡ b
+    or_false true = refl
+    or_false false = refl
 
 module _ (keys : Keyring) (size : ℕ) (n k : ℕ) where
   -- the pair is to be found for some keys
