@@ -1,10 +1,11 @@
 -- Under which numbers a key is filed, part by part.
-use Rattle.std.proofs.Common.{◌≡◌, ℕ, ◌<◌, ◌^◌, ◌==◌, ◌&&◌, ◌||◌, not, Bool, true, false, cond, List, [], ◌∷◌, ◌++◌, map, nat_lt, nat_cmp, Option, Some, None, IsPermutation, refl, sym, ap, ap₂, subst, ◌∙◌, arith}
+use Rattle.std.proofs.Common.{◌≡◌, ℕ, ◌+◌, ◌<◌, ◌≤◌, ◌^◌, ◌==◌, ◌&&◌, ◌||◌, not, Bool, true, false, cond, List, [], ◌∷◌, ◌++◌, drop, get_or, length, map, nat_lt, nat_cmp, Option, Some, None, IsPermutation, refl, sym, ap, ap₂, subst, ◌∙◌, arith}
 use Rattle.std.specs.Cmp.{nat_cmp_total}
 use Rattle.std.specs.FinMap as finmap
 use Rattle.std.specs.Ordering.{eq_by_cmp}
 use Rattle.std.proofs.lemmas.Bool.Decides.{nat_tests}
 use Rattle.std.specs.List.{flat_map, list_any}
+use Rattle.std.proofs.lemmas.List.{at_drop_all, drop_more}
 use Rattle.std.proofs.lemmas.List.Folds.{Any-from_list_any, list_any-append}
 use Rattle.std.proofs.lemmas.List.Sorted.{IsPermutation-map, list_any-IsPermutation}
 use Rattle.wot_types.specs.declared.placed.Placed.{Placed}
@@ -27,7 +28,7 @@ pub filed_append : (heading : Heading) (n : ℕ) (is es js fs : List ℕ) → is
 filed_append Issuer n is es js fs = list_any-append (λ m. m == n) is js
 filed_append Expiry n is es js fs = ap (λ b. nat_lt 0 n && b) (list_any-append (λ m. m == n) es fs) ∙ each_of (nat_lt 0 n) (is_one_of n es) (is_one_of n fs)
 
-not_filed : (heading : Heading) (n : ℕ) → is_filed_by heading n [] [] ≡ false
+pub not_filed : (heading : Heading) (n : ℕ) → is_filed_by heading n [] [] ≡ false
 not_filed Issuer n = refl
 not_filed Expiry n = none (nat_lt 0 n)
   where
@@ -84,6 +85,23 @@ pub two_parts : (heading : Heading) (n expires : ℕ) (is es : List ℕ) (old ow
 two_parts heading n expires is es old own one rest two e f g =
     g ∙ ap₂ (λ a b. a || (own && b)) e f ∙ together old own (is_filed_by heading n [] (expires ∷ [])) (is_filed_by heading n is es)
     ∙ ap (λ b. old || (own && b)) (sym (filed_append heading n [] (expires ∷ []) is es))
+
+-- a walk over some things that adds what each of them is under
+module _ {X : Type 0} (under : List X → Bool) (things : List X) (i : ℕ) (had own all : Bool) where
+  pub one_filed : (x : X) (one new : Bool) → i < length things → x ≡ get_or things i x → under (x ∷ drop (i + 1) things) ≡ (one || under (drop (i + 1) things))
+      → new ≡ (had || (own && one)) → (had || (own && under (drop i things))) ≡ all → (new || (own && under (drop (i + 1) things))) ≡ all
+  one_filed x one new short is first put whole =
+      ap (λ b. b || (own && under (drop (i + 1) things))) put ∙ together had own one (under (drop (i + 1) things))
+      ∙ ap (λ b. had || (own && b)) (sym first ∙ ap (λ y. under (y ∷ drop (i + 1) things)) is ∙ sym (ap under (drop_more things i x short)))
+      ∙ whole
+
+  pub none_left : length things ≤ i → under [] ≡ false → (had || (own && under (drop i things))) ≡ all → had ≡ all
+  none_left long nothing whole = sym (ap (λ b. had || (own && b)) (at_drop_all under things i long ∙ nothing) ∙ neither had own) ∙ whole
+    where
+      neither : (b c : Bool) → (b || (c && false)) ≡ b
+      neither true c = refl
+      neither false true = refl
+      neither false false = refl
 
 -- where a key's own pairs come in place of those that it had
 pub given_way : (own had come under : Bool) → come ≡ (own && under) → ((had && not own) || come) ≡ cond own under had
