@@ -135,41 +135,40 @@ fn write_edit(writer: &mut Writer, edit: &Edit) -> Result<(), Mem>
     match edit {
         Edit::Import(keys) => {
             writer.number_1(1)?;
-            writer.list(keys)?;
+            writer.list(keys)
         }
         Edit::Ownertrust(entries) => {
             writer.number_1(2)?;
-            writer.list(entries)?;
+            writer.list(entries)
         }
         Edit::Set(fpr, trust) => {
             writer.number_1(3)?;
             writer.fpr(fpr)?;
-            writer.trust(*trust)?;
+            writer.trust(*trust)
         }
         Edit::Flag(fpr, disabled) => {
             writer.number_1(4)?;
             writer.fpr(fpr)?;
-            writer.flag(*disabled)?;
+            writer.flag(*disabled)
         }
         Edit::Delete(id) => {
             writer.number_1(5)?;
-            writer.key_id(*id)?;
+            writer.key_id(*id)
         }
         Edit::Date(date) => {
             writer.number_1(6)?;
-            writer.number_4(*date)?;
+            writer.number_4(*date)
         }
         Edit::Options(options) => {
             writer.number_1(7)?;
-            writer.options(options)?;
+            writer.options(options)
         }
         Edit::Sample(seed, count) => {
             writer.number_1(8)?;
             writer.number_8(*seed)?;
-            writer.number_4(*count)?;
+            writer.number_4(*count)
         }
     }
-    Ok(())
 }
 
 /// The one payload of an edit. The journal writes it into the edit's record.
