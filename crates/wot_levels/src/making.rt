@@ -1,6 +1,7 @@
 //! Rows made of standings, and put among others.
 
 ghost use Rattle.std.specs.Prelude.{◌≡◌, IfOk, IfSome, option_map};
+ghost use Rattle.std.specs.FinMap as map;
 ghost use Rattle.std.specs.Option.{option_copied};
 ghost use Rattle.wot_levels.specs.Standings.{standing_row};
 ghost use Rattle.wot_levels.specs.Walk.{with_found};
@@ -40,13 +41,24 @@ pub fn row_if(id: KeyId, level: u8, standing: &Option<Standing<'_>>) -> Result<O
     }
 }
 
-/// The rows and that of a key, if it has one.
-pub fn with_row(rows: Rows, id: KeyId, row: Option<Row>) -> Result<Rows, Mem>
-    requires own { IfSome row (λ r. r.key ≡ id) }
-    ensures { IfOk result (λ new. new ≡ with_found rows id row) }
+/// The rows and that which a standing makes at a level.
+pub fn with_row(rows: Rows, id: KeyId, level: u8, standing: &Standing<'_>) -> Result<Rows, Mem>
+    ensures { IfOk result (λ new. new ≡ map.insert rows id (standing_row id level standing.now)) }
 {
-    match row {
-        Some(row) => rows.insert(row),
+    rows.insert(row_of(id, level, standing)?)
+}
+
+/// The rows and that which a standing makes at a level, if there is one.
+pub fn with_row_if(
+    rows: Rows,
+    id: KeyId,
+    level: u8,
+    standing: &Option<Standing<'_>>,
+) -> Result<Rows, Mem>
+    ensures { IfOk result (λ new. new ≡ with_found rows id (option_map (standing_row id level) standing.now)) }
+{
+    match standing {
+        Some(standing) => with_row(rows, id, level, standing),
         None => Ok(rows),
     }
 }

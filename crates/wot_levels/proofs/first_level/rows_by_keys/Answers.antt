@@ -1,8 +1,8 @@
-use Rattle.std.proofs.Common.{◌≡◌, Some, All, sym, ap, subst, ◌∙◌}
+use Rattle.std.proofs.Common.{◌≡◌, Some, All, refl, sym, ap, subst, ◌∙◌}
 use Rattle.std.specs.FinMap as map
 use Rattle.wot_types.specs.Keyring.{Keyring}
 use Rattle.wot_types.specs.Levels.{first_row}
-use Rattle.wot_levels.specs.Walk.{WalksOn, with_found}
+use Rattle.wot_levels.specs.Walk.{WalksOn}
 use Rattle.wot_levels.proofs.RowLemmas.{rows_at_zero}
 use Rattle.wot_levels.proofs.WalksOn.{walk_all, walk_put, walk_start}
 use Rattle.wot_levels.proofs.first_level.rows_by_keys.Goals as goal
@@ -21,9 +21,9 @@ loop-keyblock-preserved c =
     let keys = c.args.state.now.keys in
     let rule = first_row c.args.state.now in
     let left = subst (λ left. WalksOn rule keys left c.loop-keyblock.rows) c.in-Some.ensures.steps c.loop-keyblock.invariant in
-    let made = c.in_ok-rows-2.ensures ∙ ap (λ id. with_found c.loop-keyblock.rows id c.in_ok-row.row) c.id.ensures in
-    subst (WalksOn rule keys c.next.new.self) (sym made)
-    (walk_put rule keys c.in-Some.keyblock c.next.new.self c.loop-keyblock.rows c.in_ok-row.row left c.in_ok-row.ensures.row)
+    let k = c.in-Some.keyblock in
+    subst (WalksOn rule keys c.next.new.self) (sym c.in_ok-rows-2.ensures)
+    (walk_put rule keys k c.next.new.self c.loop-keyblock.rows (rule k.0 k.1) left refl)
 
 pub returns : goal.returns
 returns c =
