@@ -1,14 +1,14 @@
 //! The counts of all keys, from nothing.
 
-ghost use Rattle.std.specs.Prelude.{◌≡◌, ◌≤◌, ◌+◌, IfOk};
-ghost use Rattle.wot_types.specs.Keyring.{cert_total};
-ghost use Rattle.wot_live.specs.Counts.{counts_over};
+ghost use Rattle.std.specs.Prelude.{◌≡◌, ◌≤◌, ◌+◌, IfOk, OnOk};
+ghost use Rattle.wot_types.specs.Keyring.{cert_total, key_certs};
+ghost use Rattle.wot_live.specs.Counts.{counts_over, kept_counts, key_counts, with_counts};
 
 use crate::counts::Counts;
 use crate::key_counts::{counts_in, recount_key};
 use std::sync::ledger::Ledger;
 use wot_levels::certified;
-use wot_table::LentState;
+use wot_table::{Keyblock, LentState};
 use wot_types::{Mem, Rows, Steps};
 
 /// Key by key in rising order, without look-ups.
@@ -23,10 +23,24 @@ pub fn counts_by_walk<L: Ledger>(
     let table = state.table();
     let mut counts = Counts::new(table.alloc());
     for keyblock in table.walk() {
-        let list = counts_in(&keyblock, state, rows, steps)?;
-        counts.set(keyblock.id(), list)?;
+        count_keyblock(state, rows, &mut counts, &keyblock, steps)?;
     }
     Ok(counts)
+}
+
+/// Keeps the counts of a key in place of those it had.
+fn count_keyblock<L: Ledger>(
+    state: &LentState<'_>,
+    rows: &Rows,
+    counts: &mut Counts,
+    keyblock: &Keyblock<'_>,
+    steps: &mut Steps<L>,
+) -> Result<(), Mem>
+    ensures counts { OnOk result (counts.new ≡ with_counts counts.old keyblock.now.0 (kept_counts (key_counts state.now.options state.now.date rows.now keyblock.now.1))) }
+    ensures ticks { steps.new ≤ steps.old + key_certs keyblock.now.1 }
+{
+    let list = counts_in(keyblock, state, rows, steps)?;
+    counts.set(keyblock.id(), list)
 }
 
 /// Those of the keys that introducers certified: no other key has a candidate.

@@ -2,15 +2,46 @@
 
 ghost use Rattle.std.specs.Prelude.{◌≡◌, ◌≤◌, ◌+◌, ◌*◌, IfOk};
 ghost use Rattle.wot_types.specs.Keyring.{cert_total};
+ghost use Rattle.wot_types.specs.Levels.{rows_of};
 ghost use Rattle.wot_types.specs.Payload.{IsInRange};
 ghost use Rattle.wot_levels.specs.Given.{state_of};
+ghost use Rattle.wot_live.specs.Counts.{counts_of};
 
 use crate::all_counts::all_counts;
+use crate::counts::Counts;
 use crate::engine::Engine;
 use std::sync::ledger::Ledger;
 use wot_levels::rows;
 use wot_table::{LentState, Table};
-use wot_types::{Mem, Options, Steps, Trusts};
+use wot_types::{Mem, Options, Rows, Steps, Trusts};
+
+/// The rows of a state, and the counts that belong to them.
+#[derive(Drop)]
+struct Counted {
+    rows: Rows,
+    counts: Counts,
+}
+
+/// The table with its index by issuers, where keys are asked whom they certified: without ownertrust nobody introduces, and none is.
+fn asked_table(table: Table, trusts: &Trusts) -> Result<Table, Mem>
+    ensures { IfOk result (λ new. new ≡ table) }
+{
+    if trusts.len() == 0 {
+        return Ok(table);
+    }
+    table.indexed()
+}
+
+/// The rows of all levels first, then the candidates.
+fn rows_and_counts<L: Ledger>(state: &LentState<'_>, steps: &mut Steps<L>) -> Result<Counted, Mem>
+    ensures rows { IfOk result (λ new. new.rows ≡ rows_of state.now) }
+    ensures counts { IfOk result (λ new. new.counts ≡ counts_of state.now) }
+    ensures ticks { steps.new ≤ steps.old + (state.now.options.depth + 1) * cert_total state.now.keys }
+{
+    let rows = rows(state, steps)?;
+    let counts = all_counts(state, &rows, steps)?;
+    Ok(Counted { rows, counts })
+}
 
 /// The engine of a state of which nothing is counted: the rows of all levels first, then the candidates.
 pub fn count_anew<L: Ledger>(
@@ -24,15 +55,9 @@ pub fn count_anew<L: Ledger>(
     ensures state { IfOk result (λ new. new ≡ state_of table trusts date options) }
     ensures ticks { steps.new ≤ steps.old + (options.depth + 1) * cert_total table }
 {
-    // Without ownertrust nobody introduces, and no key is asked whom it certified.
-    let table = if trusts.len() == 0 {
-        table
-    } else {
-        table.indexed()?
-    };
+    let table = asked_table(table, &trusts)?;
     let state = LentState::of(&table, &trusts, date, &options);
-    let rows = rows(&state, steps)?;
-    let counts = all_counts(&state, &rows, steps)?;
+    let Counted { rows, counts } = rows_and_counts(&state, steps)?;
     Ok(Engine {
         table,
         trusts,

@@ -7,7 +7,7 @@ ghost use Rattle.wot_live.specs.Counts.{counts_over, counts_rule};
 ghost use Rattle.wot_live.specs.FoundCounts.{IsCountedByPiece, found_pairs, kept_pair, kept_pairs};
 ghost use Rattle.wot_workers.specs.Pieces.{IsPieceSize};
 
-use crate::counts::{Counts, have_candidates};
+use crate::counts::{Counts, kept_counts};
 use crate::counts_of_key::KeyCounts;
 use crate::key_counts::counts_at;
 use std::alloc::{AllocError, Global};
@@ -29,10 +29,26 @@ fn push_counts_of_id<L: Ledger>(
     ensures { OnOk result (to.new.items ≡ to.old.items ++ kept_pair id (counts_rule state.now.keys state.now.options state.now.date rows.now id)) }
 {
     let counts = counts_at(state, rows, id, steps)?;
-    if have_candidates(counts.as_slice()) {
-        to.push((id, KeyCounts::of(counts)))?;
+    if let Some(counts) = kept_counts(counts) {
+        to.push((id, counts))?;
     }
     Ok(())
+}
+
+/// The counts of those of these keys that have a candidate.
+fn pairs_of<L: Ledger>(
+    state: &LentState<'_>,
+    rows: &Rows,
+    ids: &[KeyId],
+    steps: &mut Steps<L>,
+) -> Result<Vec<(KeyId, KeyCounts)>, Mem>
+    ensures { IfOk result (λ pairs. pairs.items ≡ kept_pairs state.now rows.now ids.now) }
+{
+    let mut pairs = Vec::new(state.table().alloc());
+    for id in ids {
+        push_counts_of_id(state, rows, *id, &mut pairs, steps)?;
+    }
+    Ok(pairs)
 }
 
 /// The counts of a piece of the keys, over a counter of its own.
@@ -46,11 +62,7 @@ fn count_keys<L: Ledger>(
     ensures { IfOk result (λ pairs. pairs.items ≡ kept_pairs state.now rows.now ids.now) }
 {
     let mut steps = Steps::<L>::open(blank);
-    let mut pairs = Vec::new(state.table().alloc());
-    for id in ids {
-        push_counts_of_id(state, rows, *id, &mut pairs, &mut steps)?;
-    }
-    Ok(pairs)
+    pairs_of(state, rows, ids, &mut steps)
 }
 
 /// What a worker counts.
@@ -101,6 +113,20 @@ fn merged(
     Ok(pairs)
 }
 
+/// The counts of those of these keys that have a candidate, by these workers.
+fn pairs_by<R: Threads + Sync, G: Gate + Sync>(
+    workers: &Workers<'_, R, G>,
+    state: &LentState<'_>,
+    rows: &Rows,
+    ids: &[KeyId],
+) -> Result<Vec<(KeyId, KeyCounts)>, Mem>
+    ensures { IfOk result (λ pairs. pairs.items ≡ kept_pairs state.now rows.now ids.now) }
+{
+    let size = piece_size(ids.len(), workers.count);
+    let found = count_pieces(workers, state, rows, ids, size)?;
+    merged(state.table().alloc(), found)
+}
+
 /// The counts of all keys, made by these workers by counters of their own. They call no gate.
 pub fn counts_by<R: Threads + Sync, G: Gate + Sync>(
     workers: &Workers<'_, R, G>,
@@ -109,9 +135,7 @@ pub fn counts_by<R: Threads + Sync, G: Gate + Sync>(
 ) -> Result<Counts, Mem>
     ensures { IfOk result (λ counts. counts ≡ counts_over state.now.keys state.now.options state.now.date rows.now) }
 {
-    let ids = state.table().ids()?;
-    let size = piece_size(ids.len(), workers.count);
-    let found = count_pieces(workers, state, rows, &ids, size)?;
-    let alloc = state.table().alloc();
-    Counts::of(alloc, merged(alloc, found)?)
+    let table = state.table();
+    let ids = table.ids()?;
+    Counts::of(table.alloc(), pairs_by(workers, state, rows, &ids)?)
 }

@@ -4,12 +4,13 @@ ghost use Rattle.std.specs.Prelude.{◌≡◌, ◌≤◌, ◌+◌, ◌*◌, ℕ,
 ghost use Rattle.std.specs.List.{IsDistinct};
 ghost use Rattle.wot_types.specs.State.{State};
 ghost use Rattle.wot_types.specs.Explanation.{KeySet};
+ghost use Rattle.wot_types.specs.Indexes.{has_cert_by};
 ghost use Rattle.wot_types.specs.Keyring.{certs_at};
 ghost use Rattle.wot_types.specs.Payload.{IsInRange};
 ghost use Rattle.wot_types.specs.Touched.{certs_on, is_touched};
 ghost use Rattle.wot_levels.specs.Frontier.{weight};
-ghost use Rattle.wot_live.specs.Agenda.{AreDue, IsWithin, due_at, is_due};
-ghost use Rattle.wot_live.specs.Recounting.{IsBegun, IsCounted, IsRecounted, IsTouchedList};
+ghost use Rattle.wot_live.specs.Agenda.{AreDue, IsPutOff, IsWithin, due_at, is_due};
+ghost use Rattle.wot_live.specs.Recounting.{IsBegun, IsCounted, IsGrownBy, IsRecounted, IsTouchedList};
 
 use crate::agenda::{Agenda, Due};
 use crate::changed_row::recount_row;
@@ -17,7 +18,7 @@ use crate::planning::{Course, plan};
 use crate::worklist::{Worklist, certified_by};
 use std::sync::ledger::Ledger;
 use wot_levels::each_once;
-use wot_table::LentState;
+use wot_table::{LentState, Table};
 use wot_types::{KeyId, Mem, Rows, Steps};
 
 /// Rows while they are recounted, and the keys to be recounted, which only grow.
@@ -43,19 +44,29 @@ fn recount_key<L: Ledger>(
 {
     let Course { rows, todo, agenda } = course;
     let new = recount_row(state, rows, id, level, steps)?;
+    let course = Course {
+        rows: new.rows,
+        todo,
+        agenda,
+    };
     if !new.changed {
-        return Ok(Course {
-            rows: new.rows,
-            todo,
-            agenda,
-        });
+        return Ok(course);
     }
-    let table = state.table();
+    add_certified(state.table(), course, id, level as u16 + 1)
+}
+
+/// Adds the keys that a key certified: they are to be recounted too, and are due at this level.
+fn add_certified(table: &Table, course: Course, id: KeyId, level: u16) -> Result<Course, Mem>
+    ensures rows { IfOk result (λ new. new.rows ≡ course.rows) }
+    ensures todo { IfOk result (λ new. IsGrownBy (has_cert_by table.now id) course.todo new.todo) }
+    ensures agenda { IfOk result (λ new. IsPutOff (has_cert_by table.now id) level course.agenda new.agenda) }
+{
+    let Course { rows, todo, agenda } = course;
     let ids = certified_by(table, id)?;
     Ok(Course {
-        rows: new.rows,
+        rows,
         todo: todo.add_all(&ids)?,
-        agenda: agenda.add_all(table.alloc(), level as u16 + 1, &ids)?,
+        agenda: agenda.add_all(table.alloc(), level, &ids)?,
     })
 }
 

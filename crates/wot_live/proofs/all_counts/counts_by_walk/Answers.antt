@@ -4,7 +4,6 @@ use Rattle.wot_types.specs.declared.key.Key.{Key}
 use Rattle.wot_types.specs.Keyring.{cert_total, key_certs}
 use Rattle.wot_levels.specs.Walk.{WalksOn}
 use Rattle.wot_levels.proofs.WalksOn.{walk_all, walk_start}
-use Rattle.wot_live.specs.Counts.{kept_counts, with_counts}
 use Rattle.wot_live.proofs.AllCounts.{all_certs_left, counts_by, left_certs, walk_counted}
 use Rattle.wot_live.proofs.all_counts.counts_by_walk.Goals as goal
 
@@ -23,11 +22,11 @@ loop-keyblock-init g c =
       ticks = let certs = ap left_certs all ∙ all_certs_left table ∙ ap cert_total c.table-table.ensures in omega (arith, certs);
     }
 
-pub returns-in_err-list-clause-ticks : goal.returns-in_err-list-clause-ticks
-returns-in_err-list-clause-ticks g c =
+pub returns-in_err-count_keyblock-clause-ticks : goal.returns-in_err-count_keyblock-clause-ticks
+returns-in_err-count_keyblock-clause-ticks g c =
     let one = ap left_certs c.in-Some.ensures.steps ∙ sum_by-cons (λ (e : ℕ × Key). key_certs e.1) c.in-Some.keyblock c.next.new.self in
     let sofar = c.loop-keyblock.invariant.ticks in
-    let cost = c.counts_in.ensures.ticks in
+    let cost = c.count_keyblock.ensures.ticks in
     omega (arith, one, sofar, cost)
 
 pub loop-keyblock-preserved : goal.loop-keyblock-preserved
@@ -40,12 +39,11 @@ loop-keyblock-preserved g c =
     let e = c.in-Some.keyblock in
     let old = c.loop-keyblock.counts in
     let left = subst (λ left. WalksOn rule keys left old) c.in-Some.ensures.steps c.loop-keyblock.invariant.counts in
-    let made = c.in_ok-set.ensures ∙ (λ i. with_counts old (c.id.ensures i) (kept_counts (c.in_ok-list.ensures.counts i))) in
     let one = ap left_certs c.in-Some.ensures.steps ∙ sum_by-cons (λ (e : ℕ × Key). key_certs e.1) e c.next.new.self in
     let sofar = c.loop-keyblock.invariant.ticks in
-    let cost = c.in_ok-list.ensures.ticks in
+    let cost = c.in_ok-count_keyblock.ensures.ticks in
     record {
-      counts = subst (WalksOn rule keys c.next.new.self) (sym made) (walk_counted keys o now rows e c.next.new.self old left);
+      counts = subst (WalksOn rule keys c.next.new.self) (sym c.in_ok-count_keyblock.ensures.counts) (walk_counted keys o now rows e c.next.new.self old left);
       ticks = omega (arith, one, sofar, cost);
     }
 

@@ -1,6 +1,6 @@
 use Rattle.std.proofs.Common.{◌≡◌, take}
 use Rattle.wot_live.specs.FoundCounts.{kept_pairs}
-use Rattle.wot_live.proofs.counting.count_keys.Given as goal
+use Rattle.wot_live.proofs.counting.pairs_of.Given as goal
 
 -- those of the keys so far
 abbrev pub invariant-loop-id : goal.invariant-loop-id
