@@ -71,4 +71,17 @@ impl Todo {
         let list = named_by_date(list, table, from, to)?;
         Ok(Todo::Named(Named { rows, counts, list }))
     }
+
+    /// The same, with all keys in place of a list that has each key of the table.
+    pub fn all_if_whole(self, table: &Table) -> Todo
+        ensures { (s t : State) (names : KeySet) → t.keys ≡ table.now → IsDueSince s names t self → IsDueSince s names t result }
+    {
+        let Todo::Named(named) = self else {
+            return Todo::All;
+        };
+        if named.list.is_whole(table) {
+            return Todo::All;
+        }
+        Todo::Named(named)
+    }
 }

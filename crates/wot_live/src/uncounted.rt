@@ -5,31 +5,30 @@ ghost use Rattle.std.specs.FinMap as map;
 ghost use Rattle.wot_types.specs.Explanation.{KeySet};
 ghost use Rattle.wot_types.specs.Keyring.{with_keys};
 ghost use Rattle.wot_types.specs.Ownertrust.{with_entries};
+ghost use Rattle.wot_types.specs.Payload.{IsInRange};
 ghost use Rattle.wot_types.specs.State.{State};
 ghost use Rattle.wot_types.specs.Touched.{certs_on, is_touched, named_by_date, named_by_options, named_by_put, named_by_remove};
 ghost use Rattle.wot_types.specs.WellFormed.{IsWellFormed};
-ghost use Rattle.wot_live.specs.Follows.{IsDue, IsDueSince, uncounted_state, with_named};
+ghost use Rattle.wot_live.specs.declared.todo.Todo.TheVariants.{Named as Listed};
+ghost use Rattle.wot_live.specs.Follows.{Follows, IsDue, IsDueSince, IsListedSince, owned_state, uncounted_state, with_named};
 ghost use Rattle.wot_live.specs.PlainEdit.{IsAllowed, after_plain, named_by_plain};
 
 use crate::anew::count_anew;
+use crate::counts::Counts;
 use crate::engine::Engine;
+use crate::owned_state::OwnedState;
 use crate::plain_edit::PlainEdit;
 use crate::recount::recount;
 use crate::recounting::{Recount, recount_levels};
 use crate::todo::{Named, Todo};
-use crate::worklist::Worklist;
 use std::sync::ledger::Ledger;
-use wot_table::{LentState, Table};
-use wot_types::{Entries, KeyId, Keys, Mem, Options, Rows, Steps, Trusts};
+use wot_table::LentState;
+use wot_types::{Entries, KeyId, Keys, Mem, Options, Rows, Steps};
 
 /// The state that some edits led to, and what they left to be counted.
 #[derive(Drop)]
 pub struct Uncounted {
-    pub table: Table,
-    pub trusts: Trusts,
-    /// Seconds since 1970.
-    pub date: u32,
-    pub options: Options,
+    pub state: OwnedState,
     pub todo: Todo,
 }
 
@@ -52,35 +51,25 @@ impl Uncounted {
     /// Adds or replaces keys, and sets entries, each in turn.
     pub fn put(self, keys: Keys, entries: Entries) -> Result<Uncounted, Mem>
         requires well_formed { All IsWellFormed keys }
-        ensures state { IfOk result (λ new. uncounted_state new ≡ record (uncounted_state self) { keys = with_keys self.table keys; trusts = with_entries self.trusts entries }) }
+        ensures state { IfOk result (λ new. uncounted_state new ≡ record (uncounted_state self) { keys = with_keys self.state.table keys; trusts = with_entries self.state.trusts entries }) }
         ensures since { (s : State) (names : KeySet) → IsDueSince s names (uncounted_state self) self.todo
             → IfOk result (λ new. IsDueSince s (with_named names (named_by_put (uncounted_state self) keys entries)) (uncounted_state new) new.todo) }
     {
-        let todo = self.todo.put(&self.table, &keys, &entries)?;
-        let table = self.table.put_all(keys)?;
-        let trusts = self.trusts.set_all(entries)?;
-        Ok(Uncounted {
-            table,
-            trusts,
-            todo,
-            ..self
-        })
+        let todo = self.todo.put(&self.state.table, &keys, &entries)?;
+        let state = self.state.put(keys, entries)?;
+        Ok(Uncounted { state, todo })
     }
 
     /// Takes a key out.
     pub fn remove(self, id: KeyId) -> Result<Uncounted, Mem>
-        requires there { IsSome (map.get self.table id) }
-        ensures state { IfOk result (λ new. uncounted_state new ≡ record (uncounted_state self) { keys = map.remove self.table id }) }
+        requires there { IsSome (map.get self.state.table id) }
+        ensures state { IfOk result (λ new. uncounted_state new ≡ record (uncounted_state self) { keys = map.remove self.state.table id }) }
         ensures since { (s : State) (names : KeySet) → IsDueSince s names (uncounted_state self) self.todo
             → IfOk result (λ new. IsDueSince s (with_named names (named_by_remove id)) (uncounted_state new) new.todo) }
     {
         let todo = self.todo.remove(id)?;
-        let table = self.table.remove(id)?;
-        Ok(Uncounted {
-            table,
-            todo,
-            ..self
-        })
+        let state = self.state.remove(id)?;
+        Ok(Uncounted { state, todo })
     }
 
     /// Sets the date at which expiries are judged, forward or back, in seconds since 1970.
@@ -89,12 +78,12 @@ impl Uncounted {
         ensures since { (s : State) (names : KeySet) → IsDueSince s names (uncounted_state self) self.todo
             → IfOk result (λ new. IsDueSince s (with_named names (named_by_date (uncounted_state self) now)) (uncounted_state new) new.todo) }
     {
-        let todo = self.todo.set_date(&self.table, self.date, now)?;
-        Ok(Uncounted {
+        let todo = self.todo.set_date(&self.state.table, self.state.date, now)?;
+        let state = OwnedState {
             date: now,
-            todo,
-            ..self
-        })
+            ..self.state
+        };
+        Ok(Uncounted { state, todo })
     }
 
     /// Sets the options of the trust model; all keys are to be counted then.
@@ -103,9 +92,11 @@ impl Uncounted {
         ensures since { (s : State) (names : KeySet) → IsDueSince s (with_named names named_by_options) (uncounted_state result) result.todo }
     {
         Uncounted {
-            options,
+            state: OwnedState {
+                options,
+                ..self.state
+            },
             todo: Todo::All,
-            ..self
         }
     }
 
@@ -115,50 +106,85 @@ impl Uncounted {
         requires due { IsDue (uncounted_state self) self.todo }
         ensures state { IfOk result (λ new. new ≡ uncounted_state self) }
         ensures ticks { (s : State) (names : KeySet) → IsDueSince s names (uncounted_state self) self.todo
-            → steps.new ≤ steps.old + (self.options.depth + 1) * certs_on (is_touched names s (uncounted_state self)) self.table }
+            → steps.new ≤ steps.old + (self.state.options.depth + 1) * certs_on (is_touched names s (uncounted_state self)) self.state.table }
     {
-        let Uncounted {
-            table,
-            trusts,
-            date,
-            options,
-            todo,
-        } = self;
-        let Todo::Named(Named { rows, counts, list }) = todo else {
-            return count_anew(table, trusts, date, options, steps);
-        };
-        if list.is_whole(&table) {
-            return count_anew(table, trusts, date, options, steps);
+        match self.todo.all_if_whole(&self.state.table) {
+            Todo::All => {
+                let OwnedState {
+                    table,
+                    trusts,
+                    date,
+                    options,
+                } = self.state;
+                count_anew(table, trusts, date, options, steps)
+            }
+            Todo::Named(named) => count_listed(self.state, named, steps),
         }
-        let table = recounted_table(table, &trusts, &rows, &list)?;
-        let state = LentState::of(&table, &trusts, date, &options);
-        let found = Recount { rows, todo: list };
-        let found = recount_levels(&state, found, steps)?;
-        let Recount { rows, todo } = found;
-        let counts = recount(&state, &rows, counts, &todo, steps)?;
-        Ok(Engine {
-            table,
-            trusts,
-            date,
-            options,
-            rows,
-            counts,
-        })
     }
 }
 
-/// The table for a recount of listed keys, with its index by issuers, by which a key whose row changes tells whom it certified. It is not
-/// made where no row changes: where no key is listed, and where nobody introduced and nobody does.
-fn recounted_table(
-    table: Table,
-    trusts: &Trusts,
-    rows: &Rows,
-    list: &Worklist,
-) -> Result<Table, Mem>
-    ensures { IfOk result (λ new. new ≡ table) }
+/// The engine of a state by the rows and counts of the one before, of which those of listed keys are to be taken anew.
+fn count_listed<L: Ledger>(
+    state: OwnedState,
+    named: Named,
+    steps: &mut Steps<L>,
+) -> Result<Engine, Mem>
+    requires due { IsDue (owned_state state) (Listed named) }
+    ensures state { IfOk result (λ new. new ≡ owned_state state) }
+    ensures ticks { (s : State) (names : KeySet) → IsListedSince s names (owned_state state) named
+        → steps.new ≤ steps.old + (state.options.depth + 1) * certs_on (is_touched names s (owned_state state)) state.table }
 {
-    if list.len() == 0 || (rows.len() == 0 && trusts.len() == 0) {
-        return Ok(table);
+    let state = indexed_for(state, &named)?;
+    let Counted { rows, counts } = recounted(&state.lent(), named, steps)?;
+    let OwnedState {
+        table,
+        trusts,
+        date,
+        options,
+    } = state;
+    Ok(Engine {
+        table,
+        trusts,
+        date,
+        options,
+        rows,
+        counts,
+    })
+}
+
+/// The state for a recount of listed keys, with its index by issuers, by which a key whose row changes tells whom it certified. It is not
+/// made where no row changes: where no key is listed, and where nobody introduced and nobody does.
+fn indexed_for(state: OwnedState, named: &Named) -> Result<OwnedState, Mem>
+    ensures { IfOk result (λ new. owned_state new ≡ owned_state state) }
+{
+    if named.list.len() == 0 || (named.rows.len() == 0 && state.trusts.len() == 0) {
+        return Ok(state);
     }
-    table.indexed()
+    let table = state.table.indexed()?;
+    Ok(OwnedState { table, ..state })
+}
+
+/// Rows and counts.
+#[derive(Drop)]
+struct Counted {
+    rows: Rows,
+    counts: Counts,
+}
+
+/// The rows and counts of a state, by those of the one before, of which those of listed keys are taken anew.
+fn recounted<L: Ledger>(
+    state: &LentState<'_>,
+    named: Named,
+    steps: &mut Steps<L>,
+) -> Result<Counted, Mem>
+    requires ranges { IsInRange state.now.options }
+    ensures counted { IfOk result (λ new. (s : State) (names : KeySet) → IsListedSince s names state.now named → Follows state.now new.rows new.counts) }
+    ensures ticks { (s : State) (names : KeySet) → IsListedSince s names state.now named
+        → steps.new ≤ steps.old + (state.now.options.depth + 1) * certs_on (is_touched names s state.now) state.now.keys }
+{
+    let Named { rows, counts, list } = named;
+    let found = Recount { rows, todo: list };
+    let Recount { rows, todo } = recount_levels(state, found, steps)?;
+    let counts = recount(state, &rows, counts, &todo, steps)?;
+    Ok(Counted { rows, counts })
 }
