@@ -110,13 +110,8 @@ impl Uncounted {
     {
         match self.todo.all_if_whole(&self.state.table) {
             Todo::All => {
-                let OwnedState {
-                    table,
-                    trusts,
-                    date,
-                    options,
-                } = self.state;
-                count_anew(table, trusts, date, options, steps)
+                let state = self.state;
+                count_anew(state.table, state.trusts, state.date, state.options, steps)
             }
             Todo::Named(named) => count_listed(self.state, named, steps),
         }
@@ -135,20 +130,14 @@ fn count_listed<L: Ledger>(
         → steps.new ≤ steps.old + (state.options.depth + 1) * certs_on (is_touched names s (owned_state state)) state.table }
 {
     let state = indexed_for(state, &named)?;
-    let Counted { rows, counts } = recounted(&state.lent(), named, steps)?;
-    let OwnedState {
-        table,
-        trusts,
-        date,
-        options,
-    } = state;
+    let counted = recounted(&state.lent(), named, steps)?;
     Ok(Engine {
-        table,
-        trusts,
-        date,
-        options,
-        rows,
-        counts,
+        table: state.table,
+        trusts: state.trusts,
+        date: state.date,
+        options: state.options,
+        rows: counted.rows,
+        counts: counted.counts,
     })
 }
 
@@ -182,9 +171,14 @@ fn recounted<L: Ledger>(
     ensures ticks { (s : State) (names : KeySet) → IsListedSince s names state.now named
         → steps.new ≤ steps.old + (state.now.options.depth + 1) * certs_on (is_touched names s state.now) state.now.keys }
 {
-    let Named { rows, counts, list } = named;
-    let found = Recount { rows, todo: list };
-    let Recount { rows, todo } = recount_levels(state, found, steps)?;
-    let counts = recount(state, &rows, counts, &todo, steps)?;
-    Ok(Counted { rows, counts })
+    let found = Recount {
+        rows: named.rows,
+        todo: named.list,
+    };
+    let found = recount_levels(state, found, steps)?;
+    let counts = recount(state, &found.rows, named.counts, &found.todo, steps)?;
+    Ok(Counted {
+        rows: found.rows,
+        counts,
+    })
 }
