@@ -8,19 +8,12 @@ ghost use Rattle.wot_levels.specs.Given.{state_of};
 ghost use Rattle.wot_live.specs.Counts.{counts_of};
 
 use crate::all_counts::all_counts;
-use crate::counts::Counts;
+use crate::counted::Counted;
 use crate::engine::Engine;
 use std::sync::ledger::Ledger;
 use wot_levels::rows;
 use wot_table::{LentState, Table};
-use wot_types::{Mem, Options, Rows, Steps, Trusts};
-
-/// The rows of a state, and the counts that belong to them.
-#[derive(Drop)]
-struct Counted {
-    rows: Rows,
-    counts: Counts,
-}
+use wot_types::{Mem, Options, Steps, Trusts};
 
 /// The table with its index by issuers, where keys are asked whom they certified: without ownertrust nobody introduces, and none is.
 fn asked_table(table: Table, trusts: &Trusts) -> Result<Table, Mem>

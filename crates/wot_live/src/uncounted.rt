@@ -14,7 +14,7 @@ ghost use Rattle.wot_live.specs.Follows.{Follows, IsDue, IsDueSince, IsListedSin
 ghost use Rattle.wot_live.specs.PlainEdit.{IsAllowed, after_plain, named_by_plain};
 
 use crate::anew::count_anew;
-use crate::counts::Counts;
+use crate::counted::Counted;
 use crate::engine::Engine;
 use crate::owned_state::OwnedState;
 use crate::plain_edit::PlainEdit;
@@ -23,7 +23,7 @@ use crate::recounting::{Recount, recount_levels};
 use crate::todo::{Named, Todo};
 use std::sync::ledger::Ledger;
 use wot_table::LentState;
-use wot_types::{Entries, KeyId, Keys, Mem, Options, Rows, Steps};
+use wot_types::{Entries, KeyId, Keys, Mem, Options, Steps};
 
 /// The state that some edits led to, and what they left to be counted.
 #[derive(Drop)]
@@ -151,13 +151,6 @@ fn indexed_for(state: OwnedState, named: &Named) -> Result<OwnedState, Mem>
     }
     let table = state.table.indexed()?;
     Ok(OwnedState { table, ..state })
-}
-
-/// Rows and counts.
-#[derive(Drop)]
-struct Counted {
-    rows: Rows,
-    counts: Counts,
 }
 
 /// The rows and counts of a state, by those of the one before, of which those of listed keys are taken anew.
