@@ -1,12 +1,13 @@
 //! The check of all stored rows, over several threads.
 
-ghost use Rattle.std.specs.Prelude.{◌≡◌, ◌≤◌, ◌<◌, ◌+◌, ◌*◌, ◌/◌, ◌↔◌, IfOk, None, length};
+ghost use Rattle.std.specs.Prelude.{◌≡◌, ◌≤◌, ◌<◌, ◌+◌, ◌*◌, ◌/◌, ◌↔◌, ℕ, List, IfOk, None, length};
 ghost use Rattle.wot_types.specs.Levels.{rows_of};
 ghost use Rattle.wot_types.specs.Payload.{IsInRange};
 ghost use Rattle.wot_levels.specs.Frontier.{weight};
 ghost use Rattle.wot_workers.specs.Pieces.{IsByPiece, IsPieceSize};
 ghost use Rattle.wot_check.specs.Comparison.{first_fallen};
 ghost use Rattle.wot_check.specs.FirstFault.{first_fault};
+ghost use Rattle.wot_check.specs.KeyWalk.{IsWalk, is_checked};
 ghost use Rattle.wot_check.specs.Stored.{IsFaultAt, IsFirstFault};
 
 use crate::counted::fault_at;
@@ -104,13 +105,25 @@ pub fn check_all<R: Threads + Sync, G: Gate + Sync>(
     ensures first { IfOk result (λ fault. fault ≡ first_fault state.now rows.now) }
     ensures whole { IfOk result (λ fault. (fault ≡ None) ↔ (rows.now ≡ rows_of state.now)) }
 {
-    let ids = checked_keys(alloc, state.table(), rows)?;
-    let size = piece_size(ids.len(), workers.count);
-    let found = check_pieces(workers, alloc, state, rows, &ids, size)?;
-    match first_some(&found) {
+    match find_fallen(workers, alloc, state, rows)? {
         Some(id) => Ok(Some(fault_of(state, rows, id)?)),
         None => Ok(None),
     }
+}
+
+/// The least key, of the keyring or of the rows, whose row doesn't stand.
+fn find_fallen<R: Threads + Sync, G: Gate + Sync>(
+    workers: &Workers<'_, R, G>,
+    alloc: Global,
+    state: &LentState<'_>,
+    rows: &Rows,
+) -> Result<Option<KeyId>, Mem>
+    ensures { IfOk result (λ first. (ids : List ℕ) × IsWalk (is_checked state.now.keys rows.now) None ids × (first ≡ first_fallen state.now rows.now ids)) }
+{
+    let ids = checked_keys(alloc, state.table(), rows)?;
+    let size = piece_size(ids.len(), workers.count);
+    let found = check_pieces(workers, alloc, state, rows, &ids, size)?;
+    Ok(first_some(&found))
 }
 
 /// Both rows of a key, by a counter of its own.
