@@ -14,16 +14,11 @@ use Rattle.wot_site.specs.declared.side.Side.{Side}
 use Rattle.wot_site.specs.declared.side.Side.TheVariants.{Zero, One}
 use Rattle.wot_site.proofs.Works.{works_weaker, works_start}
 use Rattle.wot_journal.specs.Record.{most, open_gate}
-use Rattle.wot_types.specs.Candidates.{RowMap}
-use Rattle.wot_types.specs.Image.{IsBase}
-use Rattle.wot_types.specs.Levels.{rows_of}
-use Rattle.wot_types.specs.PagePlaces.{content_size, page_place, pages_needed}
+use Rattle.wot_types.specs.PagePlaces.{page_place, pages_needed}
 use Rattle.wot_pages.specs.Pages.{contents_for, contents_of}
 use Rattle.wot_pages.specs.Reading.{FindsFault, ReadsPages}
-use Rattle.wot_check.specs.declared.fault.RowFault.{RowFault}
-use Rattle.wot_check.specs.Stored.{IsLeastFault}
 use Rattle.wot_store.specs.declared.error.BadStore.{BadStore}
-use Rattle.wot_store.specs.declared.error.BadStore.TheVariants.{Seal, Spelling, Row}
+use Rattle.wot_store.specs.declared.error.BadStore.TheVariants.{Seal}
 use Rattle.wot_store.specs.declared.header.Header.{Header}
 use Rattle.wot_store.specs.declared.opening.Sizes.{Sizes}
 use Rattle.wot_store.specs.declared.pair.Headers.{Headers}
@@ -256,24 +251,8 @@ module _ (side : Side) (header : Header) (size : ℕ) (contents : List ℕ) (x y
   whole_pages : base_fault side (disk_of side x.disks).reads header ≡ None
   whole_pages = fitting side (disk_of side x.disks).reads header (omega (arith, long, fits)) ∙ ap (λ (o : Option ℕ). option_map Seal o) read.whole
 
-  these_spell : (state : State) (rows : RowMap) → IsBase content_size contents state rows → IsBase content_size (contents_of header.pages (disk_of side x.disks).reads) state rows
-  these_spell state rows spelled = subst (λ (l : List ℕ). IsBase content_size l state rows) read.these spelled
+  pub reads_base : (state : State) → IsBaseOf contents state → ReadsBase side header state x y
+  reads_base state base = record { stays = read.stays; sound = whole_pages; is_base = subst (λ (l : List ℕ). IsBaseOf l state) read.these base }
 
-  pub reads_base : (state : State) (rows : RowMap) → IsBase content_size contents state rows → rows ≡ rows_of state → ReadsBase side header state x y
-  reads_base state rows spelled stand = record {
-    stays = read.stays;
-    sound = whole_pages;
-    is_base = subst (λ (r : RowMap). IsBase content_size (contents_of header.pages (disk_of side x.disks).reads) state r) stand (these_spell state rows spelled);
-  }
-
-  pub lacks_image : ((s : State) (rows : RowMap) → IsBase content_size contents s rows → ⊥) → LacksBase side header Spelling x y
-  lacks_image none = record {
-    stays = read.stays;
-    first = rw whole_pages (λ s rows base. none s rows (subst (λ (l : List ℕ). IsBase content_size l s rows) (sym read.these) base));
-  }
-
-  pub lacks_rows : (state : State) (rows : RowMap) (fault : RowFault) → IsBase content_size contents state rows → IsLeastFault state rows fault → LacksBase side header (Row fault) x y
-  lacks_rows state rows fault spelled least = record {
-    stays = read.stays;
-    first = rw whole_pages (state, rows, these_spell state rows spelled, least);
-  }
+  pub reads_none : (bad : BadStore) → IsNoBase contents bad → LacksBase side header bad x y
+  reads_none bad none = record { stays = read.stays; first = rw whole_pages (subst (λ (l : List ℕ). IsNoBase l bad) read.these none) }

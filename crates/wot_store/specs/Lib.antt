@@ -7,3 +7,4 @@ pub mod Appending
 pub mod Changing
 pub mod Compacting
 pub mod Written
+pub mod Faults

@@ -7,6 +7,8 @@ ghost use Rattle.wot_site.specs.Site.{Stays, Rose, NoneFell};
 ghost use Rattle.wot_site.specs.Gate.{most};
 ghost use Rattle.wot_types.specs.WellFormedState.{IsWellFormedState};
 ghost use Rattle.wot_types.specs.PagePlaces.{page_place};
+ghost use Rattle.wot_store.specs.Base.{IsBaseOf, IsNoBase};
+ghost use Rattle.wot_store.specs.Faults.{unread_pages};
 ghost use Rattle.wot_store.specs.Opening.{ReadsBase, LacksBase, Resumes, FailsBy};
 
 use crate::error::{BadStore, StoreError};
@@ -31,6 +33,37 @@ fn journal_start(pages: u64, size: u64) -> Option<u64>
         return None;
     }
     Some(FIRST + PAGE as u64 * pages)
+}
+
+// What the store answers where the pages of a base were not read.
+fn unread_pages(e: PagesError) -> StoreError
+    ensures { result ≡ unread_pages e }
+{
+    match e {
+        PagesError::DiskFault => StoreError::DiskFault,
+        PagesError::Seal(page) => StoreError::Bad(BadStore::Seal(page)),
+        PagesError::Memory => StoreError::Memory,
+    }
+}
+
+// The parts of a base that has these contents, up to half a gigabyte, which are gone before its rows are checked.
+fn take_base<R: Threads + Sync, G: Gate + Sync>(
+    workers: &Workers<'_, R, G>,
+    alloc: Global,
+    contents: Vec<u8>,
+) -> Result<Parts, StoreError>
+    ensures sound { IfOk result (λ parts. IsWellFormedState parts) }
+    ensures base { IfOk result (λ parts. IsBaseOf contents.items parts) }
+    ensures bad { (b : _) → IsErrOf result (StoreError.Bad b) → IsNoBase contents.items b }
+    ensures no_disk { IsErrOf result StoreError.DiskFault → ⊥ }
+{
+    let found = read_base(alloc, &contents, CONTENT);
+    drop(contents);
+    match found {
+        Ok(Some(image)) => take_rows(workers, alloc, image),
+        Ok(None) => Err(StoreError::Bad(BadStore::Spelling)),
+        Err(Mem::Memory) => Err(StoreError::Memory),
+    }
 }
 
 // Reads the base of a side that has so many bytes, and answers the place behind it.
@@ -58,21 +91,11 @@ fn load_base<R: Threads + Sync, S: Site, G: Gate + Sync>(
     };
     let contents = match read_pages(workers, alloc, site, side, header.epoch, header.pages) {
         Ok(contents) => contents,
-        Err(PagesError::DiskFault) => return Err(StoreError::DiskFault),
-        Err(PagesError::Seal(page)) => return Err(StoreError::Bad(BadStore::Seal(page))),
-        Err(PagesError::Memory) => return Err(StoreError::Memory),
+        Err(e) => return Err(unread_pages(e)),
     };
-    match read_base(alloc, &contents, CONTENT) {
-        Ok(Some(image)) => {
-            // The contents, up to half a gigabyte, are gone before the rows are checked.
-            drop(contents);
-            match take_rows(workers, alloc, image) {
-                Ok(parts) => Ok((parts, start)),
-                Err(e) => Err(e),
-            }
-        }
-        Ok(None) => Err(StoreError::Bad(BadStore::Spelling)),
-        Err(Mem::Memory) => Err(StoreError::Memory),
+    match take_base(workers, alloc, contents) {
+        Ok(parts) => Ok((parts, start)),
+        Err(e) => Err(e),
     }
 }
 

@@ -7,7 +7,13 @@ ghost use Rattle.wot_site.specs.Disk.{disk_of};
 ghost use Rattle.wot_site.specs.Work.{Works};
 ghost use Rattle.wot_site.specs.declared.side.Side.TheVariants.{Zero, One};
 ghost use Rattle.wot_journal.specs.Commit.{MakesCalls};
+ghost use Rattle.wot_types.specs.Image.{image_bytes};
+ghost use Rattle.wot_types.specs.Levels.{rows_of};
+ghost use Rattle.wot_types.specs.PagePlaces.{page_place, pages_needed};
+ghost use Rattle.wot_types.specs.State.{opening_state};
 ghost use Rattle.wot_types.specs.WellFormedState.{IsWellFormedState};
+ghost use Rattle.wot_pages.specs.Pages.{contents_for};
+ghost use Rattle.wot_store.specs.Base.{IsBaseOf};
 ghost use Rattle.wot_store.specs.Opening.{AreSizes, Settles, Settling, InspectsSide, Inspects, IsReady, IsShownBy, Keeping, Opening, Opens, FindsBad, IsSettled, WritesOnlyBlank, FindsOrCreates, first_side, shown_of};
 ghost use Rattle.wot_store.specs.Shows.{IsStored};
 ghost use Rattle.wot_store.specs.Writing.{Becomes, calls_for};
@@ -133,6 +139,18 @@ fn has_closed_gate(header: Option<Header>, size: u64) -> bool
     header.is_none() && 24 <= size
 }
 
+// The engine of a new store, and its image.
+fn new_engine(alloc: Global) -> Result<(Engine, Vec<u8>), Mem>
+    ensures engine { IfOk result (λ new. new.0 ≡ opening_state) }
+    ensures base { IfOk result (λ new. IsBaseOf (contents_for new.1.items) opening_state) }
+    ensures spelled { IfOk result (λ new. new.1.items ≡ image_bytes opening_state (rows_of opening_state)) }
+    ensures end { IfOk result (λ new. page_place (pages_needed (length new.1.items)) ≡ 4120) }
+{
+    let engine = Engine::new(alloc)?;
+    let image = spell_state(alloc, &engine)?;
+    Ok((engine, image))
+}
+
 // Writes a first side over blank ones that have so many bytes. All memory is taken before its first write.
 fn create<S: Site>(alloc: Global, site: &mut S, sizes: Sizes) -> Result<Opened, StoreError>
     requires ready { IfHonest (S.seen site.old) (λ s. IsReady sizes s.disks) }
@@ -148,12 +166,8 @@ fn create<S: Site>(alloc: Global, site: &mut S, sizes: Sizes) -> Result<Opened, 
     ensures counts { NoneFell (S.faults site.old) (S.faults site.new) }
     ensures quiet { (IsErrOf result StoreError.DiskFault → ⊥) → S.faults site.new ≡ S.faults site.old }
 {
-    let engine = match Engine::new(alloc) {
-        Ok(engine) => engine,
-        Err(Mem::Memory) => return Err(StoreError::Memory),
-    };
-    let image = match spell_state(alloc, &engine) {
-        Ok(image) => image,
+    let (engine, image) = match new_engine(alloc) {
+        Ok(new) => new,
         Err(Mem::Memory) => return Err(StoreError::Memory),
     };
     match write_side(

@@ -1,6 +1,6 @@
 //! The rows of a base.
 
-ghost use Rattle.std.specs.Prelude.{◌≡◌, ◌≤◌, IfOk, OnErr, IsErrOf, Err};
+ghost use Rattle.std.specs.Prelude.{◌≡◌, ◌≤◌, IfOk, OnErr, OnOk, IsErrOf, Err};
 ghost use Rattle.wot_types.specs.Levels.{rows_of};
 ghost use Rattle.wot_types.specs.Payload.{IsInRange};
 ghost use Rattle.wot_check.specs.Stored.{IsLeastFault};
@@ -29,10 +29,27 @@ pub fn take_rows<R: Threads + Sync, G: Gate + Sync>(
     ensures bad { (b : _) → IsErrOf result (StoreError.Bad b) → (fault : RowFault) × (b ≡ BadStore.Row fault) × IsLeastFault (image_state image) image.rows fault }
     ensures no_disk { IsErrOf result StoreError.DiskFault → ⊥ }
 {
+    match check_rows(workers, alloc, &image) {
+        Ok(()) => believe(workers, image),
+        Err(e) => Err(e),
+    }
+}
+
+// Refuses a base of which a row doesn't stand.
+fn check_rows<R: Threads + Sync, G: Gate + Sync>(
+    workers: &Workers<'_, R, G>,
+    alloc: Global,
+    image: &Image,
+) -> Result<(), StoreError>
+    requires ranges { IsInRange image.now.options }
+    ensures stand { OnOk result (image.now.rows ≡ rows_of (image_state image.now)) }
+    ensures bad { (b : _) → IsErrOf result (StoreError.Bad b) → (fault : RowFault) × (b ≡ BadStore.Row fault) × IsLeastFault (image_state image.now) image.now.rows fault }
+    ensures no_disk { IsErrOf result StoreError.DiskFault → ⊥ }
+{
     let state = LentState::of(&image.table, &image.trusts, image.date, &image.options);
     let found = check_all(workers, alloc, &state, &image.rows);
     match found {
-        Ok(None) => believe(workers, image),
+        Ok(None) => Ok(()),
         Ok(Some(fault)) => Err(StoreError::Bad(BadStore::Row(fault))),
         Err(Mem::Memory) => Err(StoreError::Memory),
     }
