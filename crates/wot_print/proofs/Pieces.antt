@@ -1,5 +1,5 @@
 -- How the printed lines of a key and of a user ID come together.
-use Rattle.std.proofs.Common.{◌≡◌, ℕ, Bool, true, false, List, [], ◌∷◌, ◌++◌, append_assoc, append-nil, Option, Some, if◌then◌else◌, option_map, sym, ap, ◌∙◌}
+use Rattle.std.proofs.Common.{◌≡◌, ℕ, Bool, true, false, List, [], ◌∷◌, ◌++◌, append_assoc, append-nil, Option, Some, if◌then◌else◌, option_map, sym, ap, subst, ◌∙◌}
 use Rattle.std.specs.List.{flat_map}
 use Rattle.std.proofs.lemmas.Bool.{cond-false, cond-true}
 use Rattle.wot_types.specs.declared.letter.Letter.{Letter}
@@ -26,3 +26,12 @@ one_of_left f done whole x rest all is so_far = append_assoc done (f x) (flat_ma
 -- once none is left, what is done is the whole
 pub none_of_left : {X Y : Type 0} (f : X → List Y) (done whole : List Y) (all : List X) → all ≡ [] → done ++ flat_map f all ≡ whole → done ≡ whole
 none_of_left f done whole all is so_far = sym (append-nil done) ∙ ap (λ l. done ++ flat_map f l) (sym is) ∙ so_far
+
+-- a part of a line is added as its fields, one after the other
+module _ {X : Type 0} (adds : X → List ℕ → X → Type 0) (both : (old now new : X) (a b : List ℕ) → adds old a now → adds now b new → adds old (a ++ b) new) where
+  pub and_two : (old now new : X) (l a b : List ℕ) → adds old l now → adds now (a ++ b) new → adds old (l ++ a ++ b) new
+  and_two old now new l a b first part = subst (λ (line : List ℕ). adds old line new) (sym (append_assoc l a b)) (both old now new l (a ++ b) first part)
+
+  pub and_three : (old now new : X) (l a b c : List ℕ) → adds old l now → adds now (a ++ b ++ c) new → adds old (l ++ a ++ b ++ c) new
+  and_three old now new l a b c first part =
+      subst (λ (line : List ℕ). adds old line new) (sym (append_assoc l (a ++ b) c) ∙ ap (λ line. line ++ c) (sym (append_assoc l a b))) (both old now new l (a ++ b ++ c) first part)

@@ -1,7 +1,9 @@
 //! The last line of an accepted command's reply.
 
-ghost use Rattle.std.specs.Prelude.{◌≡◌, IfOk};
+ghost use Rattle.std.specs.Prelude.{◌≡◌, ◌++◌, IfOk, OnOk};
+ghost use Rattle.std.specs.Fmt.{decimal};
 ghost use Rattle.wot_types.specs.Outcome.{entries_line, import_line, keys_line, ok_line};
+ghost use Rattle.wot_types.specs.Refusals.{reply_line};
 
 use std::alloc::Global;
 use wot_fields::{Printed, Sink, push_number};
@@ -19,12 +21,9 @@ pub fn import_line(alloc: Global, keys: u64, kept: u64, passed: u64) -> Result<V
     ensures { IfOk result (λ text. text.items ≡ import_line keys kept passed) }
 {
     let mut text = Printed::new(alloc);
-    text.push_bytes(b"ok keys ")?;
-    push_number(&mut text, keys)?;
-    text.push_bytes(b" kept ")?;
-    push_number(&mut text, kept)?;
-    text.push_bytes(b" passed ")?;
-    push_number(&mut text, passed)?;
+    push_count(&mut text, b"ok keys ", keys)?;
+    push_count(&mut text, b" kept ", kept)?;
+    push_count(&mut text, b" passed ", passed)?;
     text.push(b'\n')?;
     text.into_vec()
 }
@@ -33,20 +32,31 @@ pub fn import_line(alloc: Global, keys: u64, kept: u64, passed: u64) -> Result<V
 pub fn keys_line(alloc: Global, keys: u32) -> Result<Vec<u8>, Mem>
     ensures { IfOk result (λ text. text.items ≡ keys_line keys) }
 {
-    let mut text = Printed::new(alloc);
-    text.push_bytes(b"ok keys ")?;
-    push_number(&mut text, u64::from(keys))?;
-    text.push(b'\n')?;
-    text.into_vec()
+    count_line(alloc, b"ok keys ", u64::from(keys))
 }
 
 /// `ok entries E`, after an ownertrust text.
 pub fn entries_line(alloc: Global, entries: u64) -> Result<Vec<u8>, Mem>
     ensures { IfOk result (λ text. text.items ≡ entries_line entries) }
 {
+    count_line(alloc, b"ok entries ", entries)
+}
+
+/// A line of words and a count.
+fn count_line(alloc: Global, words: &[u8], count: u64) -> Result<Vec<u8>, Mem>
+    ensures { IfOk result (λ text. text.items ≡ reply_line (words.now ++ decimal count)) }
+{
     let mut text = Printed::new(alloc);
-    text.push_bytes(b"ok entries ")?;
-    push_number(&mut text, entries)?;
+    push_count(&mut text, words, count)?;
     text.push(b'\n')?;
     text.into_vec()
+}
+
+/// Words and a count behind them.
+fn push_count(text: &mut Printed, words: &[u8], count: u64) -> Result<(), Mem>
+    ensures { OnOk result (text.new ≡ text.old ++ words.now ++ decimal count) }
+{
+    text.push_bytes(words)?;
+    push_number(text, count)?;
+    Ok(())
 }

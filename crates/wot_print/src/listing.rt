@@ -86,32 +86,42 @@ pub fn list(alloc: Global, engine: &Engine, only: Option<KeyId>, sigs: bool) -> 
     ensures reads_back { only ≡ None → IsTrue sigs
         → IfOk result (λ text. Spells (listing_lines text.items) (map.values engine.now.keys) (capped (cert_total engine.now.keys)) 0) }
 {
+    match only {
+        Some(id) => list_one(alloc, engine, id, sigs),
+        None => list_all(alloc, engine, sigs),
+    }
+}
+
+/// All keys.
+fn list_all(alloc: Global, engine: &Engine, sigs: bool) -> Result<Vec<u8>, Mem>
+    ensures text { IfOk result (λ text. text.items ≡ list_text engine.now None sigs) }
+    ensures reads_back { IsTrue sigs
+        → IfOk result (λ text. Spells (listing_lines text.items) (map.values engine.now.keys) (capped (cert_total engine.now.keys)) 0) }
+{
     // For the clause of reading back: the law, and that each key of the table is well formed.
     printed_reads_back();
     let _totals = engine.table().totals();
     let mut text = Printed::new(alloc);
     let mut order = block_order(alloc, engine, sigs)?;
-    match only {
-        Some(id) => push_one::<Printed, Brand>(
-            &mut text,
-            engine,
-            id,
-            sigs,
-            &mut order,
-            Blank::new(1),
-        )?,
-        None => {
-            let mut trusts = OwnertrustWalk::of(alloc, engine.trusts())?;
-            push_all::<Printed, Brand>(
-                &mut text,
-                engine,
-                sigs,
-                &mut trusts,
-                &mut order,
-                Blank::new(1),
-            )?
-        }
-    }
+    let mut trusts = OwnertrustWalk::of(alloc, engine.trusts())?;
+    push_all::<Printed, Brand>(
+        &mut text,
+        engine,
+        sigs,
+        &mut trusts,
+        &mut order,
+        Blank::new(1),
+    )?;
+    text.into_vec()
+}
+
+/// The key of a key ID, if it is there.
+fn list_one(alloc: Global, engine: &Engine, id: KeyId, sigs: bool) -> Result<Vec<u8>, Mem>
+    ensures { IfOk result (λ text. text.items ≡ list_text engine.now (Some id) sigs) }
+{
+    let mut text = Printed::new(alloc);
+    let mut order = block_order(alloc, engine, sigs)?;
+    push_one::<Printed, Brand>(&mut text, engine, id, sigs, &mut order, Blank::new(1))?;
     text.into_vec()
 }
 

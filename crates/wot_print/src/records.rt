@@ -1,7 +1,8 @@
 //! The lines of a listing, each by what it shows (doc/DETAILS).
 
-ghost use Rattle.std.specs.Prelude.{◌≡◌, ◌==◌, ◌&&◌, OnOk};
-ghost use Rattle.wot_types.specs.Printing.{capabilities_text, cert_line, class_text, depth_text, ended_field, fpr_line, pub_line, tru_line, user_line};
+ghost use Rattle.std.specs.Prelude.{◌≡◌, ◌==◌, ◌&&◌, ◌++◌, OnOk, codes};
+ghost use Rattle.wot_types.specs.Printing.{capabilities_text, cert_line, class_text, depth_text, ended_field, expiry_field, fpr_line, key_id_text, number_field, pub_line, tru_line, user_line};
+ghost use Rattle.wot_types.specs.Trust.{trust_text};
 ghost use Rattle.wot_print.specs.Shown.{shown_key, shown_user};
 
 use crate::fields::{
@@ -47,17 +48,41 @@ pub fn push_pub<W: Sink>(
 {
     text.push_bytes(b"pub:")?;
     push_field(text, letter_text(letter))?;
-    push_number_field(text, key.bits)?;
-    push_number_field(text, key.algo)?;
-    push_key_id_field(text, id)?;
-    push_number_field(text, key.made)?;
-    push_expiry(text, key.expires)?;
+    push_numbers(text, key.bits, key.algo, id)?;
+    push_dates(text, key.made, key.expires)?;
     text.push(b':')?;
-    push_field(text, trust_text(kept.trust))?;
-    text.push_bytes(b"::")?;
-    push_capabilities(text, key.caps, kept.disabled)?;
+    push_use(text, kept, key.caps)?;
     text.push(b'\n')?;
     Ok(())
+}
+
+/// A key's numbers: `BITS:ALGO:KEYID:`
+fn push_numbers<W: Sink>(text: &mut W, bits: u32, algo: u32, id: KeyId) -> Result<(), W::Error>
+    ensures same { W.name text.new ≡ W.name text.old }
+    ensures adds { OnOk result (W.adds text.old (number_field bits ++ number_field algo ++ ended_field (key_id_text id)) text.new) }
+{
+    push_number_field(text, bits)?;
+    push_number_field(text, algo)?;
+    push_key_id_field(text, id)
+}
+
+/// When something was made and when it expires: `MADE:EXP:`
+fn push_dates<W: Sink>(text: &mut W, made: u32, expires: u32) -> Result<(), W::Error>
+    ensures same { W.name text.new ≡ W.name text.old }
+    ensures adds { OnOk result (W.adds text.old (number_field made ++ expiry_field expires) text.new) }
+{
+    push_number_field(text, made)?;
+    push_expiry(text, expires)
+}
+
+/// How far a key is trusted and what it can do: `OWNERTRUST:::CAPS:`
+fn push_use<W: Sink>(text: &mut W, kept: Ownertrust, caps: &Text) -> Result<(), W::Error>
+    ensures same { W.name text.new ≡ W.name text.old }
+    ensures adds { OnOk result (W.adds text.old (ended_field (trust_text kept.trust) ++ codes "::" ++ ended_field (capabilities_text kept.disabled caps.now)) text.new) }
+{
+    push_field(text, trust_text(kept.trust))?;
+    text.push_bytes(b"::")?;
+    push_capabilities(text, caps, kept.disabled)
 }
 
 /// The capabilities, with `D` where the key is disabled.
@@ -88,8 +113,7 @@ pub fn push_user<W: Sink>(text: &mut W, letter: Letter, user: &UserHead<'_>) -> 
     push_field(text, kind_text(user.kind))?;
     push_field(text, letter_text(letter))?;
     text.push_bytes(b":::")?;
-    push_number_field(text, user.made)?;
-    push_expiry(text, user.expires)?;
+    push_dates(text, user.made, user.expires)?;
     push_field(text, user.hash.as_bytes())?;
     text.push(b':')?;
     push_quoted_field(text, user.text)?;
@@ -105,8 +129,7 @@ pub fn push_cert<W: Sink>(text: &mut W, cert: &Cert) -> Result<(), W::Error>
     push_field(text, cert_name(cert))?;
     text.push_bytes(b"!:::")?;
     push_key_id_field(text, cert.issuer)?;
-    push_number_field(text, cert.made)?;
-    push_expiry(text, cert.expires)?;
+    push_dates(text, cert.made, cert.expires)?;
     push_depth(text, cert)?;
     push_scope(text, &cert.scope)?;
     text.push(b':')?;

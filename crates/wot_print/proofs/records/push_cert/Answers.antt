@@ -1,19 +1,14 @@
-use Rattle.std.proofs.Common.{rules, [], ◌∷◌, codes}
-use Rattle.wot_types.specs.Bytes.{newline}
-use Rattle.wot_types.specs.Printing.{cert_name, class_text, depth_text, ended_field, expiry_field, key_id_text, number_field, scope_text}
+use Rattle.std.proofs.Common.{List, ℕ, subst}
+use Rattle.wot_types.specs.Printing.{ended_field}
+use Rattle.wot_print.proofs.Pieces.{and_two}
 use Rattle.wot_print.proofs.records.push_cert.Goals as goal
 
 pub returns-clause-adds : goal.returns-clause-adds
 returns-clause-adds g c =
+    let adds = g.W.Sink.adds in
     let both = g.met.W.Sink.both in
-    let part-1 : g.W.Sink.adds c.args.text.now (ended_field (cert_name c.args.cert.now)) c.push_field.new.text = search rules in
-    let part-2 : g.W.Sink.adds c.push_field.new.text (codes "!:::") c.push_bytes.new.self = search rules in
-    let part-3 : g.W.Sink.adds c.push_bytes.new.self (ended_field (key_id_text c.args.cert.now.issuer)) c.push_key_id_field.new.text = search rules in
-    let part-4 : g.W.Sink.adds c.push_key_id_field.new.text (number_field c.args.cert.now.made) c.push_number_field.new.text = search rules in
-    let part-5 : g.W.Sink.adds c.push_number_field.new.text (expiry_field c.args.cert.now.expires) c.push_expiry.new.text = search rules in
-    let part-6 : g.W.Sink.adds c.push_expiry.new.text (ended_field (depth_text c.args.cert.now)) c.push_depth.new.text = search rules in
-    let part-7 : g.W.Sink.adds c.push_depth.new.text (ended_field (scope_text c.args.cert.now.scope)) c.push_scope.new.text = search rules in
-    let part-8 : g.W.Sink.adds c.push_scope.new.text (codes ":") c.push.new.self = search rules in
-    let part-9 : g.W.Sink.adds c.push.new.self (ended_field (class_text c.args.cert.now)) c.push_class.new.text = search rules in
-    let part-10 : g.W.Sink.adds c.push_class.new.text (newline ∷ []) c.push-2.new.self = search rules in
-    both _ _ _ _ _ (both _ _ _ _ _ (both _ _ _ _ _ (both _ _ _ _ _ (both _ _ _ _ _ (both _ _ _ _ _ (both _ _ _ _ _ (both _ _ _ _ _ (both _ _ _ _ _ part-1 part-2) part-3) part-4) part-5) part-6) part-7) part-8) part-9) part-10
+    let name = subst (λ (name : List ℕ). adds c.args.text.now (ended_field name) c.push_field.new.text) c.cert_name.ensures c.in_ok-push_field.ensures.adds in
+    let issued = both _ _ _ _ _ (both _ _ _ _ _ name c.in_ok-push_bytes.ensures.adds) c.in_ok-push_key_id_field.ensures.adds in
+    let dated = and_two adds both _ _ _ _ _ _ issued c.in_ok-push_dates.ensures.adds in
+    let trusted = both _ _ _ _ _ (both _ _ _ _ _ dated c.in_ok-push_depth.ensures.adds) c.in_ok-push_scope.ensures.adds in
+    both _ _ _ _ _ (both _ _ _ _ _ (both _ _ _ _ _ trusted c.in_ok-push.ensures.adds) c.in_ok-push_class.ensures.adds) c.in_ok-push-2.ensures.adds
