@@ -1,6 +1,7 @@
 //! A run over its opened store: a session over the input, or one command.
 
-ghost use Rattle.std.specs.Prelude.{◌≡◌, ◌≤◌, [], IfOk, IfErr};
+ghost use Rattle.std.specs.Prelude.{◌≡◌, ◌<◌, ◌≤◌, ℕ, true, false, [], length, IfOk, IfErr};
+ghost use Rattle.wot_types.specs.Grammar.{has_block};
 ghost use Rattle.wot_types.specs.Store.{Store};
 ghost use Rattle.wot_site.specs.Seen.{Honestly};
 ghost use Rattle.wot_session.specs.Here.{Holds, IsOpened};
@@ -39,20 +40,57 @@ pub fn run_opened<R: Threads + Sync, S: Site, G: Gate + Sync>(
     if words.as_slice().is_empty() {
         return run_lines(workers, alloc, opened, site, most);
     }
-    if !has_block(words) {
-        let mut session = Session::new(alloc, opened, Division::Between);
-        match session.perform_command(workers, site, words) {
-            Ok(()) => {
-                let refused = session.is_refused();
-                leave(session);
-                return Ok(refused);
-            }
-            Err(stop) => {
-                leave(session);
-                return Err(stop);
-            }
-        }
+    if has_block(words) {
+        return run_block(workers, alloc, words, opened, site, most);
     }
+    run_command(workers, alloc, words, opened, site)
+}
+
+/// Runs the one command that the words are, which takes no block: the input is not touched, whatever its bound.
+fn run_command<R: Threads + Sync, S: Site, G: Gate + Sync>(
+    workers: &Workers<'_, R, G>,
+    alloc: Global,
+    words: &Words,
+    opened: Opened,
+    site: &mut S,
+) -> Result<bool, Stop>
+    requires some { 0 < length words.now }
+    requires none { has_block words.now ≡ false }
+    requires opened { (store : Store) × IsOpened opened store × Holds opened.place (S.seen site.old) store }
+    ensures ended { IfOk result (λ refused. (store : Store) → IsOpened opened store → Holds opened.place (S.seen site.old) store
+        → (most : ℕ) → Honestly (S.seen site.old) (S.seen site.new) (WordsEnded store words.now most refused)) }
+    ensures stopped { IfErr result (λ stop. (store : Store) → IsOpened opened store → Holds opened.place (S.seen site.old) store
+        → (most : ℕ) → Honestly (S.seen site.old) (S.seen site.new) (WordsStopped store words.now most stop)) }
+    ensures cause { HasStopCause (S.faults site.old) (S.faults site.new) result }
+{
+    let mut session = Session::new(alloc, opened, Division::Between);
+    let performed = session.perform_command(workers, site, words);
+    let refused = session.is_refused();
+    leave(session);
+    match performed {
+        Ok(()) => Ok(refused),
+        Err(stop) => Err(stop),
+    }
+}
+
+/// Runs the one command that the words are, which takes the input as its block.
+fn run_block<R: Threads + Sync, S: Site, G: Gate + Sync>(
+    workers: &Workers<'_, R, G>,
+    alloc: Global,
+    words: &Words,
+    opened: Opened,
+    site: &mut S,
+    most: u64,
+) -> Result<bool, Stop>
+    requires some { 0 < length words.now }
+    requires block { has_block words.now ≡ true }
+    requires opened { (store : Store) × IsOpened opened store × Holds opened.place (S.seen site.old) store }
+    ensures ended { IfOk result (λ refused. (store : Store) → IsOpened opened store → Holds opened.place (S.seen site.old) store
+        → Honestly (S.seen site.old) (S.seen site.new) (WordsEnded store words.now most refused)) }
+    ensures stopped { IfErr result (λ stop. (store : Store) → IsOpened opened store → Holds opened.place (S.seen site.old) store
+        → Honestly (S.seen site.old) (S.seen site.new) (WordsStopped store words.now most stop)) }
+    ensures cause { HasStopCause (S.faults site.old) (S.faults site.new) result }
+{
     let block = match begin_block(alloc, words) {
         Ok(block) => block,
         Err(Mem::Memory) => return Err(Stop::Memory),
