@@ -3,10 +3,11 @@
 ghost use Rattle.std.specs.Prelude.{◌≡◌, ◌⊎◌, ◌↔◌, ◌<◌, ◌≤◌, ◌||◌, ℕ, true, false, List, [], ◌∷◌, length, take, min, Some, None, Ok, OnOk, OnErr, IfOk, IfErr, IsErrOf, IsTrue};
 ghost use Rattle.wot_types.specs.Store.{Store};
 ghost use Rattle.wot_types.specs.WellFormedState.{IsWellFormedState};
-ghost use Rattle.wot_types.specs.Commands.{begun_command, made_by, unfinished_commands};
+ghost use Rattle.wot_types.specs.Commands.{Command, begun_command, made_by, unfinished_commands};
 ghost use Rattle.wot_types.specs.LineByLine.{Position, after_line, after_lines, closing_reply, commands_in, reply_to_line};
 ghost use Rattle.wot_types.specs.Session.{after_command, at_start, reply_to};
 ghost use Rattle.wot_types.specs.State.{State};
+ghost use Rattle.wot_answer.specs.Block.{IsBlockOf};
 ghost use Rattle.wot_answer.specs.Answer.{IsDivision, reads_on, reply_of};
 ghost use Rattle.wot_site.specs.Site.{Stays};
 ghost use Rattle.wot_site.specs.Seen.{Honestly, IfHonest};
@@ -120,16 +121,16 @@ impl Session {
     }
 
     // Keeps what an answer leaves, but for the division, which counts only where more lines may come; the answer is handed on.
-    fn keep(&mut self, engine: Engine, answer: Answer) -> Answer
-        ensures answer { result ≡ answer }
-        ensures engine { self.new.engine ≡ Some engine }
+    fn keep(&mut self, answered: Answered) -> Answer
+        ensures answer { result ≡ answered.answer }
+        ensures engine { self.new.engine ≡ Some answered.engine }
         ensures place { self.new.place ≡ self.old.place }
-        ensures refused { self.new.refused ≡ (self.old.refused || answer.refused) }
+        ensures refused { self.new.refused ≡ (self.old.refused || answered.answer.refused) }
         ensures division { self.new.division ≡ self.old.division }
     {
-        self.engine = Some(engine);
-        self.refused = self.refused || answer.refused;
-        answer
+        self.engine = Some(answered.engine);
+        self.refused = self.refused || answered.answer.refused;
+        answered.answer
     }
 
     // Answers the open line, which no block goes on with, and begins the next; the answer is to be given.
@@ -145,19 +146,15 @@ impl Session {
             return Err(Mem::Memory);
         };
         let division = mem::replace(&mut self.division, Division::Over);
-        let Answered {
-            engine,
-            answer,
-            division,
-        } = answer_line(
+        let mut answered = answer_line(
             self.alloc,
             engine,
             self.place.end,
             division,
             self.line.get(),
         )?;
-        self.division = division;
-        let answer = self.keep(engine, answer);
+        mem::swap(&mut self.division, &mut answered.division);
+        let answer = self.keep(answered);
         self.line.clear();
         Ok(answer)
     }
@@ -315,19 +312,24 @@ impl Session {
             → IsDue self.new answer p.progress.store (closed_at p) (closing_reply p)) }
         ensures place { self.new.place ≡ self.old.place }
     {
-        let Division::Within(block) = mem::replace(&mut self.division, Division::Over) else {
-            return Ok(self.nothing());
-        };
+        match mem::replace(&mut self.division, Division::Over) {
+            Division::Within(block) => self.end_block(block),
+            Division::Between | Division::Over => Ok(self.nothing()),
+        }
+    }
+
+    // Answers the command of a block that is unfinished; the answer is to be given.
+    fn end_block(&mut self, block: Block) -> Result<Answer, Mem>
+        requires { (command : Command) × IsBlockOf block command }
+        ensures due { IfOk result (λ answer. (p : Position) (command : Command) → IsAt self.old p → IsBlockOf block command
+            → IsDue self.new answer p.progress.store (record p { progress = after_command p.progress command }) (reply_to p.progress command)) }
+        ensures place { self.new.place ≡ self.old.place }
+    {
         let Some(engine) = self.engine.take() else {
             return Err(Mem::Memory);
         };
-        let Answered { engine, answer, .. } = answer_end(
-            self.alloc,
-            engine,
-            self.place.end,
-            block,
-        )?;
-        Ok(self.keep(engine, answer))
+        let answered = answer_end(self.alloc, engine, self.place.end, block)?;
+        Ok(self.keep(answered))
     }
 
     // No reply.
@@ -393,13 +395,8 @@ impl Session {
         let Some(engine) = self.engine.take() else {
             return Err(Mem::Memory);
         };
-        let Answered { engine, answer, .. } = answer_words(
-            self.alloc,
-            engine,
-            self.place.end,
-            words,
-        )?;
-        Ok(self.keep(engine, answer))
+        let answered = answer_words(self.alloc, engine, self.place.end, words)?;
+        Ok(self.keep(answered))
     }
 
     /// The same, and gives it.
