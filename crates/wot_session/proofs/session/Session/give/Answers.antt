@@ -1,5 +1,7 @@
-use Rattle.std.proofs.Common.{◌∙◌}
+use Rattle.std.proofs.Common.{◌∙◌, inl, refl, subst}
 use Rattle.wot_site.proofs.Honest.{honest_and, honest_weaker}
+use Rattle.wot_site.specs.Seen.{Faults}
+use Rattle.wot_site.specs.Site.{NoneFell, Rose}
 use Rattle.wot_session.specs.Ready.{text_of}
 use Rattle.wot_session.proofs.Givings.{due_performs, due_text, given_here, given_none, giving_all, giving_prefix, nothing_written, still_holds, undone}
 use Rattle.wot_session.proofs.session.Session.give.Goals as goal
@@ -44,3 +46,25 @@ returns-clause-prefix g c s after reply due holds =
     giving_prefix _ s t _ _ _ (c.in-Ok-do_effect.ensures.holds s t performs holds)
     (honest_and _ _ _ _ (c.do_effect.ensures.any_moment s t performs holds) (c.do_effect.ensures.written s t performs holds)) (text_of c.in-Ok.ready) reply
     (c.in-Ok.ensures ∙ due_text c.args.self.now c.in-Some.engine c.args.answer s after reply c.in-Some.is due) c.in-Err-tell_ready.ensures.prefix
+
+pub returns-in-Err-clause-cause : goal.returns-in-Err-clause-cause
+returns-in-Err-clause-cause g c =
+    let stops = c.in-Err.ensures.cause in
+    record { why = record { counts = stops.why.counts; quiet = tt; cause = stops.why.cause }; kinds = stops.kinds }
+
+pub returns-in-Ok-tell_ready-clause-cause : goal.returns-in-Ok-tell_ready-clause-cause
+returns-in-Ok-tell_ready-clause-cause g c =
+    let quiet = c.in-Ok-do_effect.ensures.cause.why.quiet in
+    record { why = record { counts = subst (λ faults. NoneFell faults (g.S.Site.faults c.tell_ready.new.site)) quiet c.tell_ready.ensures.cause.counts; quiet = c.in-Ok-tell_ready.ensures.cause.quiet ∙ quiet; cause = tt }; kinds = tt }
+
+pub returns-clause-cause : goal.returns-clause-cause
+returns-clause-cause g c =
+    let quiet = c.in-Ok-do_effect.ensures.cause.why.quiet in
+    record {
+      why = record {
+        counts = subst (λ faults. NoneFell faults (g.S.Site.faults c.tell_ready.new.site)) quiet c.tell_ready.ensures.cause.counts;
+        quiet = tt;
+        cause = subst (λ (faults : Faults). Rose faults.tell (g.S.Site.faults c.tell_ready.new.site).tell) quiet (c.in-Err-tell_ready.ensures.cause.failed refl);
+      };
+      kinds = inl refl;
+    }
