@@ -1,5 +1,5 @@
 -- The opening, and then the session.
-use Rattle.std.proofs.Common.{◌≡◌, ◌⊎◌, inl, inr, ℕ, Bool, true, false, List, [], ◌∷◌, ◌++◌, length, map, if◌then◌else◌, Option, Some, None, refl, sym, ap, ◌∙◌, subst, append_assoc, ◌==◌, ◌<◌, arith}
+use Rattle.std.proofs.Common.{◌≡◌, ◌⊎◌, inl, inr, ℕ, Bool, true, false, List, [], ◌∷◌, ◌++◌, length, map, if◌then◌else◌, Option, Some, None, refl, sym, ap, ◌∙◌, subst, append_assoc, ◌==◌, arith}
 use Rattle.std.proofs.lemmas.List.{append-nil}
 use Rattle.std.proofs.lemmas.List.Elements.{All-append, All-nil, All-weaker}
 use Rattle.wot_types.specs.Grammar.{has_block}
@@ -327,13 +327,6 @@ stopped_ran words most TooLong x z stopped = stopped
 pub no_words : (words : List (List ℕ)) → (length words == 0) ≡ true → words ≡ []
 no_words [] none = refl
 no_words (name ∷ words) none = absurd (omega (arith, eqb-true (length (name ∷ words)) 0 none))
-
-pub some_words : (words : List (List ℕ)) → (length words == 0) ≡ false → words ≡ [] → ⊥
-some_words words some none = cc (some, none, ap (λ words. length words == 0) none)
-
-pub some_length : (words : List (List ℕ)) → (words ≡ [] → ⊥) → 0 < length words
-some_length [] some = absurd (some refl)
-some_length (name ∷ words) some = omega arith
 
 -- the block of the one command
 pub first_block : (block : Block) (words : List (List ℕ)) → (words ≡ [] → ⊥) → IsBlockOf block (begun_command words) → IsDivision (Within block) (first_division words)
