@@ -1,11 +1,12 @@
 -- A walk over keys, and what tells the letters and the ownertrust of each.
-use Rattle.std.proofs.Common.{◌≡◌, ◌≤◌, ℕ, T, All, List, [], ◌∷◌, Some, ap, subst, ◌∙◌, arith}
+use Rattle.std.proofs.Common.{◌≡◌, ◌≤◌, ℕ, T, All, List, [], ◌∷◌, Option, Some, None, option_map, sym, ap, subst, ◌∙◌, arith}
 use Rattle.std.specs.FinMap as map
 use Rattle.std.specs.FinMap.{FinMap, entries_sorted, is_sorted}
 use Rattle.std.specs.FinMap.Entries.{below_all}
 use Rattle.std.specs.Ordering.{is_lt, nat_cmp}
 use Rattle.std.proofs.lemmas.Bool.Decides.{nat_tests}
 use Rattle.std.proofs.lemmas.List.Elements.{All-head}
+use Rattle.std.proofs.lemmas.Option.{none-some, same_Some}
 use Rattle.wot_types.specs.declared.key.Key.{Key}
 use Rattle.wot_types.specs.Accepted.{IsFiled}
 use Rattle.wot_types.specs.Fingerprint.{key_id_of}
@@ -41,3 +42,8 @@ own_id fpr k rest left same step filed = ap key_id_of same ∙ (All-head IsFiled
 -- what tells the letters of the keys of a state by their IDs, for one of its keys
 pub told_of : (letters : Letters) (s : State) (id : ℕ) (k : ℕ × Key) → id ≡ k.0 → map.get s.keys k.0 ≡ Some k.1 → ((key : Key) → map.get s.keys id ≡ Some key → AreOfKey letters (id, key)) → AreOfKey letters k
 told_of letters s id k same there told = subst (λ n. AreOfKey letters (n, k.1)) same (told k.1 (ap (map.get s.keys) same ∙ there))
+
+-- a key that is found has the ID that was looked for
+pub found_id : {X : Type 0} (id : ℕ) (found : Option X) (k : ℕ × X) → option_map (λ x. (id, x)) found ≡ Some k → k.0 ≡ id
+found_id id None k is = absurd (none-some k is)
+found_id id (Some x) k is = sym (ap (λ e. e.0) (same_Some (id, x) k is))

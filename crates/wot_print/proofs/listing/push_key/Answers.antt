@@ -7,9 +7,9 @@ use Rattle.wot_types.specs.Accepted.{IsFiled}
 use Rattle.wot_types.specs.Levels.{rows_of}
 use Rattle.wot_types.specs.Ownertrust.{ownertrust_of}
 use Rattle.wot_types.specs.Printing.{key_lines, listed_keyblocks}
-use Rattle.wot_levels.proofs.HeadLemmas.{found_key, own_id}
+use Rattle.wot_levels.proofs.HeadLemmas.{found_key}
 use Rattle.wot_print.proofs.Room.{room_for_key}
-use Rattle.wot_print.proofs.Walking.{told_of}
+use Rattle.wot_print.proofs.Walking.{found_id, told_of}
 use Rattle.wot_print.proofs.listing.push_key.Goals as goal
 
 pub push_keyblock-requires : goal.push_keyblock-requires
@@ -18,7 +18,7 @@ push_keyblock-requires g c =
     let id = c.args.id in
     let at : option_map (λ (key : Key). (id, key)) (map.get s.keys id) ≡ Some c.in-Some.keyblock =
     sym (ap (λ keys. option_map (λ (key : Key). (id, key)) (map.get keys id)) c.table-2.ensures) ∙ sym c.in-Some.ensures in
-    let same = own_id id (map.get s.keys id) c.in-Some.keyblock at in
+    let same = found_id id (map.get s.keys id) c.in-Some.keyblock at in
     let there = ap (map.get s.keys) same ∙ found_key id (map.get s.keys id) c.in-Some.keyblock at in
     let state = c.letters-letters.ensures.state in
     record {
