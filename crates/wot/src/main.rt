@@ -1,7 +1,7 @@
 //! `wot`: a web of trust engine after GnuPG's, over standard input and output and two files of the current folder.
 #![tactic(auto)]
 
-ghost use Rattle.std.specs.Prelude.{◌≡◌, ◌⊎◌, ℕ, List, Some, None, codes, map, string_bytes};
+ghost use Rattle.std.specs.Prelude.{◌≡◌, ◌⊎◌, ℕ, List, [], Some, None, codes, map, string_bytes};
 ghost use Rattle.std.specs.Process.{exit_status};
 ghost use Rattle.wot_site.specs.Seen.{Honestly};
 ghost use Rattle.wot_session.specs.Run.{HasCauses, Ran, longest_input};
@@ -11,7 +11,7 @@ ghost use Rattle.wot_words.specs.ProgramWords.{command_words};
 
 use std::alloc::{AllocError, Global};
 use std::env::Env;
-use std::io::{ErrorKind, writer};
+use std::io::{ErrorKind, IsTerminal, writer};
 use std::process::ExitCode;
 use std::thread::Threads;
 use std::{env, io};
@@ -23,17 +23,25 @@ use wot_workers::NoGate;
 /// The exit code where the system does not give the program its words; no status has it.
 const NO_WORDS: u8 = 9;
 
-/// How the program ends: what standard error is told, if anything, and the exit code.
+/// How the program ends: what standard error is told, a line and a hint behind it, if anything, and the exit code.
 struct End<'a> {
     line: &'a str,
+    hint: &'a str,
     code: ExitCode,
 }
 
 fn main(rt: HostRuntime) -> ExitCode {
     let end = match words(&rt) {
         Ok(words) => {
+            if words.is_empty() && rt.stdin().is_terminal() {
+                let _ = rt.eprintln("wot: reads commands from standard input; see wot(1)");
+            }
             let mut site = FileSite::new(&rt, rt.reader(), writer(&rt));
-            session(&rt, rt.alloc(), &words, &mut site)
+            let end = session(&rt, rt.alloc(), &words, &mut site);
+            if let Some(reason) = site.reason() {
+                let _ = rt.eprintln(reason);
+            }
+            end
         }
         Err(fault) if fault.kind() == ErrorKind::OutOfMemory => end_with(Status::Memory),
         Err(_) => no_words(),
@@ -73,10 +81,24 @@ fn session<'a, R: Threads + Sync, S: Site>(
 fn end_with<'a>(status: Status) -> End<'a>
     ensures line { result.line.now ≡ line_of status }
     ensures code { exit_status result.code ≡ code_of status }
+    ensures usage { status ≡ Status.Usage → result.hint.now ≡ codes "see wot(1)" }
+    ensures other { (status ≡ Status.Usage → ⊥) → result.hint.now ≡ [] }
 {
     End {
         line: status.line(),
+        hint: hint(&status),
         code: ExitCode::from(status.code()),
+    }
+}
+
+/// What helps after words that the program doesn't know, and nothing after anything else.
+fn hint<'a>(ended: &Status) -> &'a str
+    ensures usage { ended.now ≡ Status.Usage → result.now ≡ codes "see wot(1)" }
+    ensures other { (ended.now ≡ Status.Usage → ⊥) → result.now ≡ [] }
+{
+    match ended {
+        Status::Usage => "see wot(1)",
+        _ => "",
     }
 }
 
@@ -87,17 +109,20 @@ fn no_words<'a>() -> End<'a>
 {
     End {
         line: "wot: no words",
+        hint: "",
         code: ExitCode::from(NO_WORDS),
     }
 }
 
-/// Tells standard error the line, if there is one, and gives the code.
+/// Tells standard error the line and the hint, where there are any, and gives the code.
 fn leave(rt: &impl Eprint, end: End<'_>) -> ExitCode
     ensures { result ≡ end.entry.code }
 {
-    let End { line, code } = end;
-    if !line.is_empty() {
-        let _ = rt.eprintln(line);
+    let End { line, hint, code } = end;
+    for text in [line, hint] {
+        if !text.is_empty() {
+            let _ = rt.eprintln(text);
+        }
     }
     code
 }

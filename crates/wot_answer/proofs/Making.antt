@@ -11,7 +11,7 @@ use Rattle.wot_types.specs.declared.refusal.Refusal.TheVariants.{Full, JournalFu
 use Rattle.wot_types.specs.State.{State}
 use Rattle.wot_types.specs.Outcome.{edit_outcome, state_after, edited_store, is_past, missing_key, refusal_of, refuse, state_limit, taken_key, unless_refused}
 use Rattle.wot_types.specs.Limits.{most_record, record_passed}
-use Rattle.wot_types.specs.Payload.{IsPayload, payload}
+use Rattle.wot_types.specs.Payload.{IsWritten, payload}
 use Rattle.wot_types.specs.Spelling.{number_4, text_bytes}
 use Rattle.wot_types.specs.Store.{Store}
 use Rattle.wot_types.specs.Store.Change.{makes}
@@ -38,7 +38,7 @@ module _ (text : List ℕ) (s : Store) (edit : Edit) (old : State) (end : ℕ) (
   edit_full answered allowed past reply = subst (Ends answered s) (sym (refusal_here None allowed ∙ room_here true past)) (reply s same)
 
   -- it was made
-  pub edit_made : (answered : Answered) (built : Framed) → refusal_of old edit ≡ None → is_past end edit ≡ false → built.end ≡ end → IsPayload built.payload edit
+  pub edit_made : (answered : Answered) (built : Framed) → refusal_of old edit ≡ None → is_past end edit ≡ false → built.end ≡ end → IsWritten built.payload edit
       → answered.engine ≡ state_after old edit → reply_of answered.answer.reply answered.engine ≡ text → answered.answer.refused ≡ false → answered.answer.effect ≡ Append built → Ends answered s (edit_outcome text s edit)
   edit_made answered built allowed fits place payload after texts accepted effect =
       subst (Ends answered s) (sym (refusal_here None allowed ∙ room_here false fits)) (record {
@@ -85,10 +85,10 @@ module _ (spelled bytes : List ℕ) (is : spelled ≡ text_bytes bytes) where
   length_before = is ∙ ap with_length (sym payload_behind)
 
 -- the record that was built, or not, for its payload
-module _ {E : Type 0} (r : Result Framed E) (end : ℕ) (bytes : List ℕ) (edit : Edit) (spelled : IsPayload bytes edit) where
+module _ {E : Type 0} (r : Result Framed E) (end : ℕ) (bytes : List ℕ) (edit : Edit) (spelled : IsWritten bytes edit) where
   pub built_record : IfOk r (λ built. built ≡ record { end = end; payload = bytes }) → IfOk r (λ _. end + length bytes + 6 ≤ most)
-      → IfOk r (λ built. (built.end ≡ end) × IsPayload built.payload edit × (is_past end edit ≡ false))
+      → IfOk r (λ built. (built.end ≡ end) × IsWritten built.payload edit × (is_past end edit ≡ false))
   built_record built room =
       IfOk-weaker r _ _
-      (λ b both. (ap (λ (b : Framed). b.end) both.0, subst (λ (b : Framed). IsPayload b.payload edit) (sym both.0) spelled, fits end bytes edit spelled.is both.1))
+      (λ b both. (ap (λ (b : Framed). b.end) both.0, subst (λ (b : Framed). IsWritten b.payload edit) (sym both.0) spelled, fits end bytes edit spelled.is both.1))
       (if_both _ _ r built room)

@@ -5,13 +5,13 @@ use Rattle.wot_types.specs.declared.query.Query.{Query}
 use Rattle.wot_types.specs.declared.query.Query.TheVariants as query
 use Rattle.wot_types.specs.State.{State}
 use Rattle.wot_types.specs.Commands as lines
-use Rattle.wot_types.specs.Commands.{Command, ReadLine, ends_block}
+use Rattle.wot_types.specs.Commands.{ReadLine, ends_block}
 use Rattle.wot_types.specs.Commands.Division.{between, within, over}
 use Rattle.wot_types.specs.Compaction.{compacted_store}
 use Rattle.wot_types.specs.Levels.{rows_of}
 use Rattle.wot_types.specs.LineByLine.{Position, after_line, reply_to_line}
 use Rattle.wot_types.specs.Outcome.{Accepts, Outcome, store_after, edited_store, ok_line}
-use Rattle.wot_types.specs.Payload.{IsPayload}
+use Rattle.wot_types.specs.Payload.{IsWritten}
 use Rattle.wot_types.specs.Printing.{list_text}
 use Rattle.wot_types.specs.Store.{Store}
 use Rattle.wot_types.specs.Tally.{tally_line}
@@ -42,7 +42,7 @@ pub record Leads (built : Framed) (s t : Store) : Type 0 where
   pub edit : Edit
   pub accepts : Accepts s edit
   pub place : s.end ≡ built.end
-  pub payload : IsPayload built.payload edit
+  pub payload : IsWritten built.payload edit
   pub after : t ≡ edited_store s edit
 
 -- what is done to the store leads from the one to the other

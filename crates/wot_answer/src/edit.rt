@@ -3,7 +3,7 @@
 ghost use Rattle.std.specs.Prelude.{◌≡◌, ◌≤◌, length, true, false, None, IfOk, IsErrOf};
 ghost use Rattle.wot_types.specs.Limits.{most_record};
 ghost use Rattle.wot_types.specs.Outcome.{edit_outcome, is_past, state_after, refusal_of};
-ghost use Rattle.wot_types.specs.Payload.{IsPayload, IsProper, payload};
+ghost use Rattle.wot_types.specs.Payload.{IsWritten, IsProper, payload};
 ghost use Rattle.wot_types.specs.Store.{Store};
 ghost use Rattle.wot_answer.specs.Answer.{Ends};
 ghost use Rattle.wot_answer.specs.EditReply.{reply_text};
@@ -82,7 +82,7 @@ fn make(
 fn build_record(alloc: Global, edit: &Edit, end: u64) -> Result<Built, BuildError>
     requires proper { IsProper edit.now }
     requires room { length (payload edit.now) ≤ most_record }
-    ensures built { IfOk result (λ built. (built.end ≡ end) × IsPayload built.payload edit.now × (is_past end edit.now ≡ false)) }
+    ensures built { IfOk result (λ built. (built.end ≡ end) × IsWritten built.payload edit.now × (is_past end edit.now ≡ false)) }
     ensures full { IsErrOf result BuildError.JournalFull → is_past end edit.now ≡ true }
 {
     match encode_with_length(alloc, edit) {

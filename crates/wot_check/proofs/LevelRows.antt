@@ -45,7 +45,7 @@ given_key s rows level id =
       | None ↦ tt
       | Some key ↦ elim (level == 0) as (λ b. IsOf id (cond b (first_row s id key) (new_row s (rows_below level rows) level id key))) [
         | true ↦ key_if id _ _ refl
-        | false ↦ key_if id _ _ (key_by (rows_below level rows) id level (trust_of_owner s key) (delegation s.options s.date (rows_below level rows) key))
+        | false ↦ key_if id _ _ (key_by (rows_below level rows) id level (trust_of_owner s key) (delegation s (rows_below level rows) key))
       ]
     ]
 

@@ -7,7 +7,7 @@ ghost use Rattle.wot_types.specs.declared.row.Row.{Row};
 ghost use Rattle.wot_types.specs.Keyring.{certs_at};
 ghost use Rattle.wot_levels.specs.Given.{given_row};
 ghost use Rattle.wot_levels.specs.Standings.{standing_row};
-ghost use Rattle.wot_check.specs.Comparison.{same_row, same_rows};
+ghost use Rattle.wot_types.specs.Touched.{is_same_row, is_same_standing};
 ghost use Rattle.wot_check.specs.Stored.{Stands, row_below};
 
 use std::sync::ledger::Ledger;
@@ -17,16 +17,17 @@ use wot_types::{KeyId, Row, Rows, Steps, is_same_scope};
 
 /// Whether a row has this standing.
 fn has_standing(row: &Row, standing: &Standing<'_>) -> bool
-    ensures { result ≡ same_row row.now (standing_row row.now.key row.now.level standing.now) }
+    ensures { result ≡ is_same_row row.now (standing_row row.now.key row.now.level standing.now) }
 {
     row.trust.number() == standing.trust.number()
         && row.left == standing.left
         && is_same_scope(row.scope.as_ref(), standing.scope)
+        && row.via == standing.issuer
 }
 
 /// Whether the rows of lower levels give a key this row of its own.
 fn is_given<L: Ledger>(state: &LentState<'_>, rows: &Rows, row: &Row, steps: &mut Steps<L>) -> bool
-    ensures same { result ≡ same_rows (Some row.now) (given_row state.now rows.now row.now.level row.now.key) }
+    ensures same { result ≡ is_same_standing (Some row.now) (given_row state.now rows.now row.now.level row.now.key) }
     ensures ticks { steps.new ≤ steps.old + certs_at state.now.keys row.now.key }
     ensures unread { row.now.level ≡ 0 → steps.new ≡ steps.old }
 {

@@ -52,6 +52,7 @@ fn row(id: KeyId, level: u8, trust: Trust) -> Row {
         trust,
         left: 0,
         scope: None,
+        via: None,
     }
 }
 

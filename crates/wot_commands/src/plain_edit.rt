@@ -14,6 +14,7 @@ use wot_live::PlainEdit;
 use wot_types::{Edit, Entries, Entry, Fpr, Keys, Mem, Ownertrust, Trusts};
 
 /// What an edit does to each state with this ownertrust.
+#[tactic(auto, using(crate::proofs::Free::none_taken))]
 pub fn plain_edit(alloc: Global, trusts: &Trusts, edit: Edit) -> Result<PlainEdit, Mem>
     requires proper { IsProper edit }
     ensures after { IfOk result (λ plain. (s : State) → s.trusts ≡ trusts.now → after_plain s plain ≡ state_after s edit) }

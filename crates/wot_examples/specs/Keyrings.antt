@@ -22,7 +22,7 @@ fingerprint n = 0 ∷ 0 ∷ 0 ∷ 0 ∷ 0 ∷ 0 ∷ 0 ∷ 0 ∷ 0 ∷ 0 ∷ 0 �
 
 -- a certification by a key, of a date
 abbrev pub by : ℕ → ℕ → Cert
-by issuer made = record { issuer = issuer; class = 19; local = false; made = made; expires = 0; depth = 0; amount = 0; scope = None }
+by issuer made = record { issuer = issuer; class = 19; local = false; made = made; expires = 0; depth = 0; amount = 0; scope = None; issuer_fpr = None }
 
 abbrev pub of_class : ℕ → Cert → Cert
 of_class class cert = record cert { class = class }
@@ -30,9 +30,17 @@ of_class class cert = record cert { class = class }
 abbrev pub with_expiry : ℕ → Cert → Cert
 with_expiry expires cert = record cert { expires = expires }
 
+-- the same with the fingerprint of its issuer
+abbrev pub naming : List ℕ → Cert → Cert
+naming fpr cert = record cert { issuer_fpr = Some fpr }
+
 -- a trust signature of a depth and an amount
 abbrev pub trust_signature : ℕ → ℕ → Cert → Cert
 trust_signature depth amount cert = record cert { depth = depth; amount = amount }
+
+-- a trust signature with a regular expression
+abbrev pub with_scope : List ℕ → Cert → Cert
+with_scope scope cert = record cert { scope = Some scope }
 
 abbrev pub user : List ℕ → List Cert → User
 user text certs = record { kind = Uid; text = text; hash = []; made = 1000; expires = 0; revoked = false; certs = certs }
@@ -55,12 +63,16 @@ at_date date keys = record opening_state { date = date; keys = keys }
 abbrev pub certified_user : Cert → User
 certified_user cert = user (codes "N <n@example.org>") (cert ∷ [])
 
--- an introducer of a level and a trust, with so much depth left
+-- an introducer of a level and a trust, with so much depth left, to which nobody delegated
 abbrev pub introducer : ℕ → ℕ → Trust → ℕ → ℕ × Row
-introducer n level trust left = (n, record { key = n; level = level; trust = trust; left = left; scope = None })
+introducer n level trust left = (n, record { key = n; level = level; trust = trust; left = left; scope = None; via = None })
 
 abbrev pub ultimate : ℕ → ℕ × Row
 ultimate n = introducer n 0 Ultimate 0
+
+-- the same, to which this key delegated
+abbrev pub delegated : ℕ → ℕ × Row → ℕ × Row
+delegated id entry = (entry.0, record entry.1 { via = Some id })
 
 -- the same for user IDs in this scope alone
 abbrev pub in_scope : List ℕ → ℕ × Row → ℕ × Row
@@ -72,8 +84,8 @@ Are rows entries = finmap.entries rows ≡ entries
 
 -- the row of a level that a key of unknown ownertrust gets over these rows
 abbrev pub row_over : Options → RowMap → ℕ → Key → ℕ × Row
-row_over o rows level key = (id_of key, row_by rows (id_of key) level Unknown (delegation o 0 rows key))
+row_over o rows level key = (id_of key, row_by rows (id_of key) level Unknown (delegation (record opening_state { options = o }) rows key))
 
 -- the letters of a key's user IDs by their candidates
 abbrev pub letters_over : RowMap → Key → List Letter
-letters_over rows key = map (λ spot. letter_of_count opening_options (count_of opening_options 0 spot rows)) (live_spots 0 key)
+letters_over rows key = map (λ spot. letter_of_count opening_options (count_of opening_state spot rows)) (live_spots 0 key)

@@ -2,7 +2,9 @@
 #![tactic(auto)]
 
 mod file; // the site
+mod reason; // why a call failed
 mod sides; // the two files
 mod streams; // one call of a reader or a writer, tried again where a signal cut it short
 
 pub use file::FileSite;
+pub use reason::{Place, Reason};

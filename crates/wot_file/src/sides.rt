@@ -2,16 +2,13 @@
 
 ghost use Rattle.std.specs.Prelude.{◌≤◌, length, IfOk};
 
+use crate::reason::{Place, Reason};
 use crate::streams::read_some;
 use std::fs::{File, Files, OpenOptions};
 use std::io;
 use std::io::{ErrorKind, Seek, SeekFrom, Write};
 use std::os::fd::{AsRawFd, IntoRawFd};
 use wot_site::Side;
-
-const ZERO: &str = "wot.0";
-
-const ONE: &str = "wot.1";
 
 // The descriptors of standard input, output and error are those up to this one.
 const LAST_STREAM: i32 = 2;
@@ -39,41 +36,62 @@ impl<F: Files<File = File>> Sides<F> {
     }
 
     /// How many bytes a side has.
-    pub fn size(&mut self, side: Side) -> io::Result<u64> {
-        Ok(self.file(side)?.metadata()?.len())
+    pub fn size(&mut self, side: Side) -> Result<u64, Reason> {
+        length(self.file(side)?).map_err(|e| Reason::new(Place::of(side), e))
     }
 
     /// Reads once from a place on.
-    pub fn read(&mut self, side: Side, at: u64, buf: &mut [u8]) -> io::Result<usize>
+    pub fn read(&mut self, side: Side, at: u64, buf: &mut [u8]) -> Result<usize, Reason>
         ensures { IfOk result (λ n. n ≤ length buf.old) }
     {
-        let file = self.file(side)?;
-        file.seek(SeekFrom::Start(at))?;
-        read_some(file, buf)
+        match read_from(self.file(side)?, at, buf) {
+            Ok(n) => Ok(n),
+            Err(e) => Err(Reason::new(Place::of(side), e)),
+        }
     }
 
     /// Writes all the bytes from a place on.
-    pub fn write(&mut self, side: Side, at: u64, bytes: &[u8]) -> io::Result<()> {
-        let file = self.file(side)?;
-        file.seek(SeekFrom::Start(at))?;
-        file.write_all(bytes)
+    pub fn write(&mut self, side: Side, at: u64, bytes: &[u8]) -> Result<(), Reason> {
+        match write_from(self.file(side)?, at, bytes) {
+            Ok(()) => Ok(()),
+            Err(e) => Err(Reason::new(Place::of(side), e)),
+        }
     }
 
     /// Has what was written on the disk.
-    pub fn sync(&mut self, side: Side) -> io::Result<()> {
-        self.file(side)?.sync_data()
+    pub fn sync(&mut self, side: Side) -> Result<(), Reason> {
+        match self.file(side)?.sync_data() {
+            Ok(()) => Ok(()),
+            Err(e) => Err(Reason::new(Place::of(side), e)),
+        }
     }
 
     // The file of a side, once both are ready.
-    fn file(&mut self, side: Side) -> io::Result<&mut File> {
+    fn file(&mut self, side: Side) -> Result<&mut File, Reason> {
         if self.opened.is_none() {
             self.opened = Some(open_both(&self.files)?);
         }
         match self.opened.as_mut() {
             Some(opened) => Ok(opened.file(side)),
-            None => Err(io::Error::from(ErrorKind::Other)),
+            None => Err(Reason::new(Place::of(side), io::Error::from(ErrorKind::Other))),
         }
     }
+}
+
+fn length(file: &mut File) -> io::Result<u64> {
+    Ok(file.metadata()?.len())
+}
+
+fn read_from(file: &mut File, at: u64, buf: &mut [u8]) -> io::Result<usize>
+    ensures { IfOk result (λ n. n ≤ length buf.old) }
+{
+    file.seek(SeekFrom::Start(at))?;
+    read_some(file, buf)
+}
+
+fn write_from(file: &mut File, at: u64, bytes: &[u8]) -> io::Result<()> {
+    file.seek(SeekFrom::Start(at))?;
+    file.write_all(bytes)
 }
 
 impl Opened {
@@ -86,14 +104,22 @@ impl Opened {
 }
 
 // Opens both files, and fails where another run has them.
-fn open_both(files: &impl Files<File = File>) -> io::Result<Opened> {
-    let folder = folder(files)?;
-    let zero = open(files, ZERO)?;
-    zero.try_lock()?;
-    let one = open(files, ONE)?;
+fn open_both(files: &impl Files<File = File>) -> Result<Opened, Reason> {
+    let folder = folder(files).map_err(|e| Reason::new(Place::Folder, e))?;
+    let zero = open_locked(files).map_err(|e| Reason::new(Place::Zero, e))?;
+    let one = open(files, Place::One.name()).map_err(|e| Reason::new(Place::One, e))?;
     // Their names, too, are to outlive a crash.
-    folder.sync_all()?;
+    folder
+        .sync_all()
+        .map_err(|e| Reason::new(Place::Folder, e))?;
     Ok(Opened { zero, one })
+}
+
+// Opens the file of the first side for this run alone.
+fn open_locked(files: &impl Files<File = File>) -> io::Result<File> {
+    let zero = open(files, Place::Zero.name())?;
+    zero.try_lock()?;
+    Ok(zero)
 }
 
 // Opens the current folder at a descriptor behind those of the streams. Of these each that was closed is left to

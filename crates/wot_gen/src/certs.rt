@@ -31,6 +31,7 @@ fn cert(seed: u64, i: u32, c: u8) -> Cert
         depth,
         amount,
         scope: None,
+        issuer_fpr: None,
     }
 }
 

@@ -51,7 +51,7 @@ module _ (all left : List Kept) (room : ℕ) (so_far : IsRoomed all left room) w
 
 -- room for a keyring by what the limits count
 abbrev room_of : Keyring → ℕ
-room_of keys = 58 * (totals_of keys).keys + 22 * (totals_of keys).users + 25 * (totals_of keys).certs + (totals_of keys).text
+room_of keys = 58 * (totals_of keys).keys + 22 * (totals_of keys).users + 59 * (totals_of keys).certs + (totals_of keys).text
 
 -- what was counted for the entries and for the keys of a state
 pub record IsCounted (s : State) (entries keys : ℕ) : Type 0 where
@@ -60,11 +60,11 @@ pub record IsCounted (s : State) (entries keys : ℕ) : Type 0 where
   pub of_keys : keys ≡ room_of s.keys
 
 pub counted_for : (s : State) (trusts : OwnertrustMap) (table : Keyring) (totals : Totals) (entries keys : ℕ) → trusts ≡ s.trusts → table ≡ s.keys → totals ≡ totals_of table
-    → All EntryFits (entries_of trusts) → entries ≡ sum_by entry_size (entries_of trusts) → keys ≡ 58 * totals.keys + 22 * totals.users + 25 * totals.certs + totals.text → IsCounted s entries keys
+    → All EntryFits (entries_of trusts) → entries ≡ sum_by entry_size (entries_of trusts) → keys ≡ 58 * totals.keys + 22 * totals.users + 59 * totals.certs + totals.text → IsCounted s entries keys
 counted_for s trusts table totals entries keys same_trusts same_table same fits of_entries of_keys = record {
   fits = subst (λ (t : OwnertrustMap). All EntryFits (entries_of t)) same_trusts fits;
   of_entries = of_entries ∙ ap (λ (t : OwnertrustMap). sum_by entry_size (entries_of t)) same_trusts;
-  of_keys = of_keys ∙ ap (λ (t : Totals). 58 * t.keys + 22 * t.users + 25 * t.certs + t.text) (same ∙ ap totals_of same_table);
+  of_keys = of_keys ∙ ap (λ (t : Totals). 58 * t.keys + 22 * t.users + 59 * t.certs + t.text) (same ∙ ap totals_of same_table);
 }
 
 module _ (s : State) (entries keys : ℕ) (sound : IsWellFormedState s) (h : IsCounted s entries keys) where
@@ -74,7 +74,7 @@ module _ (s : State) (entries keys : ℕ) (sound : IsWellFormedState s) (h : IsC
   pub keys_small : keys < 2 ^ 32
   keys_small = let f = few_totals (totals_of s.keys) sound.few_keys in omega (arith, h.of_keys, f.keys, f.users, f.certs, f.text)
 
-  pub room_enough : (rows : RowMap) (count : ℕ) → All (λ (e : ℕ × Row). IsScope e.1.scope) (finmap.entries rows) → count ≡ finmap.len rows → image_size s rows ≤ 36 + entries + keys + 271 * count
+  pub room_enough : (rows : RowMap) (count : ℕ) → All (λ (e : ℕ × Row). IsScope e.1.scope) (finmap.entries rows) → count ≡ finmap.len rows → image_size s rows ≤ 37 + entries + keys + 280 * count
   unfolding image_size
   room_enough rows count scopes of_rows =
       let f = few_keys s.keys sound.few_keys in

@@ -27,7 +27,8 @@ use Rattle.wot_types.proofs.FinMaps.{IfSome-get}
 use Rattle.wot_types.proofs.Fingerprints.{fpr_cmp_total, fpr_eq}
 use Rattle.wot_types.proofs.MapBy.{get-map_by}
 use Rattle.wot_types.proofs.Tests.{first_part, is_key, less_from, second_part}
-use Rattle.wot_levels.specs.Entries.{EntriesLeft, named_row, row_unless_left}
+use Rattle.wot_levels.specs.Entries.{named_row}
+use Rattle.wot_levels.proofs.Halfway.{EntriesLeft, row_unless_left}
 use Rattle.wot_levels.specs.Walk.{with_found}
 use Rattle.wot_levels.proofs.Walks.{either, either_none, either_old, get-with_found}
 
@@ -47,7 +48,7 @@ absent fpr (e ∷ es) h = ap (λ r. cond (is_eq r) (Some e.1) (find fpr_cmp fpr 
 -- a key that isn't trusted ultimately has no row of level 0
 not_ultimate : (s : State) (id : ℕ) (key : Key) → is_ultimate (trust_of_owner s key) ≡ false → None ≡ first_row s id key
 not_ultimate s id key not =
-    let row : Row = record { key = id; level = 0; trust = Ultimate; left = 0; scope = None } in
+    let row : Row = record { key = id; level = 0; trust = Ultimate; left = 0; scope = None; via = None } in
     elim (key_is_live s.date key) as (λ b. None ≡ cond (b && is_ultimate (trust_of_owner s key)) (Some row) None) [
       | true ↦ sym (ap (λ b. cond b (Some row) None) not)
       | false ↦ refl

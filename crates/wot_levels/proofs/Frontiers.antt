@@ -12,7 +12,7 @@ use Rattle.std.proofs.lemmas.Map.Views.{Contains-from_any, list_any-from_Contain
 use Rattle.wot_types.specs.declared.key.Key.{Key}
 use Rattle.wot_types.specs.declared.row.Row.{Row}
 use Rattle.wot_types.specs.State.{State}
-use Rattle.wot_types.specs.Candidates.{RowMap}
+use Rattle.wot_types.specs.Candidates.{RowMap, chain}
 use Rattle.wot_types.specs.Explanation.{KeySet}
 use Rattle.wot_types.specs.Indexes.{has_cert_by, key_issuers}
 use Rattle.wot_types.specs.Levels.{first_row, kept_or, new_row, rows_upto}
@@ -24,8 +24,8 @@ use Rattle.wot_types.proofs.LevelLemmas.{no_key}
 use Rattle.wot_types.proofs.Tests.{is_key, same_key}
 use Rattle.wot_levels.specs.Frontier.{AreCertified, IsLookedAt, IsReached, row_after}
 use Rattle.wot_levels.specs.Given.{given_row, if_below, rows_below}
-use Rattle.wot_levels.specs.Walk.{is_done}
-use Rattle.wot_levels.proofs.LevelCuts.{cut_one, get_below, given_later, level_given, low_stays, next_at, upto_low}
+use Rattle.wot_levels.proofs.Halfway.{is_done}
+use Rattle.wot_levels.proofs.LevelCuts.{cut_one, get_below, given_later, level_given, low_stays, next_at, upto_chain, upto_low}
 use Rattle.wot_levels.proofs.Uncertified.{same_dates, uncertified_row}
 
 -- ---- a walk over the keys of a set in rising order
@@ -234,8 +234,8 @@ reached_certified s rows ids is all completes marginals = record {
     ] refl
 
 module _ (s : State) (n x : ℕ) (same : (y : ℕ) → has_cert_by s.keys y x ≡ true → finmap.get (rows_upto s (suc n)) y ≡ finmap.get (rows_upto s n) y) where
-  certifiers : (key : Key) → finmap.get s.keys x ≡ Some key → (y : ℕ) → issuers_of key y ≡ true → finmap.get (rows_upto s (suc n)) y ≡ finmap.get (rows_upto s n) y
-  certifiers key is y its = same y (ap (λ o. option_map_or (λ key. list_any (λ n. n == y) (key_issuers key)) o false) is ∙ its)
+  certifiers : (key : Key) → finmap.get s.keys x ≡ Some key → (y : ℕ) → issuers_of key y ≡ true → chain (rows_upto s (suc n)) y ≡ chain (rows_upto s n) y
+  certifiers key is y its = upto_chain s n (suc n) y (omega arith) (same y (ap (λ o. option_map_or (λ key. list_any (λ n. n == y) (key_issuers key)) o false) is ∙ its))
 
   -- where no certifier of a key got a row at a level, the key gets none at the next
   pub passed_over : finmap.get (rows_upto s (suc (suc n))) x ≡ finmap.get (rows_upto s (suc n)) x
@@ -247,7 +247,7 @@ module _ (s : State) (n x : ℕ) (same : (y : ℕ) → has_cert_by s.keys y x �
       → kept_or (finmap.get high x) (option_and_then (new_row s high (suc (suc n)) x) o) ≡ finmap.get high x) [
         | None ↦ λ _ _. kept_none (finmap.get high x)
         | Some key ↦ λ is here.
-            let frame = new_row_frame s s refl high low key (same_dates s.date (key_expiries key)) (certifiers key is) (suc (suc n)) x refl in
+            let frame = new_row_frame s s refl high low key (same_dates s.date (key_expiries key)) (certifiers key is) (λ y _ _. refl) (suc (suc n)) x refl in
             (λ i. kept_or (here i) (frame i)) ∙ given_again (finmap.get low x) _ _ _ ∙ sym here
       ] refl (next_at s n x)
 

@@ -1,12 +1,14 @@
 -- The rows of the levels up to one, among those of a later level.
-use Rattle.std.proofs.Common.{◌≡◌, ◌+◌, ◌<◌, ◌≤◌, ◌==◌, zero, suc, ℕ, Bool, true, false, cond, nat_lt, Option, Some, None, IfSome, option_and_then, refl, sym, ap, ◌∙◌, arith}
+use Rattle.std.proofs.Common.{◌≡◌, ◌+◌, ◌-◌, ◌<◌, ◌≤◌, ◌==◌, zero, suc, ℕ, Bool, true, false, cond, Option, Some, None, IfSome, option_and_then, refl, sym, ap, subst, ◌∙◌, arith}
 use Rattle.std.proofs.lemmas.Bool.Decides.{nat_tests}
 use Rattle.std.specs.FinMap as finmap
 use Rattle.wot_types.specs.declared.key.Key.{Key}
 use Rattle.wot_types.specs.declared.row.Row.{Row}
 use Rattle.wot_types.specs.State.{State}
-use Rattle.wot_types.specs.Candidates.{RowMap}
+use Rattle.wot_types.specs.Candidates.{RowMap, chain}
 use Rattle.wot_types.specs.Levels.{delegation, first_row, kept_or, new_row, rows_upto, trust_of_owner}
+pub use Rattle.wot_types.proofs.Chains.{high_goes, low_stays, lower_part}
+use Rattle.wot_types.proofs.Chains.{lower_chain}
 use Rattle.wot_types.proofs.LevelLemmas.{get_next, level_le, no_key, row_by_level}
 use Rattle.wot_types.proofs.MapBy.{get-map_by}
 use Rattle.wot_levels.specs.Given.{given_row, if_below, row_at_level, rows_below}
@@ -15,29 +17,6 @@ use Rattle.wot_levels.specs.Given.{given_row, if_below, row_at_level, rows_below
 
 abbrev pub HasLevel : ℕ → Option Row → Type 0
 HasLevel n r = IfSome r (λ (row : Row). row.level ≡ n)
-
-pub low_stays : (n : ℕ) (r : Option Row) → IfSome r (λ row. row.level < n) → option_and_then (if_below n) r ≡ r
-low_stays n None low = refl
-low_stays n (Some row) low =
-    let below : nat_lt row.level n ≡ true = grind (arith, nat_tests, low) in
-    ap (λ b. cond b (Some row) None) below
-
-pub high_goes : (n : ℕ) (r : Option Row) → IfSome r (λ row. n ≤ row.level) → option_and_then (if_below n) r ≡ None
-high_goes n None high = refl
-high_goes n (Some row) high =
-    let above : nat_lt row.level n ≡ false = grind (arith, nat_tests, high) in
-    ap (λ b. cond b (Some row) None) above
-
-pub lower_part : (n m : ℕ) (r : Option Row) → n ≤ m → option_and_then (if_below n) (option_and_then (if_below m) r) ≡ option_and_then (if_below n) r
-lower_part n m None h = refl
-lower_part n m (Some row) h =
-    elim (nat_lt row.level m) as (λ b. nat_lt row.level m ≡ b → option_and_then (if_below n) (cond b (Some row) None) ≡ option_and_then (if_below n) (Some row)) [
-      | true ↦ λ _. refl
-      | false ↦ λ high. sym (high_goes n (Some row) (far high))
-    ] refl
-  where
-    far : nat_lt row.level m ≡ false → n ≤ row.level
-    far high = grind (arith, nat_tests)
 
 pub get_below : (n : ℕ) (rows : RowMap) (id : ℕ) → finmap.get (rows_below n rows) id ≡ option_and_then (if_below n) (finmap.get rows id)
 get_below n rows id = get-map_by (λ _ row. if_below n row) rows id
@@ -60,7 +39,7 @@ module _ (s : State) where
     | true ↦ λ is.
         let none : 0 ≡ n = grind (arith, nat_tests, is) in
         level_if n _ _ none
-    | false ↦ λ is. level_if n _ _ (row_by_level (rows_below n rows) id n (trust_of_owner s key) (delegation s.options s.date (rows_below n rows) key))
+    | false ↦ λ is. level_if n _ _ (row_by_level (rows_below n rows) id n (trust_of_owner s key) (delegation s (rows_below n rows) key))
   ] refl
 
   pub level_given : (rows : RowMap) (n id : ℕ) → HasLevel n (given_row s rows n id)
@@ -92,7 +71,7 @@ module _ (s : State) where
   new_level : (n id : ℕ) → HasLevel (suc n) (option_and_then (new_row s (rows_upto s n) (suc n) id) (finmap.get s.keys id))
   new_level n id = elim (finmap.get s.keys id) as (λ k. HasLevel (suc n) (option_and_then (new_row s (rows_upto s n) (suc n) id) k)) [
     | None ↦ tt
-    | Some key ↦ level_if (suc n) _ _ (row_by_level (rows_upto s n) id (suc n) (trust_of_owner s key) (delegation s.options s.date (rows_upto s n) key))
+    | Some key ↦ level_if (suc n) _ _ (row_by_level (rows_upto s n) id (suc n) (trust_of_owner s key) (delegation s (rows_upto s n) key))
   ]
 
   pub upto_low : (n id : ℕ) → IfSome (finmap.get (rows_upto s n) id) (λ row. row.level < suc n)
@@ -111,3 +90,13 @@ module _ (s : State) where
       ap (option_and_then (if_below (suc n))) (next_at m id)
       ∙ cut_one (suc n) (suc m) (finmap.get (rows_upto s m) id) (option_and_then (new_row s (rows_upto s m) (suc m) id) (finmap.get s.keys id)) (omega (arith, is)) (new_level m id)
       ∙ upto_cut more n m id (omega (arith, is))
+
+  -- a key with the same row at two levels has the same chain: later rows change none
+  pub upto_chain : (n m id : ℕ) → n ≤ m → finmap.get (rows_upto s m) id ≡ finmap.get (rows_upto s n) id → chain (rows_upto s m) id ≡ chain (rows_upto s n) id
+  upto_chain n m id later same =
+      lower_chain (suc n) (rows_upto s m) (rows_upto s n) (λ y. upto_cut (m - n) n m y (omega (arith, later)) ∙ sym (upto_cut 0 n n y (omega arith)))
+      id same (subst (λ r. IfSome r (λ (row : Row). row.level ≤ suc n)) (sym same) (low (finmap.get (rows_upto s n) id) (upto_low n id)))
+    where
+      low : (r : Option Row) → IfSome r (λ row. row.level < suc n) → IfSome r (λ row. row.level ≤ suc n)
+      low None h = tt
+      low (Some row) h = omega (arith, h)

@@ -27,6 +27,7 @@ fn row_of(id: KeyId, level: u8, standing: &Standing<'_>) -> Result<Row, Mem>
         trust: standing.trust,
         left: standing.left,
         scope: copy_scope(standing.scope)?,
+        via: standing.issuer,
     })
 }
 

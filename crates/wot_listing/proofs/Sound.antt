@@ -1,6 +1,6 @@
 -- Keys of a listing without a fault are well formed: what is kept of its lines is sound.
 use Rattle.std.proofs.Common.{◌≡◌, ℕ, Bool, true, false, cond, not, ◌+◌, ◌*◌, ◌<◌, ◌≤◌, ◌||◌, ◌&&◌, List, [], ◌∷◌, ◌++◌, filter, length, Option, Some, None, Result, Ok, Err, is_some, is_none, refl, sym, ap, ◌∙◌, subst, arith, inl, inr}
-use Rattle.std.specs.Prelude.{◌==◌, All, nat_le, nat_lt, option_map, option_to_list, unwrap_or, if◌then◌else◌}
+use Rattle.std.specs.Prelude.{◌==◌, All, IfSome, nat_le, nat_lt, option_map, option_to_list, unwrap_or, if◌then◌else◌}
 use Rattle.std.specs.List.{list_all, list_any}
 use Rattle.std.specs.Result.{result_ok}
 use Rattle.std.proofs.lemmas.Bool.{false≢true, and_parts, not-true, or_parts}
@@ -193,6 +193,10 @@ scope_at : (text : List ℕ) (t : Bool) → (length text == 0) ≡ t → length 
 scope_at text true e h = tt
 scope_at text false e h = (grind (arith, nat_tests), h)
 
+-- a fingerprint that is named has its length
+named_length : (text : List ℕ) → IfSome (fingerprint text) IsFprLength
+named_length text = elim (fingerprint text) as (λ o. fingerprint text ≡ o → IfSome o IsFprLength) [ None ↦ λ _. tt | Some bytes ↦ λ is. fpr_length text bytes is ] refl
+
 -- a signature that is kept, and whose checks pass
 pub cert_sound : (line : Line) (id certs : ℕ) → certifies id line ≡ true → first_failing (sig_checks id certs line) ≡ None → IsCert id (cert_of line) × (certs < most_certs)
 cert_sound line id certs certified passes =
@@ -212,6 +216,7 @@ cert_sound line id certs certified passes =
         by_another = λ e. false≢true (sym other ∙ (Decides-eqb (key_id_at line) id).1 e);
         class = kept;
         scope = scope_at (text_at 9 line) _ refl (up_to longest_scope (length (text_at 9 line)) size.0);
+        issuer_fpr = named_length (field 13 line);
       },
       below most_certs certs room.0,
     )

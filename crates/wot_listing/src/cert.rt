@@ -7,7 +7,7 @@ ghost use Rattle.wot_types.specs.Records.{cert_of, class_at, depth_at, amount_at
 ghost use Rattle.wot_listing.specs.Answer.{Answers};
 
 use crate::error::LineError;
-use crate::values::{class_in, dates_in, is_local, key_id_in, text_in, trust_in};
+use crate::values::{class_in, dates_in, is_local, issuer_fpr_in, key_id_in, text_in, trust_in};
 use std::alloc::Global;
 use wot_fields::Fields;
 use wot_types::{
@@ -64,6 +64,7 @@ fn read_values(
         depth,
         amount,
         scope,
+        issuer_fpr: issuer_fpr_in(line),
     })
 }
 

@@ -95,6 +95,13 @@ pub fn key_id_in(line: &Fields<'_>) -> Result<KeyId, LineError>
     read_key_id(line.get_or_empty(5)).ok_or(LineError::Failed(ListingWhat::BadHex))
 }
 
+/// The issuer's fingerprint in field 13. What is no fingerprint there is none, and no fault.
+pub fn issuer_fpr_in(line: &Fields<'_>) -> Option<Fpr>
+    ensures { result ≡ fingerprint (fields.field 13 line.now) }
+{
+    read_fingerprint(line.get_or_empty(13))
+}
+
 /// The fingerprint in field 10.
 pub fn fingerprint_in(line: &Fields<'_>) -> Result<Fpr, LineError>
     ensures { Gives result (fingerprint (fields.field 10 line.now)) ListingWhat.BadHex }

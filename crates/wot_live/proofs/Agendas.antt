@@ -1,5 +1,5 @@
 -- A listed key that isn't due at a level keeps its row there.
-use Rattle.std.proofs.Common.{◌≡◌, ◌+◌, ◌≤◌, ◌==◌, ◌||◌, ◌⊎◌, inl, inr, ℕ, zero, suc, Bool, true, false, cond, nat_lt, unwrap_or, List, [], ◌++◌, Option, Some, None, IfSome, refl, sym, ap, subst, ◌∙◌, arith}
+use Rattle.std.proofs.Common.{◌≡◌, ◌+◌, ◌≤◌, ◌==◌, ◌&&◌, ◌||◌, ◌⊎◌, inl, inr, ℕ, zero, suc, Bool, true, false, cond, nat_lt, unwrap_or, List, [], ◌++◌, Option, Some, None, IfSome, refl, sym, ap, subst, ◌∙◌, arith}
 use Rattle.std.specs.FinMap as map
 use Rattle.std.specs.FinMap.{get-insert, get-remove}
 use Rattle.std.specs.Cmp.{nat_cmp_total}
@@ -18,7 +18,8 @@ use Rattle.wot_types.proofs.Tests.{is_key, same_key}
 use Rattle.wot_levels.specs.Given.{given_row}
 use Rattle.wot_levels.proofs.Frontiers.{passed_over}
 use Rattle.wot_live.specs.Agenda.{AgendaMap, AreDue, IsPutOff, IsQuiet, IsWithin, due_at, is_due, is_one_below}
-use Rattle.wot_live.specs.Recounting.{IsGrownBy, IsRecounted, among, has_level, kept_above, recounted, row_below, rows_before}
+use Rattle.wot_live.specs.Recounting.{IsGrownBy, IsRecounted, among, has_level, is_carried, is_via_of, kept_above, recounted}
+use Rattle.wot_live.proofs.BeforeLevels.{row_below, rows_before}
 use Rattle.wot_live.proofs.Befores.{high_goes, level_given, low_stays, lower_part, restricted}
 use Rattle.wot_live.proofs.Lists.{grown_same}
 use Rattle.wot_live.proofs.Stages.{IsGiven, among_first, changes_here, counted_is, is_low, not_low}
@@ -76,10 +77,10 @@ module _ (t : State) (rows : RowMap) where
 -- ---- one level
 
 -- where all others keep their rows, a recount of those that are due is one of all listed keys
-pub all_recounted : (t : State) (n : ℕ) (rows : RowMap) (todo : List ℕ) (agenda : AgendaMap) (new : RowMap) (more : List ℕ)
+pub all_recounted : (t : State) (n : ℕ) (moved : List ℕ) (rows : RowMap) (todo fresh : List ℕ) (agenda : AgendaMap) (new : RowMap) (more after : List ℕ)
     → ((y : ℕ) → row_below n (map.get rows y) ≡ map.get (rows_before t n) y) → AreDue t.keys rows n todo agenda → IsWithin todo agenda
-    → IsRecounted t n (due_at agenda n) rows todo new more → IsRecounted t n todo rows todo new more
-all_recounted t n rows todo agenda new more below due within pass = record {
+    → IsRecounted t n moved (due_at agenda n) rows todo fresh new more after → IsRecounted t n moved todo rows todo fresh new more after
+all_recounted t n moved rows todo fresh agenda new more after below due within pass = record {
   counted = λ x its. elim (is_due agenda n x) as (λ b. is_due agenda n x ≡ b → map.get new x ≡ recounted n (map.get rows x) (given_row t rows n x)) [
     | true ↦ λ here. pass.counted x here
     | false ↦ λ later. pass.others x later ∙ sym (quiet_stays t rows n x below (due n x (itself n) its later))
@@ -89,12 +90,26 @@ all_recounted t n rows todo agenda new more below due within pass = record {
     | false ↦ λ later. pass.others x later
   ] refl;
   longer = pass.longer;
+  stays = λ y out. let stays = pass.stays y out in (
+    stays.0,
+    stays.1,
+    λ its. elim (is_due agenda n y) as (λ b. is_due agenda n y ≡ b → is_carried moved n (map.get new y) ≡ false) [
+      | true ↦ λ here. stays.2 here
+      | false ↦ λ later. off_carried (map.get new y) (ap (has_level n) stays.1 ∙ (due n y (itself n) its later).own)
+    ] refl,
+  );
+  moves = pass.moves;
   reach = pass.reach;
   only = pass.only;
 }
   where
     itself : (k : ℕ) → k ≤ k
     itself k = omega arith
+
+    -- a row of another level isn't looked at for its chain
+    off_carried : (o : Option Row) → has_level n o ≡ false → is_carried moved n o ≡ false
+    off_carried None off = refl
+    off_carried (Some row) off = ap (λ b. b && is_via_of moved row) off
 
 -- ---- the keys of one level
 

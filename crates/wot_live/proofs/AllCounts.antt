@@ -10,7 +10,6 @@ use Rattle.std.proofs.lemmas.List.Sums.{sum_by-cons}
 use Rattle.std.proofs.lemmas.Map.Views.{list_any-from_Contains}
 use Rattle.wot_types.specs.declared.count.Count.{Count}
 use Rattle.wot_types.specs.declared.key.Key.{Key}
-use Rattle.wot_types.specs.declared.options.Options.{Options}
 use Rattle.wot_types.specs.State.{State}
 use Rattle.wot_types.specs.Candidates.{RowMap, count_of}
 use Rattle.wot_types.specs.Keyring.{Keyring, cert_total, key_certs}
@@ -20,9 +19,9 @@ use Rattle.wot_types.proofs.Frames.{key_counts_frame}
 use Rattle.wot_types.proofs.MapBy.{get-map_by}
 use Rattle.wot_types.proofs.Tests.{is_key, key_itself, same_key}
 use Rattle.wot_levels.specs.Frontier.{AreCertified}
-use Rattle.wot_levels.specs.Given.{state_of}
-use Rattle.wot_levels.specs.Walk.{WalksOn, with_found}
-use Rattle.wot_levels.proofs.Uncertified.{count_without, no_rows, same_dates, without_row}
+use Rattle.wot_levels.specs.Walk.{with_found}
+use Rattle.wot_levels.proofs.Halfway.{WalksOn}
+use Rattle.wot_levels.proofs.Uncertified.{count_without, no_rows, same_dates, without_chain}
 use Rattle.wot_levels.proofs.WalksOn.{walk_put}
 use Rattle.wot_live.specs.Counts.{AreCountedAt, CountMap, counts_over, counts_rule, has_candidate, kept_counts, key_counts, with_counts}
 use Rattle.wot_live.specs.Recounting.{among}
@@ -54,46 +53,45 @@ put_anew : (m : CountMap) (id : ℕ) (found : Option (List Count)) → finmap.ge
 put_anew m id None none = sym (nothing_lost m id none)
 put_anew m id (Some counts) none = refl
 
-module _ (keys : Keyring) (o : Options) (now : ℕ) (rows : RowMap) where
+module _ (s : State) (rows : RowMap) where
   -- what is kept of a key
   abbrev pub counts_by : ℕ → Key → Option (List Count)
-  counts_by id key = kept_counts (key_counts o now rows key)
+  counts_by id key = kept_counts (key_counts s rows key)
 
-  module _ (e : ℕ × Key) (rest : List (ℕ × Key)) (m : CountMap) (walk : WalksOn counts_by keys (e ∷ rest) m) where
+  module _ (e : ℕ × Key) (rest : List (ℕ × Key)) (m : CountMap) (walk : WalksOn counts_by s.keys (e ∷ rest) m) where
     none_yet : finmap.get m e.0 ≡ None
     none_yet =
         walk.made e.0
-        ∙ ap (λ (r : Option Key). cond (is_some r) None (option_and_then (counts_by e.0) (finmap.get keys e.0))) (cond-true (eq_by_cmp nat_cmp e.0 e.0) (Some e.1) (find nat_cmp e.0 rest) (key_itself e.0))
+        ∙ ap (λ (r : Option Key). cond (is_some r) None (option_and_then (counts_by e.0) (finmap.get s.keys e.0))) (cond-true (eq_by_cmp nat_cmp e.0 e.0) (Some e.1) (find nat_cmp e.0 rest) (key_itself e.0))
 
-    pub walk_counted : WalksOn counts_by keys rest (with_counts m e.0 (counts_by e.0 e.1))
-    walk_counted = subst (WalksOn counts_by keys rest) (put_anew m e.0 (counts_by e.0 e.1) none_yet) (walk_put counts_by keys e rest m (counts_by e.0 e.1) walk refl)
+    pub walk_counted : WalksOn counts_by s.keys rest (with_counts m e.0 (counts_by e.0 e.1))
+    walk_counted = subst (WalksOn counts_by s.keys rest) (put_anew m e.0 (counts_by e.0 e.1) none_yet) (walk_put counts_by s.keys e rest m (counts_by e.0 e.1) walk refl)
 
   -- ---- the keys that introducers certified
 
-  none_counted : (spots : List Spot) → list_any has_candidate (map (λ spot. count_of o now spot no_rows) spots) ≡ false
+  none_counted : (spots : List Spot) → list_any has_candidate (map (λ spot. count_of s spot no_rows) spots) ≡ false
   none_counted [] = refl
-  none_counted (spot ∷ spots) = λ i. has_candidate (count_without o now spot i) || none_counted spots i
+  none_counted (spot ∷ spots) = λ i. has_candidate (count_without s spot i) || none_counted spots i
 
-  module _ (ids : List ℕ) (all : AreCertified keys rows ids) where
+  module _ (ids : List ℕ) (all : AreCertified s.keys rows ids) where
     not_in : (x : ℕ) → among ids x ≡ false → Contains ids x → ⊥
     not_in x out there = false≢true (sym out ∙ each_way x ids ∙ list_any-from_Contains nat_eq_equiv x ids there)
 
     -- of any other key nothing is kept
-    no_counts : (x : ℕ) → among ids x ≡ false → counts_rule keys o now rows x ≡ None
-    no_counts x out = elim (finmap.get keys x) as (λ k. finmap.get keys x ≡ k → option_and_then (λ key. kept_counts (key_counts o now rows key)) k ≡ None) [
+    no_counts : (x : ℕ) → among ids x ≡ false → counts_rule s rows x ≡ None
+    no_counts x out = elim (finmap.get s.keys x) as (λ k. finmap.get s.keys x ≡ k → option_and_then (λ key. kept_counts (key_counts s rows key)) k ≡ None) [
       | None ↦ λ _. refl
       | Some key ↦ λ is.
-          let s : State = state_of keys finmap.empty now o in
-          let same : key_counts o now rows key ≡ key_counts o now no_rows key = key_counts_frame s s refl rows no_rows key (same_dates now (key_expiries key)) (without_row s rows ids all x (not_in x out) key is) in
+          let same : key_counts s rows key ≡ key_counts s no_rows key = key_counts_frame s s refl rows no_rows key (same_dates s.date (key_expiries key)) (without_chain s rows ids all x (not_in x out) key is) (λ y _ _. refl) in
           let none = none_counted (spots_from 0 key.users) in
-          ap kept_counts same ∙ ap (λ b. cond b (Some (key_counts o now no_rows key)) None) none
+          ap kept_counts same ∙ ap (λ b. cond b (Some (key_counts s no_rows key)) None) none
     ] refl
 
-    pub counted_certified : (new : CountMap) → AreCountedAt keys o now rows ids finmap.empty new → new ≡ counts_over keys o now rows
-    counted_certified new counted = same_map nat_cmp_total nat_cmp-IsAntisymmetric new (counts_over keys o now rows) (λ x.
+    pub counted_certified : (new : CountMap) → AreCountedAt s rows ids finmap.empty new → new ≡ counts_over s rows
+    counted_certified new counted = same_map nat_cmp_total nat_cmp-IsAntisymmetric new (counts_over s rows) (λ x.
         counted x
-        ∙ elim (among ids x) as (λ b. among ids x ≡ b → cond b (counts_rule keys o now rows x) (finmap.get (finmap.empty {X = List Count} {R = nat_cmp}) x) ≡ counts_rule keys o now rows x) [
+        ∙ elim (among ids x) as (λ b. among ids x ≡ b → cond b (counts_rule s rows x) (finmap.get (finmap.empty {X = List Count} {R = nat_cmp}) x) ≡ counts_rule s rows x) [
           | true ↦ λ _. refl
           | false ↦ λ out. get-empty nat_cmp x ∙ sym (no_counts x out)
         ] refl
-        ∙ sym (get-map_by counts_by keys x))
+        ∙ sym (get-map_by counts_by s.keys x))

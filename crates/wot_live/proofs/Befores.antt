@@ -16,7 +16,7 @@ use Rattle.wot_types.specs.Trust.{is_ultimate}
 use Rattle.wot_types.proofs.LevelLemmas.{get_first, get_next, level_le, no_key, row_by_level}
 use Rattle.wot_types.proofs.MapBy.{get-map_by}
 use Rattle.wot_levels.specs.Given.{given_row, if_below, row_at_level, rows_below}
-use Rattle.wot_live.specs.Recounting.{row_below, rows_before}
+use Rattle.wot_live.proofs.BeforeLevels.{row_below, rows_before}
 
 is_zero : (n : ℕ) → (n == 0) ≡ true → n ≡ 0
 is_zero n h = grind (arith, nat_tests)
@@ -30,13 +30,13 @@ level_at s rows n id key =
     let lower = rows_below n rows in
     elim (n == 0) as (λ b. (n == 0) ≡ b → IfSome (cond b (first_row s id key) (new_row s lower n id key)) (λ row. row.level ≡ n)) [
       | true ↦ λ zero. elim (key_is_live s.date key && is_ultimate (trust_of_owner s key)) as
-          (λ b. IfSome (cond b (Some (record { key = id; level = 0; trust = Ultimate; left = 0; scope = None })) None) (λ (row : Row). row.level ≡ n)) [
+          (λ b. IfSome (cond b (Some (record { key = id; level = 0; trust = Ultimate; left = 0; scope = None; via = None })) None) (λ (row : Row). row.level ≡ n)) [
             | true ↦ sym (is_zero n zero)
             | false ↦ tt
           ]
-      | false ↦ λ _. elim (key_is_live s.date key && has_full_user s.options s.date lower key) as
-          (λ b. IfSome (cond b (Some (row_by lower id n (trust_of_owner s key) (delegation s.options s.date lower key))) None) (λ row. row.level ≡ n)) [
-            | true ↦ row_by_level lower id n (trust_of_owner s key) (delegation s.options s.date lower key)
+      | false ↦ λ _. elim (key_is_live s.date key && has_full_user s lower key) as
+          (λ b. IfSome (cond b (Some (row_by lower id n (trust_of_owner s key) (delegation s lower key))) None) (λ row. row.level ≡ n)) [
+            | true ↦ row_by_level lower id n (trust_of_owner s key) (delegation s lower key)
             | false ↦ tt
           ]
     ] refl

@@ -1,29 +1,32 @@
 -- What each edit leaves as it was.
-use Rattle.std.proofs.Common.{◌≡◌, ◌+◌, ◌-◌, ◌*◌, ◌≤◌, ◌==◌, ◌&&◌, ◌||◌, not, ℕ, Bool, true, false, cond, nat_cmp, nat_eq, List, [], ◌∷◌, Some, None, unwrap_or, is_some, IfSome, refl, sym, ap, subst, ◌∙◌, arith}
+use Rattle.std.proofs.Common.{◌≡◌, ◌+◌, ◌-◌, ◌*◌, ◌≤◌, ◌==◌, ◌&&◌, ◌||◌, not, ℕ, Bool, true, false, cond, nat_cmp, nat_eq, List, [], ◌∷◌, Some, None, Option, option_map, unwrap_or, is_some, IfSome, refl, sym, ap, subst, ◌∙◌, arith}
 use Rattle.std.specs.Cmp.Lexicographic.{pointwise}
 use Rattle.std.specs.FinMap as map
 use Rattle.std.specs.FinMap.{contains_key, empty_of_len, get-empty, get-insert, get-remove}
 use Rattle.std.specs.Cmp.{nat_cmp_total}
-use Rattle.std.specs.List.{AllByRecursion, IsDistinct, list_any}
+use Rattle.std.specs.List.{AllByRecursion, IsDistinct, find, list_any}
 use Rattle.std.specs.Option.{option_map_or}
 use Rattle.std.proofs.lemmas.Bool.{true≢false}
+use Rattle.std.proofs.lemmas.Bool.Decides.{Decides-eqb}
+use Rattle.std.proofs.lemmas.Slice.Eq.{slice_eq-Decides}
 use Rattle.std.proofs.lemmas.Nat.{mul-le}
-use Rattle.std.proofs.Math.Bool.{or-true}
+use Rattle.std.proofs.lemmas.Option.{none-some}
+use Rattle.std.proofs.Math.Bool.{and-false, or-true}
 use Rattle.wot_types.specs.declared.key.Key.{Key}
 use Rattle.wot_types.specs.declared.ownertrust.Entry.{Entry}
 use Rattle.wot_types.specs.declared.row.Row.{Row}
 use Rattle.wot_types.specs.State.{State}
 use Rattle.wot_types.specs.Candidates.{RowMap}
 use Rattle.wot_types.specs.Expiry.{is_expired}
-use Rattle.wot_types.specs.Keyring.{Keyring, cert_total, id_of, is_fpr_of, with_key, with_keys}
+use Rattle.wot_types.specs.Keyring.{Keyring, cert_total, fpr_at, id_of, is_another, is_fpr_of, is_taken, taken_id, with_key, with_keys}
 use Rattle.wot_types.specs.Levels.{rows_of}
 use Rattle.wot_types.specs.NextCheck.{key_expiries}
 use Rattle.wot_types.specs.Ownertrust.{OwnertrustMap, is_unset, kept_of, unset, with_entries, with_entry}
 use Rattle.wot_types.specs.Explanation.{KeySet}
-use Rattle.wot_types.specs.Touched.{IsWithinTouched, certs_on, is_certified_at, is_passed_between, is_touched, named_by_date, named_by_options, named_by_put, named_by_remove, row_differs}
+use Rattle.wot_types.specs.Touched.{IsWithinTouched, certs_on, chain_differs, is_certified_at, is_passed_between, is_touched, named_by_date, named_by_options, named_by_put, named_by_remove}
 use Rattle.wot_types.proofs.Fingerprints.{fpr_cmp_total, fpr_eq}
 use Rattle.wot_types.proofs.LevelLemmas.{level_le}
-use Rattle.wot_types.proofs.Tests.{same_key}
+use Rattle.wot_types.proofs.Tests.{is_key, same_key}
 use Rattle.wot_types.specs.Payload.{IsInRange}
 use Rattle.wot_levels.specs.Frontier.{weight}
 use Rattle.wot_live.specs.declared.plain_edit.PlainEdit.{PlainEdit}
@@ -32,7 +35,7 @@ use Rattle.wot_live.specs.declared.todo.Named.{Named}
 use Rattle.wot_live.specs.declared.todo.Todo.{Todo}
 use Rattle.wot_live.specs.declared.todo.Todo.TheVariants.{All, Named as Listed}
 use Rattle.wot_live.specs.Follows.{Follows, IsDue, IsDueSince, IsListedSince, no_keys, with_named}
-use Rattle.wot_live.specs.PlainEdit.{IsAllowed, after_plain}
+use Rattle.wot_live.specs.PlainEdit.{IsAllowed, after_plain, is_back}
 use Rattle.wot_live.specs.Recounting.{IsAlike, IsBegun, IsTouchedList, among}
 use Rattle.wot_live.proofs.Rounds.{once_more}
 use Rattle.wot_live.proofs.Stages.{IsLow}
@@ -103,6 +106,69 @@ put_alike s keys entries x h =
       dates = λ key is. same_dates s.date (key_expiries key);
     }
 
+-- a key that is there after another was taken out was there before
+pub remove_stays : (s : State) (id y : ℕ) → contains_key (map.remove s.keys id) y ≡ true → (contains_key s.keys y ≡ true) × (fpr_at s.keys y ≡ fpr_at (map.remove s.keys id) y)
+remove_stays s id y there =
+    elim (id == y) as (λ b. map.get (map.remove s.keys id) y ≡ cond b None (map.get s.keys y) → (contains_key s.keys y ≡ true) × (fpr_at s.keys y ≡ fpr_at (map.remove s.keys id) y)) [
+      | true ↦ λ none. absurd (true≢false (sym there ∙ ap is_some none))
+      | false ↦ λ same. (sym (ap is_some same) ∙ there, sym (ap (option_map (λ (k : Key). k.fpr)) same))
+    ] (get-remove nat_cmp_total s.keys id y ∙ ap (λ b. cond b None (map.get s.keys y)) (same_key y id))
+
+not_false : (b : Bool) → not b ≡ false → b ≡ true
+not_false true h = refl
+not_false false h = absurd (true≢false h)
+
+-- keys of which none has the key ID of another change no fingerprint of a key that is there
+put_fprs : (keys : Keyring) (y : ℕ) → contains_key keys y ≡ true → (more : List Key) → find (is_taken keys) more ≡ None → (m : Keyring) → fpr_at keys y ≡ fpr_at m y → fpr_at keys y ≡ fpr_at (with_keys m more) y
+put_fprs keys y there [] free m same = same
+put_fprs keys y there (key ∷ more) free m same =
+    let rest = none_found keys key more free in
+    put_fprs keys y there more rest.1 (with_key m key)
+    (elim (id_of key == y) as (λ b. (id_of key == y) ≡ b → map.get (with_key m key) y ≡ cond b (Some key) (map.get m y) → fpr_at keys y ≡ fpr_at (with_key m key) y) [
+      | true ↦ λ e here. own key (map.get keys y) (sym (ap (λ x. is_another key (map.get keys x)) (is_key (id_of key) y e)) ∙ rest.0) there ∙ sym (ap (option_map (λ (k : Key). k.fpr)) here)
+      | false ↦ λ _ here. same ∙ sym (ap (option_map (λ (k : Key). k.fpr)) here)
+    ] refl (get-insert nat_cmp_total m (id_of key) key y ∙ ap (λ b. cond b (Some key) (map.get m y)) (same_key y (id_of key))))
+  where
+    none_found : (keys : Keyring) (key : Key) (more : List Key) → find (is_taken keys) (key ∷ more) ≡ None → (is_taken keys key ≡ false) × (find (is_taken keys) more ≡ None)
+    none_found keys key more h = elim (is_taken keys key) as (λ b. is_taken keys key ≡ b → cond b (Some key) (find (is_taken keys) more) ≡ None → (is_taken keys key ≡ false) × (find (is_taken keys) more ≡ None)) [
+      | true ↦ λ _ some. absurd (none-some key (sym some))
+      | false ↦ λ free rest. (free, rest)
+    ] refl h
+
+    own : (key : Key) (o : Option Key) → is_another key o ≡ false → is_some o ≡ true → option_map (λ (k : Key). k.fpr) o ≡ Some key.fpr
+    own key None h there = absurd (true≢false (sym there))
+    own key (Some other) h there = ap Some (sym ((slice_eq-Decides Decides-eqb key.fpr other.fpr (pointwise nat_eq key.fpr other.fpr) refl).0 (not_false (pointwise nat_eq key.fpr other.fpr) h)))
+
+-- a key with a row that is there after keys were put was there before, unless its key ID came back
+pub put_stays : (s : State) (keys : List Key) (kept : RowMap) → taken_id s.keys keys ≡ None → list_any (is_back s.keys kept) keys ≡ false
+    → (y : ℕ) → contains_key kept y ≡ true → contains_key (with_keys s.keys keys) y ≡ true → (contains_key s.keys y ≡ true) × (fpr_at s.keys y ≡ fpr_at (with_keys s.keys keys) y)
+put_stays s keys kept free none y row there =
+    let was : contains_key s.keys y ≡ true = elim (contains_key s.keys y) as (λ b. contains_key s.keys y ≡ b → b ≡ true) [
+      | true ↦ λ _. refl
+      | false ↦ λ gone. absurd (true≢false (sym there ∙ not_put s.keys keys none gone s.keys gone))
+    ] refl in
+    (was, put_fprs s.keys y was keys (no_id (find (is_taken s.keys) keys) free) s.keys refl)
+  where
+    no_id : (o : Option Key) → option_map id_of o ≡ None → o ≡ None
+    no_id None h = refl
+    no_id (Some key) h = absurd (none-some (id_of key) (sym h))
+
+    not_back : (before : Keyring) (id : ℕ) → contains_key before y ≡ false → not (contains_key before id) && contains_key kept id ≡ false → (id == y) ≡ false
+    not_back before id gone h = elim (id == y) as (λ b. (id == y) ≡ b → b ≡ false) [
+      | true ↦ λ e.
+          let same = is_key id y e in
+          absurd (true≢false (sym (λ i. not ((ap (contains_key before) same ∙ gone) i) && (ap (contains_key kept) same ∙ row) i) ∙ h))
+      | false ↦ λ _. refl
+    ] refl
+
+    not_put : (before : Keyring) (more : List Key) → list_any (is_back before kept) more ≡ false → contains_key before y ≡ false → (m : Keyring) → contains_key m y ≡ false → contains_key (with_keys m more) y ≡ false
+    not_put before [] h gone m out = out
+    not_put before (key ∷ more) h gone m out =
+        let both = left_out (is_back before kept key) (list_any (is_back before kept) more) h in
+        let apart = not_back before (id_of key) gone both.0 in
+        not_put before more both.1 gone (with_key m key)
+        (ap is_some (get-insert nat_cmp_total m (id_of key) key y ∙ ap (λ b. cond b (Some key) (map.get m y)) (same_key y (id_of key) ∙ apart)) ∙ out)
+
 pub remove_alike : (s : State) (id x : ℕ) → named_by_remove id x ≡ false → IsAlike s (record s { keys = map.remove s.keys id }) x
 remove_alike s id x h = record {
   key = sym (get-remove nat_cmp_total s.keys id x ∙ ap (λ b. cond b None (map.get s.keys x)) (same_key x id ∙ h));
@@ -130,6 +196,7 @@ none_listed s named follows none = record {
     options = refl;
     rows = follows.rows;
     alike = λ x out. record { key = refl; own = λ key is. refl; dates = λ key is. same_dates s.date (key_expiries key) };
+    fprs = λ y _ _. refl;
   };
   counts = follows.counts;
   only = λ x its. sym (ap (λ xs. among xs x) none) ∙ its;
@@ -142,14 +209,16 @@ either false false c h its = its
 
 -- one edit more: the keys that it names are listed too
 pub listed_more : (s t u : State) (names more : KeySet) (named : Named) (list : List ℕ) → IsListedSince s names t named → t.options ≡ u.options
-    → ((x : ℕ) → among list x ≡ (among named.list x || more x)) → ((x : ℕ) → more x ≡ false → IsAlike t u x) → IsListedSince s (with_named names more) u (record named { list = list })
-listed_more s t u names more named list before same grown alike = record {
+    → ((x : ℕ) → among list x ≡ (among named.list x || more x)) → ((x : ℕ) → more x ≡ false → IsAlike t u x)
+    → ((y : ℕ) → contains_key named.rows y ≡ true → contains_key u.keys y ≡ true → (contains_key t.keys y ≡ true) × (fpr_at t.keys y ≡ fpr_at u.keys y)) → IsListedSince s (with_named names more) u (record named { list = list })
+listed_more s t u names more named list before same grown alike stay = record {
   begun = record {
     options = before.begun.options ∙ same;
     rows = before.begun.rows;
     alike = λ x out.
         let apart = left_out (among named.list x) (more x) (sym (grown x) ∙ out) in
         both_alike s t u x (before.begun.alike x apart.0) (alike x apart.1);
+    fprs = λ y row there. let was = stay y row there in before.begun.fprs y row was.0 ∙ was.1;
   };
   counts = before.counts;
   only = λ x its. either (among named.list x) (names x) (more x) (before.only x) (sym (grown x) ∙ its);
@@ -167,17 +236,32 @@ all_more t u names more all alike x there = elim (more x) as (λ b. more x ≡ b
 pub none_there : (keys : Keyring) (names : KeySet) → map.len keys ≡ 0 → (x : ℕ) → contains_key keys x ≡ true → names x ≡ true
 none_there keys names none x there = absurd (true≢false (sym there ∙ ap (λ (m : Keyring). is_some (map.get m x)) (empty_of_len keys none) ∙ ap is_some (get-empty nat_cmp x)))
 
+-- where each key with a row is there, no key comes back to one
+pub none_back : (keys : Keyring) (kept : RowMap) → ((y : ℕ) → contains_key kept y ≡ true → contains_key keys y ≡ true) → (more : List Key) → list_any (is_back keys kept) more ≡ false
+none_back keys kept there [] = refl
+none_back keys kept there (key ∷ more) =
+    let id = id_of key in
+    let one : is_back keys kept key ≡ false = elim (contains_key kept id) as (λ b. contains_key kept id ≡ b → not (contains_key keys id) && b ≡ false) [
+      | true ↦ λ row. ap (λ b. not b && true) (there id row)
+      | false ↦ λ _. and-false (not (contains_key keys id))
+    ] refl in
+    λ i. one i || none_back keys kept there more i
+
+-- all keys, whatever they are
+pub all_due : (s u : State) → (more : KeySet) × IsDueSince s more u All
+all_due s u = (named_by_options, λ x there. refl)
+
 -- whatever is to be counted, all keys have it among them
 pub all_named : (s t : State) (names : KeySet) (todo : Todo) → IsDueSince s names t todo → IsDueSince s named_by_options t todo
 all_named s t names All due = λ x there. refl
 all_named s t names (Listed named) due = record { begun = due.begun; counts = due.counts; only = λ x its. refl }
 
 -- one edit more: what is to be counted is told from the same state as before
-pub due_after : {t u v : State} {before after : Todo} (more : KeySet) → IsDue t before → u ≡ v → IsInRange v.options
-    → ((s : State) (names : KeySet) → IsDueSince s names t before → IsDueSince s (with_named names more) u after) → IsDue u after
-due_after more due is ranges since = record {
+pub due_after : {t u v : State} {before after : Todo} → IsDue t before → u ≡ v → IsInRange v.options
+    → ((s : State) (names : KeySet) → IsDueSince s names t before → (more : KeySet) × IsDueSince s more u after) → IsDue u after
+due_after due is ranges since = record {
   ranges = subst (λ (w : State). IsInRange w.options) (sym is) ranges;
-  since = (due.since.0, with_named due.since.1 more, since due.since.0 due.since.1 due.since.2);
+  since = let more = since due.since.0 due.since.1 due.since.2 in (due.since.0, more.0, more.1);
 }
 
 -- an edit that may be made leaves the options in their ranges
@@ -207,7 +291,7 @@ within_bound depth before certs old new h =
     omega (arith, h, more)
 
 pub named_touched : (named : KeySet) (s t : State) (x : ℕ) → named x ≡ true → is_touched named s t x ≡ true
-named_touched named s t x h = ap (λ b. b || is_certified_at s.keys (row_differs s t) x || is_certified_at t.keys (row_differs s t) x) h
+named_touched named s t x h = ap (λ b. b || is_certified_at s.keys (chain_differs s t) x || is_certified_at t.keys (chain_differs s t) x) h
 
 -- where all keys are in the set a count of all keys is within it
 pub all_bound : (set : KeySet) (keys : Keyring) (depth old new : ℕ) → ((x : ℕ) → contains_key keys x ≡ true → set x ≡ true) → new ≤ old + (depth + 1) * cert_total keys

@@ -8,7 +8,7 @@ use Rattle.std.proofs.Math.Bool.{or-true, or-false}
 use Rattle.wot_types.specs.Explanation.{KeySet}
 use Rattle.wot_types.specs.Next.{IsAfter, IsNext}
 use Rattle.wot_types.proofs.Tests.{is_key}
-use Rattle.wot_levels.specs.Walk.{is_done}
+use Rattle.wot_levels.proofs.Halfway.{is_done}
 use Rattle.wot_live.specs.Recounting.{IsGrownBy, among, with_id}
 
 among_append : (xs ys : List ℕ) (k : ℕ) → among (xs ++ ys) k ≡ (among xs k || among ys k)

@@ -37,13 +37,13 @@ found_next founds one more old new is whole exact longer = (
 module _ (s : State) (rows : RowMap) where
   -- what is kept of a key that is there
   abbrev kept_of : ℕ → Key → Option (List Count)
-  kept_of id key = kept_counts (key_counts s.options s.date rows key)
+  kept_of id key = kept_counts (key_counts s rows key)
 
   -- what is kept of the keys up to one more
   pub kept_next : (ids : List ℕ) (i x : ℕ) (old new : List (ℕ × List Count)) → i < length ids → x ≡ get_or ids i x → old ≡ kept_pairs s rows (take i ids)
-      → new ≡ old ++ kept_pair x (counts_rule s.keys s.options s.date rows x) → new ≡ kept_pairs s rows (take (i + 1) ids)
+      → new ≡ old ++ kept_pair x (counts_rule s rows x) → new ≡ kept_pairs s rows (take (i + 1) ids)
   kept_next ids i x old new inside at sofar more =
-      let kept = kept_pair x (counts_rule s.keys s.options s.date rows x) in
+      let kept = kept_pair x (counts_rule s rows x) in
       more
       ∙ ap (λ pairs. pairs ++ kept) sofar
       ∙ ap (λ pairs. kept_pairs s rows (take i ids) ++ pairs) (sym (append-nil kept))
@@ -59,7 +59,7 @@ module _ (s : State) (rows : RowMap) where
 
   -- the counts that are kept of all keys are those of the keyring
   pub counts_of_all : (ids : List ℕ) (pairs : List (ℕ × List Count)) (made : CountMap) → ids ≡ finmap.keys s.keys → pairs ≡ kept_pairs s rows ids
-      → made ≡ finmap.from_entries pairs → made ≡ counts_over s.keys s.options s.date rows
+      → made ≡ finmap.from_entries pairs → made ≡ counts_over s rows
   counts_of_all ids pairs made are all is =
       is ∙ ap finmap.from_entries (all ∙ ap (kept_pairs s rows) are ∙ pairs_of_entries (finmap.entries s.keys) (entries_at s.keys))
 

@@ -3,19 +3,20 @@ use Rattle.std.proofs.Common.{◌≡◌, ◌+◌, ◌-◌, ◌*◌, ◌≤◌, �
 use Rattle.wot_types.specs.State.{State}
 use Rattle.wot_types.specs.Candidates.{RowMap}
 use Rattle.wot_types.specs.Levels.{rows_of}
-use Rattle.wot_live.specs.Recounting.{IsCounted, IsRecounted, IsStage, among}
+use Rattle.wot_live.specs.Recounting.{IsCounted, IsRecounted, among}
+use Rattle.wot_live.proofs.BeforeLevels.{IsStage}
 use Rattle.wot_live.proofs.Stages.{IsLow, among_more, issuers_alike}
 
-pub counted_from : (s t : State) → 1 ≤ t.options.depth → (n : ℕ) (rows : RowMap) (start todo : List ℕ) → IsStage s t n rows todo → (top : ℕ) → IsLow top rows → rows ≡ rows_of t
+pub counted_from : (s t : State) → s.options ≡ t.options → 1 ≤ t.options.depth → (n : ℕ) (rows : RowMap) (start todo moved : List ℕ) → IsStage s t n rows todo moved → (top : ℕ) → IsLow top rows → n ≡ t.options.depth → rows ≡ rows_of t
     → ((x : ℕ) → among todo x ≡ false → among start x ≡ false) → IsCounted s t start rows todo
-counted_from s t some n rows start todo stage top low final longer = record {
+counted_from s t options some n rows start todo moved stage top low end final longer = record {
   rows = final;
   longer = longer;
-  alike = issuers_alike s t some n rows todo stage top low final;
+  alike = issuers_alike s t some n rows todo moved stage top low options end;
 }
 
-pub out_before : (t : State) (n : ℕ) (ids : List ℕ) (old new : RowMap) (todo more : List ℕ) → IsRecounted t n ids old todo new more → (x : ℕ) → among more x ≡ false → among todo x ≡ false
-out_before t n ids old new todo more step x out = among_more todo step.longer.0 x (sym (ap (λ xs. among xs x) step.longer.1) ∙ out)
+pub out_before : (t : State) (n : ℕ) (moved ids : List ℕ) (old new : RowMap) (todo more fresh after : List ℕ) → IsRecounted t n moved ids old todo fresh new more after → (x : ℕ) → among more x ≡ false → among todo x ≡ false
+out_before t n moved ids old new todo more fresh after step x out = among_more todo step.longer.0 x (sym (ap (λ xs. among xs x) step.longer.1) ∙ out)
 
 pub once_more : (n c : ℕ) → (n + 1) * c ≡ n * c + c
 once_more n c = grind arith

@@ -19,7 +19,7 @@ kept_pair id (Some counts) = (id, counts) ∷ []
 
 -- of these keys, those of which something is kept
 abbrev pub kept_pairs : State → RowMap → List ℕ → List (ℕ × List Count)
-kept_pairs s rows ids = flat_map (λ id. kept_pair id (counts_rule s.keys s.options s.date rows id)) ids
+kept_pairs s rows ids = flat_map (λ id. kept_pair id (counts_rule s rows id)) ids
 
 -- what a worker answers: counts, or that there was no memory
 abbrev pub Found : Type 0

@@ -13,4 +13,4 @@ use Rattle.wot_live.specs.Counts.{count_on}
 -- the row and the counts are those of this key in the state
 pub record AreOfKey (letters : Letters) (k : ℕ × Key) : Type 0 where
   pub row : option_copied letters.row ≡ map.get (rows_of letters.state) k.0
-  pub counts : (user : ℕ) (spot : Spot) → spot_of k.1 user ≡ Some spot → count_on letters.counts.now user ≡ count_of letters.state.options letters.state.date spot (rows_of letters.state)
+  pub counts : (user : ℕ) (spot : Spot) → spot_of k.1 user ≡ Some spot → count_on letters.counts.now user ≡ count_of letters.state spot (rows_of letters.state)

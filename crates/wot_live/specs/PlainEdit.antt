@@ -1,8 +1,10 @@
 -- What a plain edit makes of a state.
-use Rattle.std.specs.Prelude.{All, IsSome}
+use Rattle.std.specs.Prelude.{◌≡◌, ◌&&◌, not, Bool, All, None, IsSome}
 use Rattle.std.specs.FinMap as map
+use Rattle.wot_types.specs.declared.key.Key.{Key}
+use Rattle.wot_types.specs.Candidates.{RowMap}
 use Rattle.wot_types.specs.Explanation.{KeySet}
-use Rattle.wot_types.specs.Keyring.{with_keys, without_key}
+use Rattle.wot_types.specs.Keyring.{Keyring, id_of, taken_id, with_keys, without_key}
 use Rattle.wot_types.specs.Ownertrust.{with_entries}
 use Rattle.wot_types.specs.Payload.{IsInRange}
 use Rattle.wot_types.specs.State.{State}
@@ -25,9 +27,13 @@ named_by_plain s (Remove id) = named_by_remove id
 named_by_plain s (SetDate date) = named_by_date s date
 named_by_plain s (SetOptions options) = named_by_options
 
--- it may be made in a state: keys that are put are well formed, one that is taken away is there, options are in their ranges
+-- its key ID had one of these rows and has no key now
+abbrev pub is_back : Keyring → RowMap → Key → Bool
+is_back keys kept key = not (map.contains_key keys (id_of key)) && map.contains_key kept (id_of key)
+
+-- it may be made in a state: keys that are put are well formed and none has the key ID of another, one that is taken away is there, options are in their ranges
 abbrev pub IsAllowed : State → PlainEdit → Type 0
-IsAllowed s (Put keys entries) = All IsWellFormed keys
+IsAllowed s (Put keys entries) = All IsWellFormed keys × (taken_id s.keys keys ≡ None)
 IsAllowed s (Remove id) = IsSome (map.get s.keys id)
 IsAllowed s (SetDate date) = Unit {0}
 IsAllowed s (SetOptions options) = IsInRange options

@@ -17,7 +17,7 @@ pub fn counts_by_walk<L: Ledger>(
     rows: &Rows,
     steps: &mut Steps<L>,
 ) -> Result<Counts, Mem>
-    ensures counts { IfOk result (λ counts. counts ≡ counts_over state.now.keys state.now.options state.now.date rows.now) }
+    ensures counts { IfOk result (λ counts. counts ≡ counts_over state.now rows.now) }
     ensures ticks { steps.new ≤ steps.old + cert_total state.now.keys }
 {
     let table = state.table();
@@ -36,7 +36,7 @@ fn count_keyblock<L: Ledger>(
     keyblock: &Keyblock<'_>,
     steps: &mut Steps<L>,
 ) -> Result<(), Mem>
-    ensures counts { OnOk result (counts.new ≡ with_counts counts.old keyblock.now.0 (kept_counts (key_counts state.now.options state.now.date rows.now keyblock.now.1))) }
+    ensures counts { OnOk result (counts.new ≡ with_counts counts.old keyblock.now.0 (kept_counts (key_counts state.now rows.now keyblock.now.1))) }
     ensures ticks { steps.new ≤ steps.old + key_certs keyblock.now.1 }
 {
     let list = counts_in(keyblock, state, rows, steps)?;
@@ -49,7 +49,7 @@ fn counts_by_introducers<L: Ledger>(
     rows: &Rows,
     steps: &mut Steps<L>,
 ) -> Result<Counts, Mem>
-    ensures counts { IfOk result (λ counts. counts ≡ counts_over state.now.keys state.now.options state.now.date rows.now) }
+    ensures counts { IfOk result (λ counts. counts ≡ counts_over state.now rows.now) }
     ensures ticks { steps.new ≤ steps.old + cert_total state.now.keys }
 {
     let table = state.table();
@@ -67,7 +67,7 @@ pub fn all_counts<L: Ledger>(
     rows: &Rows,
     steps: &mut Steps<L>,
 ) -> Result<Counts, Mem>
-    ensures counts { IfOk result (λ counts. counts ≡ counts_over state.now.keys state.now.options state.now.date rows.now) }
+    ensures counts { IfOk result (λ counts. counts ≡ counts_over state.now rows.now) }
     ensures ticks { steps.new ≤ steps.old + cert_total state.now.keys }
 {
     if (rows.len() as u64) < state.table().totals().keys / 8 {

@@ -26,7 +26,7 @@ fn push_counts_of_id<L: Ledger>(
     to: &mut Vec<(KeyId, KeyCounts)>,
     steps: &mut Steps<L>,
 ) -> Result<(), Mem>
-    ensures { OnOk result (to.new.items ≡ to.old.items ++ kept_pair id (counts_rule state.now.keys state.now.options state.now.date rows.now id)) }
+    ensures { OnOk result (to.new.items ≡ to.old.items ++ kept_pair id (counts_rule state.now rows.now id)) }
 {
     let counts = counts_at(state, rows, id, steps)?;
     if let Some(counts) = kept_counts(counts) {
@@ -133,7 +133,7 @@ pub fn counts_by<R: Threads + Sync, G: Gate + Sync>(
     state: &LentState<'_>,
     rows: &Rows,
 ) -> Result<Counts, Mem>
-    ensures { IfOk result (λ counts. counts ≡ counts_over state.now.keys state.now.options state.now.date rows.now) }
+    ensures { IfOk result (λ counts. counts ≡ counts_over state.now rows.now) }
 {
     let table = state.table();
     let ids = table.ids()?;

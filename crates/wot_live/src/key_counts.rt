@@ -19,7 +19,7 @@ pub fn counts_in<L: Ledger>(
     rows: &Rows,
     steps: &mut Steps<L>,
 ) -> Result<List<Count>, Mem>
-    ensures counts { IfOk result (λ counts. counts ≡ key_counts state.now.options state.now.date rows.now keyblock.now.1) }
+    ensures counts { IfOk result (λ counts. counts ≡ key_counts state.now rows.now keyblock.now.1) }
     ensures ticks { steps.new ≤ steps.old + key_certs keyblock.now.1 }
 {
     let users = keyblock.key().users;
@@ -37,7 +37,7 @@ pub fn counts_at<L: Ledger>(
     id: KeyId,
     steps: &mut Steps<L>,
 ) -> Result<List<Count>, Mem>
-    ensures counts { (key : Key) → map.get state.now.keys id ≡ Some key → IfOk result (λ counts. counts ≡ key_counts state.now.options state.now.date rows.now key) }
+    ensures counts { (key : Key) → map.get state.now.keys id ≡ Some key → IfOk result (λ counts. counts ≡ key_counts state.now rows.now key) }
     ensures none { map.get state.now.keys id ≡ None → IfOk result (λ counts. counts ≡ []) }
     ensures ticks { steps.new ≤ steps.old + certs_at state.now.keys id }
 {
@@ -56,7 +56,7 @@ pub fn recount_key<L: Ledger>(
     id: KeyId,
     steps: &mut Steps<L>,
 ) -> Result<Counts, Mem>
-    ensures counts { IfOk result (AreCountedAt state.now.keys state.now.options state.now.date rows.now (id ∷ []) counts) }
+    ensures counts { IfOk result (AreCountedAt state.now rows.now (id ∷ []) counts) }
     ensures ticks { steps.new ≤ steps.old + certs_at state.now.keys id }
 {
     let mut counts = counts;

@@ -7,11 +7,13 @@ ghost use Rattle.std.specs.Option.{option_map_or};
 ghost use Rattle.wot_types.specs.Keyring.{id_of, is_fpr_of};
 ghost use Rattle.wot_types.specs.NextCheck.{key_expiries};
 ghost use Rattle.wot_types.specs.Touched.{is_passed_between};
+ghost use Rattle.wot_types.specs.declared.key.Key.{Key};
+ghost use Rattle.wot_live.specs.PlainEdit.{is_back};
 ghost use Rattle.wot_live.specs.Recounting.{among};
 
 use crate::worklist::Worklist;
 use wot_table::Table;
-use wot_types::{Entries, Entry, Fpr, KeyId, Keys, Mem};
+use wot_types::{Entries, Entry, Fpr, KeyId, Keys, Mem, Rows};
 
 /// The keys with an expiry on them that one of the two dates has passed and the other hasn't.
 pub fn named_by_date(list: Worklist, table: &Table, from: u32, to: u32) -> Result<Worklist, Mem>
@@ -60,6 +62,22 @@ fn add_entries(list: Worklist, table: &Table, entries: &Entries) -> Result<Workl
         list = add_entry(list, table, entry)?;
     }
     Ok(list)
+}
+
+/// Whether a key ID had one of these rows and has no key now.
+fn is_back(table: &Table, kept: &Rows, id: KeyId) -> bool
+    ensures { (key : Key) → id_of key ≡ id → result ≡ is_back table.now kept.now key }
+{
+    table.fpr(id).is_none() && kept.get(id).is_some()
+}
+
+/// Whether one of these keys comes to a key ID that had one of these rows and has no key now.
+pub fn has_back(table: &Table, kept: &Rows, keys: &Keys) -> bool
+    ensures { result ≡ list_any (is_back table.now kept.now) keys.now }
+{
+    keys.as_slice()
+        .iter()
+        .any(|key| is_back(table, kept, key.fpr.key_id()))
 }
 
 /// The keys that are put, and the keys of the entries' fingerprints.

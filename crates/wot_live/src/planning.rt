@@ -8,18 +8,21 @@ ghost use Rattle.wot_levels.specs.Frontier.{weight};
 ghost use Rattle.wot_live.specs.Agenda.{AreDue, HasMoreOf, IsWithin, is_due};
 
 use crate::agenda::Agenda;
+use crate::moved::Moved;
 use crate::worklist::Worklist;
 use std::sync::ledger::Ledger;
 use wot_levels::certifier_levels;
 use wot_table::{LentState, Table};
 use wot_types::{KeyId, Mem, Row, Rows, Steps};
 
-/// Rows while they are recounted, the keys to be recounted, which only grow, and the levels at which these are due.
+/// Rows while they are recounted, the keys to be recounted, which only grow, the levels at which these are due, and the keys whose
+/// chains changed.
 #[derive(Drop)]
 pub struct Course {
     pub rows: Rows,
     pub todo: Worklist,
     pub agenda: Agenda,
+    pub moved: Moved,
 }
 
 /// Puts a key on the agenda at the level of its own row, which has to be given anew, unless that level is past.
@@ -75,6 +78,7 @@ pub fn plan<L: Ledger>(
     requires within { IsWithin course.todo course.agenda }
     ensures rows { IfOk result (λ new. new.rows ≡ course.rows) }
     ensures todo { IfOk result (λ new. new.todo ≡ course.todo) }
+    ensures moved { IfOk result (λ new. new.moved ≡ course.moved) }
     ensures due { IfOk result (λ new. AreDue state.now.keys new.rows level new.todo new.agenda) }
     ensures within { IfOk result (λ new. IsWithin new.todo new.agenda) }
     ensures distinct { IsDistinct nat_eq course.todo }
@@ -84,10 +88,16 @@ pub fn plan<L: Ledger>(
         rows,
         todo,
         mut agenda,
+        moved,
     } = course;
     let count = todo.len();
     for i in planned..count {
         agenda = plan_key(state, &rows, agenda, todo.id(i), level, steps)?;
     }
-    Ok(Course { rows, todo, agenda })
+    Ok(Course {
+        rows,
+        todo,
+        agenda,
+        moved,
+    })
 }

@@ -1,6 +1,6 @@
 //! The rows that an edit changes, level by level.
 
-ghost use Rattle.std.specs.Prelude.{◌≡◌, ◌≤◌, ◌+◌, ◌*◌, ℕ, true, List, [], ◌∷◌, nat_eq, take, IfOk};
+ghost use Rattle.std.specs.Prelude.{◌≡◌, ◌≤◌, ◌+◌, ◌*◌, ◌||◌, ◌==◌, ℕ, true, List, [], ◌∷◌, nat_eq, take, IfOk};
 ghost use Rattle.std.specs.List.{IsDistinct};
 ghost use Rattle.wot_types.specs.State.{State};
 ghost use Rattle.wot_types.specs.Explanation.{KeySet};
@@ -10,10 +10,11 @@ ghost use Rattle.wot_types.specs.Payload.{IsInRange};
 ghost use Rattle.wot_types.specs.Touched.{certs_on, is_touched};
 ghost use Rattle.wot_levels.specs.Frontier.{weight};
 ghost use Rattle.wot_live.specs.Agenda.{AreDue, IsPutOff, IsWithin, due_at, is_due};
-ghost use Rattle.wot_live.specs.Recounting.{IsBegun, IsCounted, IsGrownBy, IsRecounted, IsTouchedList};
+ghost use Rattle.wot_live.specs.Recounting.{IsBegun, IsCounted, IsGrownBy, IsRecounted, IsTouchedList, among};
 
 use crate::agenda::{Agenda, Due};
 use crate::changed_row::recount_row;
+use crate::moved::Moved;
 use crate::planning::{Course, plan};
 use crate::worklist::{Worklist, certified_by};
 use std::sync::ledger::Ledger;
@@ -28,7 +29,8 @@ pub struct Recount {
     pub todo: Worklist,
 }
 
-/// Recounts one key; where its row changes, those that it certified are to be recounted too, and are due at the next level.
+/// Recounts one key; where its row changes, or the chain above it did, those that it certified are to be recounted too, and are due at
+/// the next level.
 fn recount_key<L: Ledger>(
     state: &LentState<'_>,
     course: Course,
@@ -36,37 +38,53 @@ fn recount_key<L: Ledger>(
     level: u8,
     steps: &mut Steps<L>,
 ) -> Result<Course, Mem>
-    ensures step { IfOk result (λ new. IsRecounted state.now level (id ∷ []) course.rows course.todo new.rows new.todo) }
+    ensures step { IfOk result (λ new. IsRecounted state.now level course.moved.before (id ∷ []) course.rows course.todo course.moved.here new.rows new.todo new.moved.here) }
+    ensures before { IfOk result (λ new. new.moved.before ≡ course.moved.before) }
     ensures due { IfOk result (λ new. (ids : List ℕ) → AreDue state.now.keys course.rows (level + 1) ids course.agenda → AreDue state.now.keys new.rows (level + 1) ids new.agenda) }
     ensures within { IfOk result (λ new. IsWithin course.todo course.agenda → IsWithin new.todo new.agenda) }
     ensures ticks { steps.new ≤ steps.old + certs_at state.now.keys id }
     ensures unread { level ≡ 0 → steps.new ≡ steps.old }
 {
-    let Course { rows, todo, agenda } = course;
+    let Course {
+        rows,
+        todo,
+        agenda,
+        moved,
+    } = course;
     let new = recount_row(state, rows, id, level, steps)?;
+    let changed = moved.moves(new.changed, new.rows.get(id), level);
     let course = Course {
         rows: new.rows,
         todo,
         agenda,
+        moved,
     };
-    if !new.changed {
+    if !changed {
         return Ok(course);
     }
-    add_certified(state.table(), course, id, level as u16 + 1)
+    add_moved(state.table(), course, id, level as u16 + 1)
 }
 
-/// Adds the keys that a key certified: they are to be recounted too, and are due at this level.
-fn add_certified(table: &Table, course: Course, id: KeyId, level: u16) -> Result<Course, Mem>
+/// A key's chain changed: adds the keys that it certified. They are to be recounted too, and are due at this level.
+fn add_moved(table: &Table, course: Course, id: KeyId, level: u16) -> Result<Course, Mem>
     ensures rows { IfOk result (λ new. new.rows ≡ course.rows) }
     ensures todo { IfOk result (λ new. IsGrownBy (has_cert_by table.now id) course.todo new.todo) }
     ensures agenda { IfOk result (λ new. IsPutOff (has_cert_by table.now id) level course.agenda new.agenda) }
+    ensures before { IfOk result (λ new. new.moved.before ≡ course.moved.before) }
+    ensures here { IfOk result (λ new. (y : ℕ) → among new.moved.here y ≡ (among course.moved.here y || (id == y))) }
 {
-    let Course { rows, todo, agenda } = course;
+    let Course {
+        rows,
+        todo,
+        agenda,
+        moved,
+    } = course;
     let ids = certified_by(table, id)?;
     Ok(Course {
         rows,
         todo: todo.add_all(&ids)?,
         agenda: agenda.add_all(table.alloc(), level, &ids)?,
+        moved: moved.add(id)?,
     })
 }
 
@@ -79,7 +97,8 @@ fn recount_all<L: Ledger>(
     steps: &mut Steps<L>,
 ) -> Result<Course, Mem>
     requires distinct { IsDistinct nat_eq ids.now }
-    ensures pass { IfOk result (λ new. IsRecounted state.now level ids.now course.rows course.todo new.rows new.todo) }
+    ensures pass { IfOk result (λ new. IsRecounted state.now level course.moved.before ids.now course.rows course.todo course.moved.here new.rows new.todo new.moved.here) }
+    ensures before { IfOk result (λ new. new.moved.before ≡ course.moved.before) }
     ensures due { IfOk result (λ new. (ids : List ℕ) → AreDue state.now.keys course.rows (level + 1) ids course.agenda → AreDue state.now.keys new.rows (level + 1) ids new.agenda) }
     ensures within { IfOk result (λ new. IsWithin course.todo course.agenda → IsWithin new.todo new.agenda) }
     ensures ticks { steps.new ≤ steps.old + weight state.now.keys ids.now }
@@ -99,20 +118,31 @@ fn recount_level<L: Ledger>(
     level: u8,
     steps: &mut Steps<L>,
 ) -> Result<Course, Mem>
-    ensures pass { IfOk result (λ new. IsRecounted state.now level (due_at course.agenda level) course.rows course.todo new.rows new.todo) }
+    ensures pass { IfOk result (λ new. IsRecounted state.now level course.moved.before (due_at course.agenda level) course.rows course.todo course.moved.here new.rows new.todo new.moved.here) }
+    ensures before { IfOk result (λ new. new.moved.before ≡ course.moved.before) }
     ensures due { IfOk result (λ new. (ids : List ℕ) → AreDue state.now.keys course.rows level ids course.agenda → AreDue state.now.keys new.rows (level + 1) ids new.agenda) }
     ensures within { IfOk result (λ new. IsWithin course.todo course.agenda → IsWithin new.todo new.agenda) }
     ensures ticks { (set : KeySet) → ((x : ℕ) → is_due course.agenda level x ≡ true → set x ≡ true) → steps.new ≤ steps.old + certs_on set state.now.keys }
     ensures unread { level ≡ 0 → steps.new ≡ steps.old }
 {
-    let Course { rows, todo, agenda } = course;
+    let Course {
+        rows,
+        todo,
+        agenda,
+        moved,
+    } = course;
     let Due { agenda, ids } = agenda.take(state.table().alloc(), level as u16);
     let ids = each_once(ids.into_vec());
-    let course = Course { rows, todo, agenda };
+    let course = Course {
+        rows,
+        todo,
+        agenda,
+        moved,
+    };
     recount_all(state, course, &ids, level, steps)
 }
 
-/// Recounts the listed keys, and all whose certifiers' rows change, at one level after the other.
+/// Recounts the listed keys, and all whose certifiers' chains change, at one level after the other.
 pub fn recount_levels<L: Ledger>(
     state: &LentState<'_>,
     found: Recount,
@@ -129,12 +159,25 @@ pub fn recount_levels<L: Ledger>(
 {
     let Recount { rows, todo } = found;
     let agenda = Agenda::new(state.table().alloc());
-    let mut course = Course { rows, todo, agenda };
+    let moved = Moved::new(state.table().alloc());
+    let mut course = Course {
+        rows,
+        todo,
+        agenda,
+        moved,
+    };
     let mut planned = 0;
     for level in 0..state.options().depth {
         course = plan(state, course, planned, level, steps)?;
         planned = course.todo.len();
-        course = recount_level(state, course, level, steps)?;
+        let done = recount_level(state, course, level, steps)?;
+        let moved = done.moved.next(state.table().alloc())?;
+        course = Course {
+            rows: done.rows,
+            todo: done.todo,
+            agenda: done.agenda,
+            moved,
+        };
     }
     let Course { rows, todo, .. } = course;
     Ok(Recount { rows, todo })

@@ -1,16 +1,16 @@
 //! What of a state is to be counted.
 
-ghost use Rattle.std.specs.Prelude.{◌≡◌, IfOk};
+ghost use Rattle.std.specs.Prelude.{◌≡◌, None, IfOk};
 ghost use Rattle.std.specs.FinMap as map;
-ghost use Rattle.wot_types.specs.Keyring.{with_keys};
+ghost use Rattle.wot_types.specs.Keyring.{taken_id, with_keys};
 ghost use Rattle.wot_types.specs.Ownertrust.{with_entries};
 ghost use Rattle.wot_types.specs.Explanation.{KeySet};
 ghost use Rattle.wot_types.specs.State.{State};
 ghost use Rattle.wot_types.specs.Touched.{named_by_date, named_by_put, named_by_remove};
-ghost use Rattle.wot_live.specs.Follows.{IsDueSince, with_named};
+ghost use Rattle.wot_live.specs.Follows.{HasIntroducers, IsDueSince, with_named};
 
 use crate::counts::Counts;
-use crate::named::{named_by_date, named_by_put};
+use crate::named::{has_back, named_by_date, named_by_put};
 use crate::worklist::Worklist;
 use wot_table::Table;
 use wot_types::{Entries, KeyId, Keys, Mem, Rows};
@@ -33,10 +33,13 @@ pub struct Named {
 }
 
 impl Todo {
-    /// Keys are put and entries set, beside the edits before. Into a keyring without keys all that it has then are put.
+    /// Keys are put and entries set, beside the edits before. Into a keyring without keys all that it has then are put. Where a key comes to
+    /// a key ID that had a row and lost its key, that row may be given again though the key is another: all keys are to be counted then.
     pub fn put(self, table: &Table, keys: &Keys, entries: &Entries) -> Result<Todo, Mem>
-        ensures { (s t : State) (names : KeySet) → t.keys ≡ table.now → IsDueSince s names t self
+        ensures since { (s t : State) (names : KeySet) → t.keys ≡ table.now → taken_id t.keys keys.now ≡ None → HasIntroducers t.keys self → IsDueSince s names t self
             → IfOk result (IsDueSince s (with_named names (named_by_put t keys.now entries.now)) (record t { keys = with_keys t.keys keys.now; trusts = with_entries t.trusts entries.now })) }
+        ensures due { (s t : State) (names : KeySet) → t.keys ≡ table.now → taken_id t.keys keys.now ≡ None → IsDueSince s names t self
+            → IfOk result (λ todo. (more : KeySet) × IsDueSince s more (record t { keys = with_keys t.keys keys.now; trusts = with_entries t.trusts entries.now }) todo) }
     {
         if table.totals().keys == 0 {
             return Ok(Todo::All);
@@ -44,6 +47,9 @@ impl Todo {
         let Todo::Named(Named { rows, counts, list }) = self else {
             return Ok(Todo::All);
         };
+        if has_back(table, &rows, keys) {
+            return Ok(Todo::All);
+        }
         let list = named_by_put(list, table, keys, entries)?;
         Ok(Todo::Named(Named { rows, counts, list }))
     }

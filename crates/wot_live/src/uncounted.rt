@@ -1,16 +1,16 @@
 //! A state after edits, of which the rows and counts are still to be brought up to date. Here stands what each edit is.
 
-ghost use Rattle.std.specs.Prelude.{◌≡◌, ◌≤◌, ◌+◌, ◌*◌, All, IfOk, IsSome};
+ghost use Rattle.std.specs.Prelude.{◌≡◌, ◌≤◌, ◌+◌, ◌*◌, All, None, IfOk, IsSome};
 ghost use Rattle.std.specs.FinMap as map;
 ghost use Rattle.wot_types.specs.Explanation.{KeySet};
-ghost use Rattle.wot_types.specs.Keyring.{with_keys};
+ghost use Rattle.wot_types.specs.Keyring.{taken_id, with_keys};
 ghost use Rattle.wot_types.specs.Ownertrust.{with_entries};
 ghost use Rattle.wot_types.specs.Payload.{IsInRange};
 ghost use Rattle.wot_types.specs.State.{State};
 ghost use Rattle.wot_types.specs.Touched.{certs_on, is_touched, named_by_date, named_by_options, named_by_put, named_by_remove};
 ghost use Rattle.wot_types.specs.WellFormed.{IsWellFormed};
 ghost use Rattle.wot_live.specs.declared.todo.Todo.TheVariants.{Named as Listed};
-ghost use Rattle.wot_live.specs.Follows.{Follows, IsDue, IsDueSince, IsListedSince, owned_state, uncounted_state, with_named};
+ghost use Rattle.wot_live.specs.Follows.{Follows, HasIntroducers, IsDue, IsDueSince, IsListedSince, owned_state, uncounted_state, with_named};
 ghost use Rattle.wot_live.specs.PlainEdit.{IsAllowed, after_plain, named_by_plain};
 
 use crate::anew::count_anew;
@@ -37,8 +37,9 @@ impl Uncounted {
     pub fn make(self, edit: PlainEdit) -> Result<Uncounted, Mem>
         requires allowed { IsAllowed (uncounted_state self) edit }
         ensures state { IfOk result (λ new. uncounted_state new ≡ after_plain (uncounted_state self) edit) }
-        ensures since { (s : State) (names : KeySet) → IsDueSince s names (uncounted_state self) self.todo
+        ensures since { (s : State) (names : KeySet) → HasIntroducers self.state.table self.todo → IsDueSince s names (uncounted_state self) self.todo
             → IfOk result (λ new. IsDueSince s (with_named names (named_by_plain (uncounted_state self) edit)) (uncounted_state new) new.todo) }
+        ensures due { (s : State) (names : KeySet) → IsDueSince s names (uncounted_state self) self.todo → IfOk result (λ new. (more : KeySet) × IsDueSince s more (uncounted_state new) new.todo) }
     {
         match edit {
             PlainEdit::Put(keys, entries) => self.put(keys, entries),
@@ -51,9 +52,11 @@ impl Uncounted {
     /// Adds or replaces keys, and sets entries, each in turn.
     pub fn put(self, keys: Keys, entries: Entries) -> Result<Uncounted, Mem>
         requires well_formed { All IsWellFormed keys }
+        requires free { taken_id self.state.table keys ≡ None }
         ensures state { IfOk result (λ new. uncounted_state new ≡ record (uncounted_state self) { keys = with_keys self.state.table keys; trusts = with_entries self.state.trusts entries }) }
-        ensures since { (s : State) (names : KeySet) → IsDueSince s names (uncounted_state self) self.todo
+        ensures since { (s : State) (names : KeySet) → HasIntroducers self.state.table self.todo → IsDueSince s names (uncounted_state self) self.todo
             → IfOk result (λ new. IsDueSince s (with_named names (named_by_put (uncounted_state self) keys entries)) (uncounted_state new) new.todo) }
+        ensures due { (s : State) (names : KeySet) → IsDueSince s names (uncounted_state self) self.todo → IfOk result (λ new. (more : KeySet) × IsDueSince s more (uncounted_state new) new.todo) }
     {
         let todo = self.todo.put(&self.state.table, &keys, &entries)?;
         let state = self.state.put(keys, entries)?;

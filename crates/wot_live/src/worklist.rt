@@ -59,6 +59,19 @@ impl Worklist {
         self.ids[i]
     }
 
+    /// Whether a key is there.
+    pub fn has(&self, id: KeyId) -> bool
+        ensures { result ≡ among self.now id }
+    {
+        self.seen.contains(&id)
+    }
+
+    pub fn as_slice(&self) -> &[KeyId]
+        ensures { result.now ≡ self.now }
+    {
+        self.ids.as_slice()
+    }
+
     /// Adds a key, unless it is there.
     pub fn add(self, id: KeyId) -> Result<Worklist, Mem>
         ensures { IfOk result (λ new. new ≡ with_id self id) }

@@ -38,7 +38,7 @@ shown_user head = record {
 
 -- a candidate by its key ID and its trust alone
 abbrev pub shown_counted : Counted → Row
-shown_counted candidate = record { key = candidate.key; level = 0; trust = candidate.trust; left = 0; scope = None }
+shown_counted candidate = record { key = candidate.key; level = 0; trust = candidate.trust; left = 0; scope = None; via = None }
 
 -- the lines of any explanation, with the letter over the cut keyring
 abbrev pub told_text : ℕ → ℕ → Why → Letter → List ℕ

@@ -1,7 +1,9 @@
 //! The reply that explains why a user ID is as valid as it is.
 
-ghost use Rattle.std.specs.Prelude.{◌≡◌, ◌+◌, ◌++◌, ℕ, IfOk, OnOk};
+ghost use Rattle.std.specs.Prelude.{◌≡◌, ◌+◌, ◌++◌, ℕ, [], IfOk, OnOk};
 ghost use Rattle.std.specs.List.{flat_map};
+ghost use Rattle.std.specs.Option.{option_map_or};
+ghost use Rattle.wot_types.specs.Printing.{ended_field, key_id_text};
 ghost use Rattle.wot_types.specs.State.{State};
 ghost use Rattle.wot_types.specs.CutState as cutting;
 ghost use Rattle.wot_types.specs.Explanation.{explanation};
@@ -70,7 +72,7 @@ fn push_rows(text: &mut Printed, rows: &[Row]) -> Result<(), Mem>
     Ok(())
 }
 
-/// `row:KEYID:LEVEL:TRUST:LEFT:SCOPE:`
+/// `row:KEYID:LEVEL:TRUST:LEFT:SCOPE:VIA:`
 fn push_row(text: &mut Printed, row: &Row) -> Result<(), Mem>
     ensures { OnOk result (text.new ≡ text.old ++ row_line row.now) }
 {
@@ -80,8 +82,19 @@ fn push_row(text: &mut Printed, row: &Row) -> Result<(), Mem>
     push_field(text, trust_text(row.trust))?;
     push_number_field(text, u32::from(row.left))?;
     push_scope(text, &row.scope)?;
+    push_via(text, row.via)?;
     text.push(b'\n')?;
     Ok(())
+}
+
+/// The key ID of whoever delegated to an introducer, or an empty field.
+fn push_via(text: &mut Printed, via: Option<KeyId>) -> Result<(), Mem>
+    ensures { OnOk result (text.new ≡ text.old ++ ended_field (option_map_or key_id_text via [])) }
+{
+    match via {
+        Some(id) => push_key_id_field(text, id),
+        None => push_field(text, b""),
+    }
 }
 
 /// A line for each candidate.

@@ -6,11 +6,11 @@ ghost use Rattle.hex.specs.Hex.{IsBytes};
 ghost use Rattle.wot_types.specs.declared.key.Key.{Key};
 ghost use Rattle.wot_types.specs.declared.user.User.{User};
 ghost use Rattle.wot_table.specs.Heads.{IsKeyHead, IsUserHead};
-ghost use Rattle.wot_print_laws.specs.Fits.{FitsCert, FitsKey, FitsState, FitsUser, IsScopeOfBytes};
+ghost use Rattle.wot_print_laws.specs.Fits.{FitsCert, FitsKey, FitsState, FitsUser, IsFprOfBytes, IsScopeOfBytes};
 
 use wot_live::Engine;
 use wot_table::{KeyHead, UserHead};
-use wot_types::{Cert, KeyId, Scope};
+use wot_types::{Cert, Fpr, KeyId, Scope};
 
 fn bytes_fit(bytes: &[u8])
     ensures { IsBytes bytes.now }
@@ -39,6 +39,15 @@ fn scope_fits(scope: &Option<Scope>)
     }
 }
 
+fn issuer_fpr_fits(named: &Option<Fpr>)
+    ensures { IsFprOfBytes named.now }
+{
+    match named {
+        Some(fpr) => bytes_fit(fpr.as_bytes()),
+        None => (),
+    }
+}
+
 pub fn cert_fits(cert: &Cert)
     ensures { FitsCert cert.now }
 {
@@ -49,6 +58,7 @@ pub fn cert_fits(cert: &Cert)
     byte_fits(cert.depth);
     byte_fits(cert.amount);
     scope_fits(&cert.scope);
+    issuer_fpr_fits(&cert.issuer_fpr);
 }
 
 /// A user ID whose certifications fit.

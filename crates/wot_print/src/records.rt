@@ -1,7 +1,7 @@
 //! The lines of a listing, each by what it shows (doc/DETAILS).
 
 ghost use Rattle.std.specs.Prelude.{◌≡◌, ◌==◌, ◌&&◌, ◌++◌, OnOk, codes};
-ghost use Rattle.wot_types.specs.Printing.{capabilities_text, cert_line, class_text, depth_text, ended_field, expiry_field, fpr_line, key_id_text, number_field, pub_line, tru_line, user_line};
+ghost use Rattle.wot_types.specs.Printing.{capabilities_text, cert_line, class_text, depth_text, ended_field, expiry_field, fpr_line, issuer_fpr_text, key_id_text, number_field, pub_line, tru_line, user_line};
 ghost use Rattle.wot_types.specs.Trust.{trust_text};
 ghost use Rattle.wot_print.specs.Shown.{shown_key, shown_user};
 
@@ -121,7 +121,7 @@ pub fn push_user<W: Sink>(text: &mut W, letter: Letter, user: &UserHead<'_>) -> 
     Ok(())
 }
 
-/// `sig:!:::ISSUER:MADE:EXP:TRUST:SCOPE::CLASS:`
+/// `sig:!:::ISSUER:MADE:EXP:TRUST:SCOPE::CLASS:`, and `:FINGERPRINT:` behind it where the issuer's fingerprint is named.
 pub fn push_cert<W: Sink>(text: &mut W, cert: &Cert) -> Result<(), W::Error>
     ensures same { W.name text.new ≡ W.name text.old }
     ensures adds { OnOk result (W.adds text.old (cert_line cert.now) text.new) }
@@ -134,8 +134,23 @@ pub fn push_cert<W: Sink>(text: &mut W, cert: &Cert) -> Result<(), W::Error>
     push_scope(text, &cert.scope)?;
     text.push(b':')?;
     push_class(text, cert)?;
+    push_issuer_fpr(text, &cert.issuer_fpr)?;
     text.push(b'\n')?;
     Ok(())
+}
+
+/// The issuer's fingerprint behind an empty field, or nothing where none is named.
+fn push_issuer_fpr<W: Sink>(text: &mut W, named: &Option<Fpr>) -> Result<(), W::Error>
+    ensures same { W.name text.new ≡ W.name text.old }
+    ensures adds { OnOk result (W.adds text.old (issuer_fpr_text named.now) text.new) }
+{
+    match named {
+        None => text.push_bytes(b""),
+        Some(fpr) => {
+            text.push(b':')?;
+            push_hex_field(text, fpr.as_bytes())
+        }
+    }
 }
 
 /// The depth and the amount of a trust signature, or nothing where both are 0.

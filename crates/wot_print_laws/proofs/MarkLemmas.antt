@@ -68,7 +68,7 @@ marked false false false false false letter h = h
 -- a user ID has the letter `r` where it or its key is revoked
 pub user_mark : (s : State) (rows : RowMap) (id : ℕ) (key : Key) (spot : Spot) → begins_with 114 (letter_text (user_letter s rows id key spot)) ≡ (key.revoked || spot.user.revoked)
 user_mark s rows id key spot =
-    let count = count_of s.options s.date spot rows in
+    let count = count_of s spot rows in
     letter_begins (user_letter s rows id key spot)
     ∙ marked key.revoked spot.user.revoked (is_expired key.expires s.date) (is_expired spot.user.expires s.date) (has_level_0 (finmap.get rows id)) (letter_of_count s.options count)
     (counted (is_full s.options count) (nat_le 1 _) (nat_le 1 count.other))

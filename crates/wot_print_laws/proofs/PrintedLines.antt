@@ -1,6 +1,6 @@
 -- A printed line has the values that were printed.
 use Rattle.std.proofs.Common.{◌≡◌, ℕ, ◌^◌, ◌<◌, ◌==◌, Bool, true, false, not, nat_lt, List, [], ◌∷◌, length, refl, ap, ◌∙◌, arith, Option, Some, None, slice_index, codes, decimal}
-use Rattle.std.specs.Prelude.{if◌then◌else◌, unwrap_or, is_none, filter}
+use Rattle.std.specs.Prelude.{if◌then◌else◌, unwrap_or, is_none, filter, slice_get, ◌++◌, IfSome}
 use Rattle.std.specs.List.{list_all}
 use Rattle.std.proofs.lemmas.Bool.{cond-false, ne_eqb, eq-eqb, le-ltb}
 use Rattle.hex.specs.Hex.{encode_upper}
@@ -22,7 +22,7 @@ use Rattle.wot_types.specs.Limits.{longest_scope}
 use Rattle.wot_types.specs.Printing.{cert_name, class_text, depth_text, key_id_text, kind_text, scope_text}
 use Rattle.wot_types.specs.Records.{begins_with, capabilities_at, cert_of, class_of, date_at, fingerprint_at, hash_at, is_capability, is_good, is_hash_byte, is_local_at, is_revoked_at, key_id, key_id_at, kind_of, kind_of_name, number_at, scope_of, text_at}
 use Rattle.wot_types.specs.WellFormed.{IsScope}
-use Rattle.wot_print_laws.specs.Fits.{FitsCert, FitsKey, FitsUser, IsScopeOfBytes}
+use Rattle.wot_print_laws.specs.Fits.{FitsCert, FitsKey, FitsUser, IsFprOfBytes, IsScopeOfBytes}
 use Rattle.wot_print_laws.proofs.Parts.{AllInner, IsInner, ended, field_is, fields_are}
 use Rattle.wot_print_laws.proofs.Texts.{are_bytes, class_of-text, depth_and_amount-text, filter_all, fingerprint-text, inner_class, inner_depth, inner_key_id, inner_printed, inner_scope, is_local-text, key_id-text, text_of_quoted-printed}
 use Rattle.wot_print_laws.proofs.Values.{date_or_0-decimal, date_or_0-expiry, expiry_text, inner_decimal, inner_expiry, inner_hash, inner_hex, number_or_0-decimal}
@@ -154,10 +154,18 @@ user_says letter revoked user l h hash marked =
 
 -- ---- `sig` and `rev`
 
-abbrev pub cert_parts : Cert → List (List ℕ)
-cert_parts cert =
+-- behind the class, where the issuer's fingerprint is named
+abbrev pub issuer_fpr_parts : Option (List ℕ) → List (List ℕ)
+issuer_fpr_parts None = []
+issuer_fpr_parts (Some fpr) = [] ∷ encode_upper fpr ∷ []
+
+abbrev cert_with : Cert → Option (List ℕ) → List (List ℕ)
+cert_with cert named =
     cert_name cert ∷ codes "!" ∷ [] ∷ [] ∷ key_id_text cert.issuer ∷ decimal cert.made ∷ expiry_text cert.expires
-    ∷ depth_text cert ∷ scope_text cert.scope ∷ [] ∷ class_text cert ∷ []
+    ∷ depth_text cert ∷ scope_text cert.scope ∷ [] ∷ class_text cert ∷ issuer_fpr_parts named
+
+abbrev pub cert_parts : Cert → List (List ℕ)
+cert_parts cert = cert_with cert cert.issuer_fpr
 
 pub record IsSig (cert : Cert) (line : List ℕ) : Type 0 where
   pub kind : kind_of line ≡ Signature
@@ -167,6 +175,10 @@ pub record IsSig (cert : Cert) (line : List ℕ) : Type 0 where
   pub issuer : key_id (field 5 line) ≡ Some cert.issuer
   pub passes : first_failing (cert_checks line) ≡ None
   pub value : cert_of line ≡ cert
+
+inner_issuer_fpr : (named : Option (List ℕ)) → IsFprOfBytes named → AllInner (issuer_fpr_parts named)
+inner_issuer_fpr None h = tt
+inner_issuer_fpr (Some fpr) h = (refl, (inner_hex fpr h, tt))
 
 inner_name : (b : Bool) → IsInner (if b then codes "rev" else codes "sig")
 inner_name true = refl
@@ -178,7 +190,15 @@ name_read false = refl
 
 pub cert_inner : (cert : Cert) → FitsCert cert → AllInner (cert_parts cert)
 cert_inner cert h =
-    (inner_name (cert.class == 48), (refl, (refl, (refl, (inner_key_id cert.issuer, (inner_decimal cert.made (omega (arith, h.made)), (inner_expiry cert.expires (omega (arith, h.expires)), (inner_depth cert h.depth h.amount, (inner_scope cert.scope h.scope, (refl, (inner_class cert h.class, tt)))))))))))
+    (inner_name (cert.class == 48), (refl, (refl, (refl, (inner_key_id cert.issuer, (inner_decimal cert.made (omega (arith, h.made)), (inner_expiry cert.expires (omega (arith, h.expires)), (inner_depth cert h.depth h.amount, (inner_scope cert.scope h.scope, (refl, (inner_class cert h.class, inner_issuer_fpr cert.issuer_fpr h.issuer_fpr)))))))))))
+
+long_with : (cert : Cert) (named : Option (List ℕ)) → nat_lt (length (cert_with cert named ++ [] ∷ [])) 11 ≡ false
+long_with cert None = refl
+long_with cert (Some fpr) = refl
+
+named_back : (named : Option (List ℕ)) → IsFprOfBytes named → IfSome named IsFprLength → fingerprint (unwrap_or (slice_get (issuer_fpr_parts named ++ [] ∷ []) 1) []) ≡ named
+named_back None h sized = refl
+named_back (Some fpr) h sized = fingerprint-text fpr sized (are_bytes fpr h)
 
 -- the text that a scope is read as
 abbrev pub scope_bytes : Option (List ℕ) → List ℕ
@@ -196,9 +216,9 @@ scope_short : (scope : Option (List ℕ)) → IsScope scope → nat_lt longest_s
 scope_short None h = refl
 scope_short (Some scope) h = le-ltb longest_scope (length scope) h.1
 
-pub cert_says : (cert : Cert) → FitsCert cert → IsScope cert.scope → IsSig cert (ended 58 (cert_parts cert))
+pub cert_says : (cert : Cert) → FitsCert cert → IsScope cert.scope → IfSome cert.issuer_fpr IsFprLength → IsSig cert (ended 58 (cert_parts cert))
 unfolding kind_of
-cert_says cert h sized =
+cert_says cert h sized long =
     let line : List ℕ = ended 58 (cert_parts cert) in
     let f : (n : ℕ) → _ = field_is (cert_parts cert) (cert_inner cert h) in
     let class : class_of (field 11 line) ≡ Some cert.class = ap class_of (f 11) ∙ class_of-text cert h.class in
@@ -208,11 +228,12 @@ cert_says cert h sized =
     let trust : depth_and_amount (field 8 line) ≡ Some (cert.depth, cert.amount) = ap depth_and_amount (f 8) ∙ depth_and_amount-text cert h.depth h.amount in
     let scope : text_of_quoted (field 9 line) ≡ Some (scope_bytes cert.scope) = ap text_of_quoted (f 9) ∙ scope_read cert.scope h.scope in
     let back : scope_of (unwrap_or (text_of_quoted (field 9 line)) []) ≡ cert.scope = ap (λ o. scope_of (unwrap_or o [])) scope ∙ scope_back cert.scope sized in
+    let named : fingerprint (field 13 line) ≡ cert.issuer_fpr = ap fingerprint (f 13) ∙ named_back cert.issuer_fpr h.issuer_fpr long in
     let local : is_local_at line ≡ cert.local = ap (λ t. slice_index t 2 == 108) (f 11) ∙ is_local-text cert in
     record {
       kind = ap kind_of_name (f 1) ∙ name_read (cert.class == 48);
       good = ap (begins_with 33) (f 2);
-      long = ap (λ l. nat_lt (length l) 11) (fields_are (cert_parts cert) (cert_inner cert h));
+      long = ap (λ l. nat_lt (length l) 11) (fields_are (cert_parts cert) (cert_inner cert h)) ∙ long_with cert cert.issuer_fpr;
       class = class;
       issuer = issuer;
       passes = (λ i. first_failing ((is_none (made i), BadDate) ∷ (is_none (expires i), BadDate) ∷ (is_none (trust i), BadTrustField) ∷ (is_none (scope i), BadQuote) ∷ (nat_lt longest_scope (length (unwrap_or (scope i) [])), LimitReached ScopeLimit) ∷ []))
@@ -226,5 +247,6 @@ cert_says cert h sized =
         depth = (unwrap_or (trust i) (0, 0)).0;
         amount = (unwrap_or (trust i) (0, 0)).1;
         scope = back i;
+        issuer_fpr = named i;
       };
     }

@@ -1,5 +1,5 @@
 -- The printed text, line by line.
-use Rattle.std.proofs.Common.{◌≡◌, ℕ, true, None, List, [], ◌∷◌, ◌++◌, append_assoc, append-nil, map, codes, decimal, refl, sym, ap, ◌∙◌}
+use Rattle.std.proofs.Common.{◌≡◌, ℕ, true, Option, Some, None, List, [], ◌∷◌, ◌++◌, append_assoc, append-nil, map, codes, decimal, refl, sym, ap, ◌∙◌}
 use Rattle.std.specs.List.{flat_map}
 use Rattle.std.specs.FinMap as finmap
 use Rattle.std.proofs.lemmas.Grind.{flat_map-append}
@@ -12,14 +12,14 @@ use Rattle.wot_types.specs.Levels.{rows_of}
 use Rattle.wot_types.specs.Listing.{Line}
 use Rattle.wot_types.specs.NextCheck.{next_check}
 use Rattle.wot_types.specs.Ownertrust.{ownertrust_of}
-use Rattle.wot_types.specs.Printing.{capabilities_text, cert_line, cert_name, class_text, depth_text, ended_field, expiry_field, fpr_line, key_id_text, key_lines, kind_text, letter_text, list_text, model_text, number_field, pub_line, scope_text, tru_line, user_line, user_lines}
+use Rattle.wot_types.specs.Printing.{capabilities_text, cert_line, cert_name, class_text, depth_text, ended_field, expiry_field, fpr_line, issuer_fpr_text, key_id_text, key_lines, kind_text, letter_text, list_text, model_text, number_field, pub_line, scope_text, tru_line, user_line, user_lines}
 use Rattle.wot_types.specs.Trust.{trust_text}
 use Rattle.hex.specs.Hex.{encode_upper}
 use Rattle.wot_types.specs.Quotes.{printed_text}
 use Rattle.wot_types.specs.Runs.{Run}
 use Rattle.wot_types.specs.Selection.{Spot, spots_from}
 use Rattle.wot_print_laws.proofs.Parts.{ended, joined, joined_is}
-use Rattle.wot_print_laws.proofs.PrintedLines.{cert_parts, fpr_parts, pub_parts, user_parts}
+use Rattle.wot_print_laws.proofs.PrintedLines.{cert_parts, fpr_parts, issuer_fpr_parts, pub_parts, user_parts}
 use Rattle.wot_print_laws.proofs.RunLemmas.{pieces}
 use Rattle.wot_print_laws.proofs.WholeLemmas.{Written, block}
 
@@ -93,10 +93,16 @@ user_is s rows id key spot =
     ∷ ended_field spot.user.hash ∷ codes ":" ∷ ended_field (printed_text spot.user.text) ∷ (10 ∷ []) ∷ [])
     ∙ joined_is (user_parts (letter_text (user_letter s rows id key spot)) spot.user) (10 ∷ [])
 
+issuer_fpr_is : (named : Option (List ℕ)) → issuer_fpr_text named ++ 10 ∷ [] ≡ joined (issuer_fpr_parts named) (10 ∷ [])
+issuer_fpr_is None = refl
+issuer_fpr_is (Some fpr) = refl
+
 cert_is : (cert : Cert) → cert_line cert ≡ cert_row cert ++ 10 ∷ []
 cert_is cert =
     chained_is (ended_field (cert_name cert)) (codes "!:::" ∷ ended_field (key_id_text cert.issuer) ∷ number_field cert.made ∷ expiry_field cert.expires ∷ ended_field (depth_text cert) ∷ ended_field (scope_text cert.scope)
-    ∷ codes ":" ∷ ended_field (class_text cert) ∷ (10 ∷ []) ∷ [])
+    ∷ codes ":" ∷ ended_field (class_text cert) ∷ issuer_fpr_text cert.issuer_fpr ∷ (10 ∷ []) ∷ [])
+    ∙ ap (λ t. ended_field (cert_name cert) ++ (codes "!:::" ++ (ended_field (key_id_text cert.issuer) ++ (number_field cert.made ++ (expiry_field cert.expires ++ (ended_field (depth_text cert)
+    ++ (ended_field (scope_text cert.scope) ++ (codes ":" ++ (ended_field (class_text cert) ++ t))))))))) (issuer_fpr_is cert.issuer_fpr)
     ∙ joined_is (cert_parts cert) (10 ∷ [])
 
 ended_append : (xs ys : List Line) → ended 10 (xs ++ ys) ≡ ended 10 xs ++ ended 10 ys

@@ -119,7 +119,7 @@ next_check_fits s h = soonest_fits _ (dates_filter (λ e. nat_lt s.date e) (flat
 sigs_written : (id : ℕ) (certs : List Cert) → All (IsCert id) certs → All FitsCert certs → AreSigs certs (map cert_row certs)
 sigs_written id [] w h = tt
 sigs_written id (cert ∷ certs) w h =
-    (cert_says cert (All-head FitsCert cert certs h) (All-head (IsCert id) cert certs w).scope, sigs_written id certs (All-tail (IsCert id) cert certs w) (All-tail FitsCert cert certs h))
+    (cert_says cert (All-head FitsCert cert certs h) (All-head (IsCert id) cert certs w).scope (All-head (IsCert id) cert certs w).issuer_fpr, sigs_written id certs (All-tail (IsCert id) cert certs w) (All-tail FitsCert cert certs h))
 
 pub users_written : (s : State) (rows : RowMap) (id : ℕ) (key : Key) (own : ℕ) (n : ℕ) (users : List User) → All (IsUser own) users → All FitsUser users
     → AreUsers key.revoked users (map (user_run s rows id key) (spots_from n users))

@@ -1,7 +1,8 @@
 -- The lines that are printed before a reply's last one: none of them ends the reply.
-use Rattle.std.proofs.Common.{◌≡◌, ℕ, ◌+◌, ◌/◌, ◌%◌, ◌==◌, false, List, [], ◌∷◌, ◌++◌, append_assoc, append-nil, subst, refl, sym, ap, ◌∙◌, slice_index, nat_eq, All, codes, decimal}
+use Rattle.std.proofs.Common.{◌≡◌, ℕ, ◌+◌, ◌/◌, ◌%◌, ◌==◌, false, List, [], ◌∷◌, ◌++◌, append_assoc, append-nil, subst, refl, sym, ap, ◌∙◌, slice_index, nat_eq, All, Option, Some, None, codes, decimal}
 use Rattle.std.specs.FinMap as finmap
 use Rattle.std.specs.List.{flat_map, list_any}
+use Rattle.std.specs.Option.{option_map_or}
 use Rattle.std.proofs.lemmas.Bool.{and_left, cond_both, or_from}
 use Rattle.std.proofs.lemmas.Grind.{flat_map-append}
 use Rattle.std.proofs.lemmas.List.Elements.{All-head, All-tail}
@@ -22,7 +23,7 @@ use Rattle.wot_types.specs.State.{State}
 use Rattle.wot_types.specs.Candidates.{RowMap}
 use Rattle.wot_types.specs.Numbers.{capped}
 use Rattle.wot_types.specs.Ownertrust.{ownertrust_line, ownertrust_number}
-use Rattle.wot_types.specs.Printing.{capabilities_text, cert_line, class_text, depth_text, ended_field, expiry_field, fpr_line, key_id_text, kind_text, letter_text, model_text, number_field, pub_line, scope_text, tru_line, user_line}
+use Rattle.wot_types.specs.Printing.{capabilities_text, cert_line, class_text, depth_text, ended_field, expiry_field, fpr_line, issuer_fpr_text, key_id_text, kind_text, letter_text, model_text, number_field, pub_line, scope_text, tru_line, user_line}
 use Rattle.wot_types.specs.Quotes.{printed_text}
 use Rattle.wot_types.specs.Records.{is_capability, is_hash_byte}
 use Rattle.wot_types.specs.Refusals.{reply_line}
@@ -127,7 +128,11 @@ user_goes_on letter id user w = by_kind user.kind
 abbrev cert_fields : Cert → List (List ℕ)
 cert_fields cert =
     codes "!:::" ∷ ended_field (key_id_text cert.issuer) ∷ number_field cert.made ∷ expiry_field cert.expires ∷ ended_field (depth_text cert) ∷ ended_field (scope_text cert.scope)
-    ∷ codes ":" ∷ ended_field (class_text cert) ∷ []
+    ∷ codes ":" ∷ ended_field (class_text cert) ∷ issuer_fpr_text cert.issuer_fpr ∷ []
+
+plain_issuer_fpr : (named : Option (List ℕ)) → IsPlain (issuer_fpr_text named)
+plain_issuer_fpr None = refl
+plain_issuer_fpr (Some fpr) = plain_append (codes ":") (ended_field (encode_upper fpr)) refl (plain_field (encode_upper fpr) (plain_upper fpr))
 
 plain_cert : (cert : Cert) → ArePlain (cert_fields cert)
 plain_cert cert = (
@@ -142,7 +147,7 @@ plain_cert cert = (
           plain_field (depth_text cert) (plain_depth cert),
           (
             plain_field (scope_text cert.scope) (plain_scope cert.scope),
-            (refl, (plain_field (class_text cert) (plain_class_text cert), tt)),
+            (refl, (plain_field (class_text cert) (plain_class_text cert), (plain_issuer_fpr cert.issuer_fpr, tt))),
           ),
         ),
       ),
@@ -169,10 +174,24 @@ why_goes_on id place letter count =
     line_of (codes "why:") (ended_field (letter_text letter) ∷ ended_field (key_id_text id) ∷ number_field (place + 1) ∷ count_fields count ∷ [])
     refl (plain_field (letter_text letter) (plain_letter letter), (plain_field (key_id_text id) (plain_key_id id), (plain_number (place + 1), (plain_counts count, tt)))) refl
 
+plain_via : (via : Option ℕ) → IsPlain (option_map_or key_id_text via [])
+plain_via None = refl
+plain_via (Some id) = plain_key_id id
+
 pub row_goes_on : (row : Row) → GoesOn (row_line row)
 row_goes_on row =
-    line_of (codes "row:") (ended_field (key_id_text row.key) ∷ number_field row.level ∷ ended_field (trust_text row.trust) ∷ number_field row.left ∷ ended_field (scope_text row.scope) ∷ [])
-    refl (plain_field (key_id_text row.key) (plain_key_id row.key), (plain_number row.level, (plain_field (trust_text row.trust) (plain_trust row.trust), (plain_number row.left, (plain_field (scope_text row.scope) (plain_scope row.scope), tt))))) refl
+    line_of (codes "row:") (ended_field (key_id_text row.key) ∷ number_field row.level ∷ ended_field (trust_text row.trust) ∷ number_field row.left ∷ ended_field (scope_text row.scope)
+    ∷ ended_field (option_map_or key_id_text row.via []) ∷ [])
+    refl (
+      plain_field (key_id_text row.key) (plain_key_id row.key),
+      (
+        plain_number row.level,
+        (
+          plain_field (trust_text row.trust) (plain_trust row.trust),
+          (plain_number row.left, (plain_field (scope_text row.scope) (plain_scope row.scope), (plain_field (option_map_or key_id_text row.via []) (plain_via row.via), tt))),
+        ),
+      ),
+    ) refl
 
 pub by_goes_on : (row : Row) → GoesOn (by_line row)
 by_goes_on row = line_of (codes "by:") (ended_field (key_id_text row.key) ∷ ended_field (trust_text row.trust) ∷ []) refl (plain_field (key_id_text row.key) (plain_key_id row.key), (plain_field (trust_text row.trust) (plain_trust row.trust), tt)) refl

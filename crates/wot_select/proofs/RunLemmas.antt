@@ -1,5 +1,5 @@
 -- The certification that decides among those of one issuer: the last that is not disregarded.
-use Rattle.std.proofs.Common.{◌≡◌, ◌+◌, ◌<◌, ◌≤◌, ◌==◌, ◌&&◌, not, ℕ, Bool, true, false, cond, List, [], ◌∷◌, ◌++◌, filter, take, drop, length, get_or, ◌-◌, Some, option_and_then, refl, sym, ap, subst, ◌∙◌, arith}
+use Rattle.std.proofs.Common.{◌≡◌, ◌+◌, ◌<◌, ◌≤◌, ◌==◌, ◌&&◌, not, ℕ, Bool, true, false, cond, List, [], ◌∷◌, ◌++◌, filter, take, drop, length, get_or, ◌-◌, Option, Some, option_and_then, refl, sym, ap, subst, ◌∙◌, arith}
 use Rattle.std.specs.List.{AllByRecursion}
 use Rattle.std.proofs.lemmas.Bool.Decides.{nat_tests}
 use Rattle.std.proofs.lemmas.List.{append-nil, take_more, take-append-drop}
@@ -38,18 +38,18 @@ rising_back [] qs h = h
 rising_back (p ∷ ps) qs h = rising_back ps qs h.1
 
 -- the last one of a run decides, unless it is disregarded
-latest_last : (level issuer : ℕ) (ps : List Placed) (q : Placed) → AllBefore q ps → IsBy issuer ps → q.cert.issuer ≡ issuer → is_disregarded level q.cert ≡ false
-    → latest_cert (filter (counts_for level issuer) (ps ++ q ∷ [])) ≡ Some q
-latest_last level issuer [] q h by its kept = ap (λ b. latest_cert (cond b (q ∷ []) [])) (counts q its kept)
+latest_last : (level : ℕ) (fpr : Option (List ℕ)) (issuer : ℕ) (ps : List Placed) (q : Placed) → AllBefore q ps → IsBy issuer ps → q.cert.issuer ≡ issuer → is_disregarded level fpr q.cert ≡ false
+    → latest_cert (filter (counts_for level fpr issuer) (ps ++ q ∷ [])) ≡ Some q
+latest_last level fpr issuer [] q h by its kept = ap (λ b. latest_cert (cond b (q ∷ []) [])) (counts q its kept)
   where
-    counts : (p : Placed) → p.cert.issuer ≡ issuer → is_disregarded level p.cert ≡ false → counts_for level issuer p ≡ true
+    counts : (p : Placed) → p.cert.issuer ≡ issuer → is_disregarded level fpr p.cert ≡ false → counts_for level fpr issuer p ≡ true
     counts p e k =
         let itself : (p.cert.issuer == issuer) ≡ true = grind (arith, nat_tests) in
         (λ i. itself i && not (k i))
-latest_last level issuer (p ∷ ps) q h by its kept =
-    let rest = filter (counts_for level issuer) (ps ++ q ∷ []) in
-    let behind = latest_last level issuer ps q h.1 by.1 its kept in
-    elim (counts_for level issuer p) as (λ b. latest_cert (cond b (p ∷ rest) rest) ≡ Some q) [
+latest_last level fpr issuer (p ∷ ps) q h by its kept =
+    let rest = filter (counts_for level fpr issuer) (ps ++ q ∷ []) in
+    let behind = latest_last level fpr issuer ps q h.1 by.1 its kept in
+    elim (counts_for level fpr issuer p) as (λ b. latest_cert (cond b (p ∷ rest) rest) ≡ Some q) [
       | true ↦ ap (λ o. Some (later_cert p o)) behind ∙ ap (λ b. Some (cond b q p)) (earlier p q h.0 by.0 its)
       | false ↦ behind
     ]
@@ -58,21 +58,21 @@ latest_last level issuer (p ∷ ps) q h by its kept =
     earlier p q h e f = grind (arith, nat_tests)
 
 -- what is disregarded at the end of a run changes nothing
-pub disregarded_last : (now level issuer : ℕ) (ps : List Placed) (q : Placed) → is_disregarded level q.cert ≡ true
-    → usable now level issuer (ps ++ q ∷ []) ≡ usable now level issuer ps
-disregarded_last now level issuer ps q h =
+pub disregarded_last : (now level : ℕ) (fpr : Option (List ℕ)) (issuer : ℕ) (ps : List Placed) (q : Placed) → is_disregarded level fpr q.cert ≡ true
+    → usable now level fpr issuer (ps ++ q ∷ []) ≡ usable now level fpr issuer ps
+disregarded_last now level fpr issuer ps q h =
     ap (λ xs. option_and_then (in_force now) (latest_cert xs))
-    (filter-append (counts_for level issuer) ps (q ∷ []) ∙ ap (λ b. filter (counts_for level issuer) ps ++ cond b (q ∷ []) []) (left_out (q.cert.issuer == issuer) (is_disregarded level q.cert) h) ∙ append-nil (filter (counts_for level issuer) ps))
+    (filter-append (counts_for level fpr issuer) ps (q ∷ []) ∙ ap (λ b. filter (counts_for level fpr issuer) ps ++ cond b (q ∷ []) []) (left_out (q.cert.issuer == issuer) (is_disregarded level fpr q.cert) h) ∙ append-nil (filter (counts_for level fpr issuer) ps))
   where
     left_out : (a b : Bool) → b ≡ true → (a && not b) ≡ false
     left_out true b h = ap not h
     left_out false b h = refl
 
-pub usable_last : (now level issuer : ℕ) (ps : List Placed) (q : Placed) → IsRising (ps ++ q ∷ []) → IsBy issuer (ps ++ q ∷ []) → is_disregarded level q.cert ≡ false
-    → usable now level issuer (ps ++ q ∷ []) ≡ in_force now q
-usable_last now level issuer ps q rising by kept =
+pub usable_last : (now level : ℕ) (fpr : Option (List ℕ)) (issuer : ℕ) (ps : List Placed) (q : Placed) → IsRising (ps ++ q ∷ []) → IsBy issuer (ps ++ q ∷ []) → is_disregarded level fpr q.cert ≡ false
+    → usable now level fpr issuer (ps ++ q ∷ []) ≡ in_force now q
+usable_last now level fpr issuer ps q rising by kept =
     ap (option_and_then (in_force now))
-    (latest_last level issuer ps q (before_last ps q rising) (all_front (λ p. p.cert.issuer ≡ issuer) ps (q ∷ []) by) (last_of (λ p. p.cert.issuer ≡ issuer) ps q by) kept)
+    (latest_last level fpr issuer ps q (before_last ps q rising) (all_front (λ p. p.cert.issuer ≡ issuer) ps (q ∷ []) by) (last_of (λ p. p.cert.issuer ≡ issuer) ps q by) kept)
 
 rising_take : (run : List Placed) (n : ℕ) → IsRising run → IsRising (take n run)
 rising_take run n h = rising_front (take n run) (drop n run) (subst IsRising (sym (take-append-drop n run)) h)
@@ -80,13 +80,24 @@ rising_take run n h = rising_front (take n run) (drop n run) (subst IsRising (sy
 by_take : (issuer : ℕ) (run : List Placed) (n : ℕ) → IsBy issuer run → IsBy issuer (take n run)
 by_take issuer run n h = all_front (λ p. p.cert.issuer ≡ issuer) (take n run) (drop n run) (subst (IsBy issuer) (sym (take-append-drop n run)) h)
 
--- the last that isn't disregarded decides
-pub usable_at : (now level : ℕ) (run : List Placed) (end : ℕ) (q : Placed) → IsRising run → 0 < end → end ≤ length run → q ≡ get_or run (end - 1) q
-    → is_disregarded level q.cert ≡ false → ((issuer : ℕ) → usable now level issuer (take end run) ≡ usable now level issuer run)
-    → (issuer : ℕ) → IsBy issuer run → usable now level issuer run ≡ in_force now q
-usable_at now level run end q rising some within is kept same issuer by =
+-- up to a place: its last one and those in front
+split_at : (run : List Placed) (end : ℕ) (q : Placed) → 0 < end → end ≤ length run → q ≡ get_or run (end - 1) q → take end run ≡ take (end - 1) run ++ q ∷ []
+split_at run end q some within is =
     let one : end ≡ end - 1 + 1 = omega (arith, some) in
     let here : end - 1 < length run = omega (arith, some, within) in
-    let split : take end run ≡ take (end - 1) run ++ q ∷ [] = ap (λ k. take k run) one ∙ take_more run (end - 1) q here ∙ ap (λ x. take (end - 1) run ++ x ∷ []) (sym is) in
-    sym (same issuer) ∙ ap (usable now level issuer) split
-    ∙ usable_last now level issuer (take (end - 1) run) q (subst IsRising split (rising_take run end rising)) (subst (IsBy issuer) split (by_take issuer run end by)) kept
+    ap (λ k. take k run) one ∙ take_more run (end - 1) q here ∙ ap (λ x. take (end - 1) run ++ x ∷ []) (sym is)
+
+-- a last one that is disregarded changes nothing
+pub usable_before : (now level : ℕ) (fpr : Option (List ℕ)) (run : List Placed) (end : ℕ) (q : Placed) → 0 < end → end ≤ length run → q ≡ get_or run (end - 1) q → is_disregarded level fpr q.cert ≡ true
+    → (issuer : ℕ) → usable now level fpr issuer (take (end - 1) run) ≡ usable now level fpr issuer (take end run)
+usable_before now level fpr run end q some within is h issuer =
+    sym (ap (usable now level fpr issuer) (split_at run end q some within is) ∙ disregarded_last now level fpr issuer (take (end - 1) run) q h)
+
+-- the last that isn't disregarded decides
+pub usable_at : (now level : ℕ) (fpr : Option (List ℕ)) (run : List Placed) (end : ℕ) (q : Placed) → IsRising run → 0 < end → end ≤ length run → q ≡ get_or run (end - 1) q
+    → is_disregarded level fpr q.cert ≡ false → ((issuer : ℕ) → usable now level fpr issuer (take end run) ≡ usable now level fpr issuer run)
+    → (issuer : ℕ) → IsBy issuer run → usable now level fpr issuer run ≡ in_force now q
+usable_at now level fpr run end q rising some within is kept same issuer by =
+    let split = split_at run end q some within is in
+    sym (same issuer) ∙ ap (usable now level fpr issuer) split
+    ∙ usable_last now level fpr issuer (take (end - 1) run) q (subst IsRising split (rising_take run end rising)) (subst (IsBy issuer) split (by_take issuer run end by)) kept

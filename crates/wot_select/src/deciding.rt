@@ -1,19 +1,45 @@
 //! The one certification of an issuer on a user ID that decides.
 
 ghost use Rattle.std.specs.Prelude.{◌≡◌, ◌≤◌, ◌<◌, ℕ, None, length, slice_get};
-ghost use Rattle.std.specs.Option.{MatchOption};
+ghost use Rattle.std.specs.Option.{MatchOption, option_copied};
 ghost use Rattle.wot_types.specs.Arrangement.{IsRising};
 ghost use Rattle.wot_types.specs.Limits.{most_certs};
-ghost use Rattle.wot_types.specs.Selection.{is_disregarded, is_in_force, usable};
+ghost use Rattle.wot_types.specs.Selection.{is_below_level, is_disregarded, is_in_force, is_other_fpr, names_another, usable};
 ghost use Rattle.wot_select.specs.Run.{IsBy};
 
 use crate::expiry::expired;
-use wot_types::{Cert, GENERIC, PERSONA, POSITIVE, Placed, REVOCATION};
+use wot_types::{Cert, Fpr, GENERIC, PERSONA, POSITIVE, Placed, REVOCATION};
 
-fn is_disregarded(level: u8, cert: &Cert) -> bool
-    ensures { result ≡ is_disregarded level cert.now }
+fn is_below_level(level: u8, cert: &Cert) -> bool
+    ensures { result ≡ is_below_level level cert.now }
 {
     matches!(cert.class, PERSONA..=POSITIVE) && cert.class - GENERIC < level
+}
+
+/// Whether it names a fingerprint other than this one.
+fn is_other_fpr(fpr: &Fpr, named: &Option<Fpr>) -> bool
+    ensures { result ≡ is_other_fpr fpr.now named.now }
+{
+    match named {
+        None => false,
+        Some(named) => named.as_bytes() != fpr.as_bytes(),
+    }
+}
+
+/// Whether it names a fingerprint other than that of the key of its issuer's key ID, where there is one.
+fn names_another(fpr: Option<&Fpr>, cert: &Cert) -> bool
+    ensures { result ≡ names_another (option_copied fpr.entry) cert.now }
+{
+    match fpr {
+        None => false,
+        Some(fpr) => is_other_fpr(fpr, &cert.issuer_fpr),
+    }
+}
+
+fn is_disregarded(level: u8, fpr: Option<&Fpr>, cert: &Cert) -> bool
+    ensures { result ≡ is_disregarded level (option_copied fpr.entry) cert.now }
+{
+    is_below_level(level, cert) || names_another(fpr, cert)
 }
 
 fn is_in_force(now: u32, placed: &Placed) -> bool
@@ -23,18 +49,19 @@ fn is_in_force(now: u32, placed: &Placed) -> bool
 }
 
 /// The place in a run of one issuer of the certification that decides, and None where there is none or it isn't in force.
-/// Classes 0x11 to 0x13 below 0x10 + `level` are disregarded: above level 3 all three are.
-pub fn usable(run: &[Placed], now: u32, level: u8) -> Option<u32>
+/// Classes 0x11 to 0x13 below 0x10 + `level` are disregarded: above level 3 all three are. So is a certification that names a fingerprint
+/// other than `issuer`, that of the keyring's key of that key ID; without such a key none is disregarded for its fingerprint.
+pub fn usable(run: &[Placed], now: u32, level: u8, issuer: Option<&Fpr>) -> Option<u32>
     requires short { length run.now ≤ most_certs }
     requires rising { IsRising run.now }
-    ensures { (issuer : ℕ) → IsBy issuer run.now → MatchOption result (usable now level issuer run.now ≡ None)
-        (λ i. (i < length run.now) × (usable now level issuer run.now ≡ slice_get run.now i)) }
+    ensures { (id : ℕ) → IsBy id run.now → MatchOption result (usable now level (option_copied issuer.entry) id run.now ≡ None)
+        (λ i. (i < length run.now) × (usable now level (option_copied issuer.entry) id run.now ≡ slice_get run.now i)) }
 {
     let mut end = run.len() as u32;
     while 0 < end {
         end -= 1;
         let placed = &run[end as usize];
-        if !is_disregarded(level, &placed.cert) {
+        if !is_disregarded(level, issuer, &placed.cert) {
             // An older one is never fallen back to.
             return if is_in_force(now, placed) {
                 Some(end)

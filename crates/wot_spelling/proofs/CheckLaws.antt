@@ -1,6 +1,6 @@
 -- The tests of a decoder are the conditions on what has a spelling.
 use Rattle.std.proofs.Common.{◌≡◌, ◌≢◌, ℕ, zero, suc, ◌<◌, ◌≤◌, Bool, true, false, List, [], ◌∷◌, length, Option, Some, None, refl, arith, add-one}
-use Rattle.std.specs.Prelude.{All, not, ◌&&◌, ◌||◌, ◌==◌, nat_le, nat_lt, map}
+use Rattle.std.specs.Prelude.{All, IfSome, not, ◌&&◌, ◌||◌, ◌==◌, nat_le, nat_lt, map}
 use Rattle.std.specs.List.{list_all, list_any, AllByRecursion}
 use Rattle.std.specs.List.Sorted.{IsStrictlyIncreasing}
 use Rattle.std.proofs.lemmas.Bool.Decides.{nat_tests}
@@ -25,7 +25,7 @@ use Rattle.wot_types.specs.WellFormed.{AreDistinctUsers, IsScope, IsCert, IsUser
 use Rattle.wot_spelling.specs.Checks.{has_scope, is_cert, is_user, are_distinct, is_marked_once, has_few_certs, is_well_formed, is_rising, are_importable, is_in_range, is_sample_count, are_rising_entries, are_settable}
 use Rattle.wot_types.specs.Payload.{IsInRange, IsRisingBy, AreSettable}
 use Rattle.wot_types.specs.Accepted.{AreImportable}
-use Rattle.wot_spelling.specs.Stored.{AreStored, are_rising_rows, are_stored}
+use Rattle.wot_spelling.specs.Stored.{are_rising_rows, are_stored}
 use Rattle.wot_spelling.proofs.Lengths.{scope_yes, scope_is}
 
 -- what a test means
@@ -70,18 +70,36 @@ scope_tells : (scope : Option (List ℕ)) → Tells (has_scope scope) (IsScope s
 scope_tells None = record { is = λ e. tt; yes = λ h. refl }
 scope_tells (Some scope) = record { is = λ e. scope_is scope e; yes = λ h. scope_yes scope h }
 
-cert_tells : (id : ℕ) (cert : Cert) → Tells (is_cert id cert) (IsCert id cert)
+-- the same where something is known of each
+each_known : {A : Type 0} (p : A → Bool) (P Q : A → Type 0) → ((x : A) → Q x → Tells (p x) (P x)) → (xs : List A) → AllByRecursion Q xs → Tells (list_all p xs) (AllByRecursion P xs)
+each_known p P Q t [] h = record { is = λ e. tt; yes = λ h. refl }
+each_known p P Q t (x ∷ xs) h = both (p x) (list_all p xs) (P x) (AllByRecursion P xs) (t x h.0) (each_known p P Q t xs h.1)
+
+all_known : {A : Type 0} (p : A → Bool) (P Q : A → Type 0) → ((x : A) → Q x → Tells (p x) (P x)) → (xs : List A) → AllByRecursion Q xs → Tells (list_all p xs) (All P xs)
+all_known p P Q t xs h = reads (list_all p xs) (AllByRecursion P xs) (All P xs) (each_known p P Q t xs h) (λ k. All-from_recursion P xs k) (λ k. recursion_from_All P xs k)
+
+-- fingerprints have their lengths, which their type keeps
+abbrev pub HasFpr : Cert → Type 0
+HasFpr cert = IfSome cert.issuer_fpr IsFprLength
+
+abbrev pub HasUserFprs : User → Type 0
+HasUserFprs user = AllByRecursion HasFpr user.certs
+
+abbrev pub HasFprs : Key → Type 0
+HasFprs key = IsFprLength key.fpr × AllByRecursion HasUserFprs key.users
+
+cert_tells : (id : ℕ) (cert : Cert) → HasFpr cert → Tells (is_cert id cert) (IsCert id cert)
 unfolding is_cert
-cert_tells id cert =
+cert_tells id cert fpr =
     reads _ _ (IsCert id cert)
     (both _ _ _ _ (another cert.issuer id) (both _ _ _ _ (itself (is_kept_class cert.class)) (scope_tells cert.scope)))
-    (λ h. record { by_another = h.0; class = h.1.0; scope = h.1.1 }) (λ h. (h.by_another, (h.class, h.scope)))
+    (λ h. record { by_another = h.0; class = h.1.0; scope = h.1.1; issuer_fpr = fpr }) (λ h. (h.by_another, (h.class, h.scope)))
 
-user_tells : (id : ℕ) (user : User) → Tells (is_user id user) (IsUser id user)
+user_tells : (id : ℕ) (user : User) → HasUserFprs user → Tells (is_user id user) (IsUser id user)
 unfolding is_user
-user_tells id user =
+user_tells id user fprs =
     reads _ _ (IsUser id user)
-    (both _ _ _ _ (itself (list_all is_hash_byte user.hash)) (each (is_cert id) (IsCert id) (cert_tells id) user.certs))
+    (both _ _ _ _ (itself (list_all is_hash_byte user.hash)) (all_known (is_cert id) (IsCert id) HasFpr (cert_tells id) user.certs fprs))
     (λ h. record { hash = h.0; certs = h.1 }) (λ h. (h.hash, h.certs))
 
 neither : (a b : Bool) (P Q : Type 0) → Tells (not a) P → Tells (not b) Q → Tells (not (a || b)) (P × Q)
@@ -122,26 +140,21 @@ implied : (a b : Bool) (P : Type 0) → Tells b P → Tells (not a || b) (a ≡ 
 implied true b P t = record { is = λ e _. t.is e; yes = λ h. t.yes (h refl) }
 implied false b P t = record { is = λ e h. absurd cc; yes = λ h. refl }
 
-well_formed_tells : (key : Key) → IsFprLength key.fpr → Tells (is_well_formed key) (IsWellFormed key)
+well_formed_tells : (key : Key) → HasFprs key → Tells (is_well_formed key) (IsWellFormed key)
 unfolding is_well_formed is_marked_once has_few_certs
-well_formed_tells key fpr =
+well_formed_tells key fprs =
     reads _ _ (IsWellFormed key)
     (both _ _ _ _ (itself (list_all is_capability key.caps)) (both _ _ _ _ (at_most (length key.users) most_users) (both _ _ _ _ (at_most (key_certs key) most_certs) (both _ _ _ _ (distinct_tells key.users)
-    (both _ _ _ _ (each (is_user (id_of key)) (IsUser (id_of key)) (user_tells (id_of key)) key.users)
+    (both _ _ _ _ (all_known (is_user (id_of key)) (IsUser (id_of key)) HasUserFprs (user_tells (id_of key)) key.users fprs.1)
     (implied key.revoked (list_all (λ user. not user.revoked) key.users) (All (λ user. user.revoked ≡ false) key.users) (each (λ user. not user.revoked) (λ user. user.revoked ≡ false) (λ user. not_true user.revoked) key.users)))))))
-    (λ h. record { fpr = fpr; caps = h.0; few_users = h.1.0; few_certs = h.1.1.0; distinct = h.1.1.1.0; each = h.1.1.1.1.0; marks = h.1.1.1.1.1 })
+    (λ h. record { fpr = fprs.0; caps = h.0; few_users = h.1.0; few_certs = h.1.1.0; distinct = h.1.1.1.0; each = h.1.1.1.1.0; marks = h.1.1.1.1.1 })
     (λ h. (h.caps, (h.few_users, (h.few_certs, (h.distinct, (h.each, h.marks))))))
 
-each_importable : (keys : List Key) → AllByRecursion (λ key. IsFprLength key.fpr) keys → Tells (list_all is_well_formed keys) (AllByRecursion IsWellFormed keys)
-each_importable [] fprs = record { is = λ e. tt; yes = λ h. refl }
-each_importable (key ∷ keys) fprs =
-    both _ _ _ _ (well_formed_tells key fprs.0) (each_importable keys fprs.1)
-
-pub importable_tells : (keys : List Key) → All (λ key. IsFprLength key.fpr) keys → Tells (are_importable keys) (AreImportable keys)
+pub importable_tells : (keys : List Key) → AllByRecursion HasFprs keys → Tells (are_importable keys) (AreImportable keys)
 unfolding are_importable
 importable_tells keys fprs =
     reads _ _ (AreImportable keys)
-    (both _ _ _ _ (each_importable keys (recursion_from_All (λ key. IsFprLength key.fpr) keys fprs)) (rising_tells keys))
+    (both _ _ _ _ (each_known is_well_formed IsWellFormed HasFprs well_formed_tells keys fprs) (rising_tells keys))
     (λ h. record { each = All-from_recursion IsWellFormed keys h.0; rising = h.1 })
     (λ h. (recursion_from_All IsWellFormed keys h.each, h.rising))
 
@@ -183,6 +196,11 @@ unfolding are_rising_rows
 rising_rows_tells [] = record { is = λ e. tt; yes = λ h. refl }
 rising_rows_tells (a ∷ []) = record { is = λ e. tt; yes = λ h. refl }
 rising_rows_tells (a ∷ b ∷ rows) = both _ _ _ _ (below_by_cmp a.key b.key) (rising_rows_tells (b ∷ rows))
+
+-- rows that are stored: a regular expression has 1 to 255 bytes, and key IDs strictly rise
+pub record AreStored (rows : List Row) : Type 0 where
+  pub each : All (λ row. IsScope row.scope) rows
+  pub rising : IsRisingBy (λ a b. nat_cmp a.key b.key) rows
 
 pub stored_tells : (rows : List Row) → Tells (are_stored rows) (AreStored rows)
 unfolding are_stored

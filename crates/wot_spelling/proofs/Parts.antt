@@ -75,11 +75,31 @@ made_part {A = A} {B = B} {s = s} {F = F} {a = a} f g there back part = record {
   again = λ y rest fits. rw (part.again (g y) rest fits, back y) refl;
 }
 
+-- the same where only some values are made of a part
+pub made_only_part : {A B : Type 0} {s : A → List ℕ} {F : A → Type 0} {a : Read A} (f : A → B) (g : B → A) (P : B → Type 0) → ((x : A) → g (f x) ≡ x) → ((x : A) → P (f x)) → ((y : B) → P y → f (g y) ≡ y)
+    → IsPart s F a → IsPart {A = B} (λ y. s (g y)) (λ y. F (g y) × P y) (made f a)
+made_only_part {A = A} {B = B} {s = s} {F = F} {a = a} f g P there holds back part = record {
+  takes = λ bytes y rest fits e.
+      let x = bind_some (a bytes) (λ (x : A × List ℕ). Some (f x.0, x.1)) (y, rest) e in
+      let one = part.takes bytes x.0.0 x.0.1 fits x.1 in
+      let whole : Taken {A = B} (λ y. s (g y)) (λ y. F (g y) × P y) bytes (f x.0.0) x.0.1 =
+      record { parts = rw there one.parts; rest_fits = one.rest_fits; fits = (rw there one.fits, holds x.0.0) } in
+      subst (λ (q : B × List ℕ). Taken {A = B} (λ y. s (g y)) (λ y. F (g y) × P y) bytes q.0 q.1) (same_Some (f x.0.0, x.0.1) (y, rest) x.2) whole;
+  again = λ y rest fits. rw (part.again (g y) rest fits.0, back y fits.1) refl;
+}
+
 -- another way to say what fits
 pub part_of : {A : Type 0} {s : A → List ℕ} {F G : A → Type 0} {a : Read A} → ((x : A) → F x → G x) → ((x : A) → G x → F x) → IsPart s F a → IsPart s G a
 part_of to from part = record {
   takes = λ bytes x rest fits e. let one = part.takes bytes x rest fits e in record { parts = one.parts; rest_fits = one.rest_fits; fits = to x one.fits };
   again = λ x rest fits. part.again x rest (from x fits);
+}
+
+-- another way to say how it is spelled
+pub spelled_as : {A : Type 0} {s t : A → List ℕ} {F : A → Type 0} {a : Read A} → ((x : A) → s x ≡ t x) → IsPart s F a → IsPart t F a
+spelled_as {a = a} same part = record {
+  takes = λ bytes x rest fits e. let one = part.takes bytes x rest fits e in record { parts = one.parts ∙ ap (λ (b : List ℕ). b ++ rest) (same x); rest_fits = one.rest_fits; fits = one.fits };
+  again = λ x rest fits. ap (λ (b : List ℕ). a (b ++ rest)) (sym (same x)) ∙ part.again x rest fits;
 }
 
 -- ---- numbers, flags and texts

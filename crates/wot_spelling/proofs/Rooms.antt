@@ -3,6 +3,7 @@ use Rattle.std.proofs.Common.{◌≡◌, ℕ, ◌+◌, ◌^◌, ◌<◌, List, �
 use Rattle.std.specs.Prelude.{IfSome}
 use Rattle.std.proofs.lemmas.List.{length-append}
 use Rattle.wot_types.specs.declared.cert.Cert.{Cert}
+use Rattle.wot_types.specs.declared.cert.Form.TheVariants.{WithFpr}
 use Rattle.wot_types.specs.declared.user.User.{User}
 use Rattle.wot_types.specs.declared.user.UserKind.{UserKind}
 use Rattle.wot_types.specs.declared.user.UserKind.TheVariants.{Uid, Uat}
@@ -33,15 +34,15 @@ unfolding kind_bytes
 kind_some Uid = omega arith
 kind_some Uat = omega arith
 
-cert_some : (c : Cert) → 0 < length (cert_bytes c)
+cert_some : (c : Cert) → 0 < length (cert_bytes WithFpr c)
 unfolding cert_bytes
 cert_some c = some_front (number_8 c.issuer) _ (number_8_some c.issuer)
 
-user_some : (u : User) → 0 < length (user_bytes u)
+user_some : (u : User) → 0 < length (user_bytes WithFpr u)
 unfolding user_bytes
 user_some u = some_front (kind_bytes u.kind) _ (kind_some u.kind)
 
-pub key_some : (k : Key) → 0 < length (key_bytes k)
+pub key_some : (k : Key) → 0 < length (key_bytes WithFpr k)
 unfolding key_bytes fpr_bytes
 key_some k = some_front (length k.fpr ∷ k.fpr) _ (omega arith)
 
@@ -49,7 +50,7 @@ pub entry_some : (e : Entry) → 0 < length (entry_bytes e)
 unfolding entry_bytes fpr_bytes
 entry_some e = some_front (length e.fpr ∷ e.fpr) _ (omega arith)
 
-pub cert_room : (c : Cert) → length (cert_bytes c) < 2 ^ 32 → IfSome c.scope IsShort
+pub cert_room : (c : Cert) → length (cert_bytes WithFpr c) < 2 ^ 32 → IfSome c.scope IsShort
 unfolding cert_bytes
 cert_room c h = let k = simp length-append at h in scope_room c.scope (omega arith)
 
@@ -57,26 +58,26 @@ pub record UserRoom (u : User) : Type 0 where
   pub text : IsShort u.text
   pub hash : IsShort u.hash
   pub few : length u.certs < 2 ^ 32
-  pub certs : length (list_bytes cert_bytes u.certs) < 2 ^ 32
+  pub certs : length (list_bytes (cert_bytes WithFpr) u.certs) < 2 ^ 32
 
-pub user_room : (u : User) → length (user_bytes u) < 2 ^ 32 → UserRoom u
+pub user_room : (u : User) → length (user_bytes WithFpr u) < 2 ^ 32 → UserRoom u
 unfolding user_bytes
 user_room u h =
     let k = simp length-append at h in
-    let certs : length (list_bytes cert_bytes u.certs) < 2 ^ 32 = omega arith in
-    record { text = omega (arith, text_len u.text); hash = omega (arith, text_len u.hash); few = few_parts cert_bytes u.certs cert_some certs; certs = certs }
+    let certs : length (list_bytes (cert_bytes WithFpr) u.certs) < 2 ^ 32 = omega arith in
+    record { text = omega (arith, text_len u.text); hash = omega (arith, text_len u.hash); few = few_parts (cert_bytes WithFpr) u.certs cert_some certs; certs = certs }
 
 pub record KeyRoom (k : Key) : Type 0 where
   pub caps : IsShort k.caps
   pub few : length k.users < 2 ^ 32
-  pub users : length (list_bytes user_bytes k.users) < 2 ^ 32
+  pub users : length (list_bytes (user_bytes WithFpr) k.users) < 2 ^ 32
 
-pub key_room : (k : Key) → length (key_bytes k) < 2 ^ 32 → KeyRoom k
+pub key_room : (k : Key) → length (key_bytes WithFpr k) < 2 ^ 32 → KeyRoom k
 unfolding key_bytes
 key_room k h =
     let w = simp length-append at h in
-    let users : length (list_bytes user_bytes k.users) < 2 ^ 32 = omega arith in
-    record { caps = omega (arith, text_len k.caps); few = few_parts user_bytes k.users user_some users; users = users }
+    let users : length (list_bytes (user_bytes WithFpr) k.users) < 2 ^ 32 = omega arith in
+    record { caps = omega (arith, text_len k.caps); few = few_parts (user_bytes WithFpr) k.users user_some users; users = users }
 
 pub row_some : (r : Row) → 0 < length (row_bytes r)
 unfolding row_bytes

@@ -2,9 +2,14 @@
 use Rattle.std.proofs.Common.{◌≡◌, ℕ, zero, suc, ◌^◌, ◌<◌, ◌≤◌, Bool, true, false, cond, List, [], ◌∷◌, ◌++◌, length, Option, Some, None, refl, sym, ap, subst, ◌∙◌, append_assoc, arith}
 use Rattle.std.specs.Prelude.{IfSome, nat_lt}
 use Rattle.std.specs.List.{flat_map, AllByRecursion}
+use Rattle.std.proofs.lemmas.List.{append-nil}
 use Rattle.std.proofs.lemmas.List.Concat.{flat_map-cons}
 use Rattle.std.proofs.lemmas.List.Elements.{All-from_recursion, recursion_from_All}
 use Rattle.wot_types.specs.declared.cert.Cert.{Cert}
+use Rattle.wot_types.specs.declared.cert.Form.{Form}
+use Rattle.wot_types.specs.declared.cert.Form.TheVariants.{WithoutFpr, WithFpr}
+use Rattle.wot_types.specs.declared.format.Format.{Format}
+use Rattle.wot_types.specs.declared.format.Format.TheVariants.{First, Second, Third}
 use Rattle.wot_types.specs.declared.user.User.{User}
 use Rattle.wot_types.specs.declared.user.UserKind.{UserKind}
 use Rattle.wot_types.specs.declared.user.UserKind.TheVariants.{Uid, Uat}
@@ -21,12 +26,13 @@ use Rattle.std.proofs.lemmas.Option.{same_Some}
 use Rattle.wot_types.specs.declared.trust.Trust.{Trust}
 use Rattle.wot_types.specs.declared.trust.Trust.TheVariants.{Unknown, Undefined, Never, Marginal, Full, Ultimate}
 use Rattle.wot_types.specs.Fingerprint.{IsFprLength}
+use Rattle.wot_types.specs.Image.{RowFitsIn, row_bytes_in}
 use Rattle.wot_types.specs.Trust.{trust_number, trust_of_number}
-use Rattle.wot_types.specs.Spelling.{entry_bytes, EntryFits, number_1, number_4, flag_bytes, text_bytes, scope_bytes, fpr_bytes, trust_bytes, kind_bytes, list_bytes, cert_bytes, user_bytes, key_bytes, options_bytes, CertFits, UserFits, KeyFits, ListFits, OptionsFit, row_bytes, RowFits}
+use Rattle.wot_types.specs.Spelling.{entry_bytes, EntryFits, IssuerFprFits, issuer_fpr_bytes, number_1, number_4, number_8, flag_bytes, scope_bytes, via_bytes, fpr_bytes, trust_bytes, kind_bytes, list_bytes, cert_bytes, user_bytes, key_bytes, options_bytes, CertFits, UserFits, KeyFits, ListFits, OptionsFit, row_bytes, RowFits, older_row_bytes, OlderRowFits}
 use Rattle.wot_types.proofs.TrustNumbers.{no_trust, flagged}
-use Rattle.wot_spelling.specs.Reading.{◌>>=◌, Read, kept, bytes_at, number_1_at, number_4_at, flag_at, text_at, option_at, scope_at, is_fpr, fpr_at, or_none, coded_at, ownertrust_at, entry_at, trust_at, user_kind_at, many_at, list_at, CertParts, cert_of, cert_at, UserParts, user_of, user_at, KeyParts, key_of, key_at, OptionsParts, options_of, options_at, RowParts, row_of, row_at}
+use Rattle.wot_spelling.specs.Reading.{◌>>=◌, Read, ◌&◌, kept, made, bytes_at, number_1_at, number_4_at, number_8_at, flag_at, option_at, scope_at, via_at, is_fpr, fpr_at, or_none, coded_at, ownertrust_at, entry_at, trust_at, user_kind_at, many_at, list_at, CertParts, cert_of, issuer_fpr_at, cert_at, UserParts, user_of, user_at, KeyParts, key_of, key_at, OptionsParts, options_of, options_at, RowParts, row_of, row_at}
 use Rattle.wot_spelling.proofs.Lengths.{fpr_yes, fpr_is}
-use Rattle.wot_spelling.proofs.Parts.{IsBytes, Taken, IsPart, bind_some, both_part, made_part, part_of, bytes_take, bytes_again, number_1_part, number_4_part, number_8_part, flag_part, text_part}
+use Rattle.wot_spelling.proofs.Parts.{IsBytes, Taken, IsPart, bind_some, both_part, made_part, part_of, spelled_as, bytes_take, bytes_again, number_1_part, number_4_part, number_8_part, flag_part, text_part}
 
 -- a part that passes a test
 pub kept_part : {A : Type 0} {s : A → List ℕ} {F : A → Type 0} {a : Read A} (test : A → Bool) → IsPart s F a → IsPart s (λ x. F x × (test x ≡ true)) (kept test a)
@@ -87,32 +93,63 @@ list_part {A = A} {s = s} {F = F} {a = a} part = record {
 
 -- ---- scopes, fingerprints, trust values, kinds of user IDs
 
+-- a part behind a flag
+module _ {A : Type 0} {s : A → List ℕ} {F : A → Type 0} {a : Read A} (f : Option A → List ℕ) (none : f None ≡ flag_bytes false) (some : (x : A) → f (Some x) ≡ flag_bytes true ++ s x) (part : IsPart s F a) where
+  abbrev flagged_at : Read (Option A)
+  flagged_at bytes = flag_at bytes >>= λ g. option_at a g.0 g.1
+
+  abbrev Has : Option A → Type 0
+  Has o = IfSome o F
+
+  after : (bytes : List ℕ) (b : Bool) (mid : List ℕ) (o : Option A) (rest : List ℕ) → Taken flag_bytes (λ b. Unit {0}) bytes b mid → option_at a b mid ≡ Some (o, rest) → Taken f Has bytes o rest
+  after bytes false mid o rest one e =
+      subst (λ (q : Option A × List ℕ). Taken f Has bytes q.0 q.1) (same_Some (None, mid) (o, rest) e) (record {
+        parts = one.parts ∙ ap (λ (r : List ℕ). r ++ mid) (sym none);
+        rest_fits = one.rest_fits;
+        fits = tt;
+      })
+  after bytes true mid o rest one e =
+      let t = bind_some (a mid) (λ (t : A × List ℕ). Some (Some t.0, t.1)) (o, rest) e in
+      let two = part.takes mid t.0.0 t.0.1 one.rest_fits t.1 in
+      let whole : Taken f Has bytes (Some t.0.0) t.0.1 = record {
+        parts = one.parts ∙ ap (λ (r : List ℕ). flag_bytes true ++ r) two.parts ∙ sym (append_assoc (flag_bytes true) (s t.0.0) t.0.1) ∙ ap (λ (r : List ℕ). r ++ t.0.1) (sym (some t.0.0));
+        rest_fits = two.rest_fits;
+        fits = two.fits;
+      } in
+      subst (λ (q : Option A × List ℕ). Taken f Has bytes q.0 q.1) (same_Some (Some t.0.0, t.0.1) (o, rest) t.2) whole
+
+  takes : (bytes : List ℕ) (o : Option A) (rest : List ℕ) → IsBytes bytes → flagged_at bytes ≡ Some (o, rest) → Taken f Has bytes o rest
+  takes bytes o rest fits e =
+      let g = bind_some (flag_at bytes) (λ (g : Bool × List ℕ). option_at a g.0 g.1) (o, rest) e in
+      after bytes g.0.0 g.0.1 o rest (flag_part.takes bytes g.0.0 g.0.1 fits g.1) g.2
+
+  again : (o : Option A) (rest : List ℕ) → Has o → flagged_at (f o ++ rest) ≡ Some (o, rest)
+  again None rest fits = ap (λ (r : List ℕ). flagged_at (r ++ rest)) none ∙ rw (flag_part.again false rest tt) refl
+  again (Some x) rest fits =
+      ap (λ (r : List ℕ). flagged_at (r ++ rest)) (some x) ∙ ap flagged_at (append_assoc (flag_bytes true) (s x) rest)
+      ∙ rw (flag_part.again true (s x ++ rest) tt, part.again x rest fits) refl
+
+  pub flagged_part : IsPart f Has flagged_at
+  flagged_part = record { takes = takes; again = again }
+
 pub scope_part : IsPart scope_bytes (λ o. IfSome o (λ t. length t < 2 ^ 32)) scope_at
 unfolding scope_bytes scope_at
-scope_part = record { takes = takes; again = again }
-  where
-    after : (bytes : List ℕ) (b : Bool) (mid : List ℕ) (o : Option (List ℕ)) (rest : List ℕ) → Taken flag_bytes (λ b. Unit {0}) bytes b mid → option_at text_at b mid ≡ Some (o, rest) → Taken scope_bytes (λ o. IfSome o (λ t. length t < 2 ^ 32)) bytes o rest
-    after bytes false mid o rest one e =
-        subst (λ (q : Option (List ℕ) × List ℕ). Taken scope_bytes (λ o. IfSome o (λ t. length t < 2 ^ 32)) bytes q.0 q.1) (same_Some (None, mid) (o, rest) e) (record { parts = one.parts; rest_fits = one.rest_fits; fits = tt })
-    after bytes true mid o rest one e =
-        let t = bind_some (text_at mid) (λ (t : List ℕ × List ℕ). Some (Some t.0, t.1)) (o, rest) e in
-        let two = text_part.takes mid t.0.0 t.0.1 one.rest_fits t.1 in
-        let whole : Taken scope_bytes (λ o. IfSome o (λ t. length t < 2 ^ 32)) bytes (Some t.0.0) t.0.1 = record {
-          parts = one.parts ∙ ap (λ (r : List ℕ). flag_bytes true ++ r) two.parts ∙ sym (append_assoc (flag_bytes true) (text_bytes t.0.0) t.0.1);
-          rest_fits = two.rest_fits;
-          fits = two.fits;
-        } in
-        subst (λ (q : Option (List ℕ) × List ℕ). Taken scope_bytes (λ o. IfSome o (λ t. length t < 2 ^ 32)) bytes q.0 q.1) (same_Some (Some t.0.0, t.0.1) (o, rest) t.2) whole
+scope_part = flagged_part scope_bytes refl (λ _. refl) text_part
 
-    takes : (bytes : List ℕ) (o : Option (List ℕ)) (rest : List ℕ) → IsBytes bytes → scope_at bytes ≡ Some (o, rest) → Taken scope_bytes (λ o. IfSome o (λ t. length t < 2 ^ 32)) bytes o rest
-    takes bytes o rest fits e =
-        let f = bind_some (flag_at bytes) (λ (f : Bool × List ℕ). option_at text_at f.0 f.1) (o, rest) e in
-        after bytes f.0.0 f.0.1 o rest (flag_part.takes bytes f.0.0 f.0.1 fits f.1) f.2
+delegator_part : (rules : ℕ) → IsPart via_bytes (λ o. IfSome o (λ id. id < 2 ^ 64)) (via_at (Third rules))
+unfolding via_bytes via_at
+delegator_part rules = flagged_part via_bytes refl (λ _. refl) number_8_part
 
-    again : (o : Option (List ℕ)) (rest : List ℕ) → IfSome o (λ t. length t < 2 ^ 32) → scope_at (scope_bytes o ++ rest) ≡ Some (o, rest)
-    again None rest fits = rw (flag_part.again false rest tt) refl
-    again (Some t) rest fits =
-        ap scope_at (append_assoc (flag_bytes true) (text_bytes t) rest) ∙ rw (flag_part.again true (text_bytes t ++ rest) tt, text_part.again t rest fits) refl
+-- a part of which nothing is written
+abbrev absent_at : {A : Type 0} → Read (Option A)
+absent_at bytes = Some (None, bytes)
+
+absent_part : {A : Type 0} → IsPart {A = Option A} (λ o. []) (λ o. o ≡ None) absent_at
+absent_part {A = A} = record {
+  takes = λ bytes o rest fits e.
+      subst (λ (q : Option A × List ℕ). Taken {A = Option A} (λ o. []) (λ o. o ≡ None) bytes q.0 q.1) (same_Some (None, bytes) (o, rest) e) (record { parts = refl; rest_fits = fits; fits = refl });
+  again = λ o rest fits. rw fits refl;
+}
 
 pub fpr_part : IsPart fpr_bytes IsFprLength fpr_at
 unfolding fpr_bytes fpr_at number_1_at
@@ -237,35 +274,50 @@ user_kind_part = record { takes = takes; again = again }
 -- ---- certifications, user IDs, keys and options
 
 cert_parts : Cert → CertParts
-cert_parts c = (c.issuer, (c.class, (c.local, (c.made, (c.expires, (c.depth, (c.amount, c.scope)))))))
+cert_parts c = (c.issuer, (c.class, (c.local, (c.made, (c.expires, (c.depth, (c.amount, (c.scope, c.issuer_fpr))))))))
 
-pub cert_part : IsPart cert_bytes CertFits cert_at
+-- a fingerprint that may be named
+named_part : IsPart (issuer_fpr_bytes WithFpr) (λ named. IfSome named IsFprLength) (issuer_fpr_at WithFpr)
+unfolding issuer_fpr_bytes issuer_fpr_at
+named_part = flagged_part (issuer_fpr_bytes WithFpr) refl (λ _. refl) fpr_part
+
+-- the first form names none, and takes no bytes for it
+unnamed_part : IsPart (issuer_fpr_bytes WithoutFpr) (λ named. named ≡ None) (issuer_fpr_at WithoutFpr)
+unfolding issuer_fpr_bytes issuer_fpr_at
+unnamed_part = absent_part
+
+issuer_fpr_part : (form : Form) → IsPart (issuer_fpr_bytes form) (IssuerFprFits form) (issuer_fpr_at form)
+issuer_fpr_part WithoutFpr = unnamed_part
+issuer_fpr_part WithFpr = named_part
+
+pub cert_part : (form : Form) → IsPart (cert_bytes form) (CertFits form) (cert_at form)
 unfolding cert_bytes cert_at cert_parts
-cert_part =
-    part_of (λ c f. record { issuer = f.0; made = f.1.1.1.0; expires = f.1.1.1.1.0; scope = f.1.1.1.1.1.1.1 }) (λ c f. (f.issuer, (tt, (tt, (f.made, (f.expires, (tt, (tt, f.scope))))))))
+cert_part form =
+    part_of (λ c f. record { issuer = f.0; made = f.1.1.1.0; expires = f.1.1.1.1.0; scope = f.1.1.1.1.1.1.1.0; issuer_fpr = f.1.1.1.1.1.1.1.1 })
+    (λ c f. (f.issuer, (tt, (tt, (f.made, (f.expires, (tt, (tt, (f.scope, f.issuer_fpr)))))))))
     (made_part cert_of cert_parts (λ p. refl) (λ c. refl)
-    (both_part number_8_part (both_part number_1_part (both_part flag_part (both_part number_4_part (both_part number_4_part (both_part number_1_part (both_part number_1_part scope_part))))))))
+    (both_part number_8_part (both_part number_1_part (both_part flag_part (both_part number_4_part (both_part number_4_part (both_part number_1_part (both_part number_1_part (both_part scope_part (issuer_fpr_part form))))))))))
 
 user_parts : User → UserParts
 user_parts u = (u.kind, (u.text, (u.hash, (u.made, (u.expires, (u.revoked, u.certs))))))
 
-pub user_part : IsPart user_bytes UserFits user_at
+pub user_part : (form : Form) → IsPart (user_bytes form) (UserFits form) (user_at form)
 unfolding user_bytes user_at user_parts
-user_part =
+user_part form =
     part_of (λ u f. record { text = f.1.0; hash = f.1.1.0; made = f.1.1.1.0; expires = f.1.1.1.1.0; certs = f.1.1.1.1.1.1 }) (λ u f. (tt, (f.text, (f.hash, (f.made, (f.expires, (tt, f.certs)))))))
     (made_part user_of user_parts (λ p. refl) (λ u. refl)
-    (both_part user_kind_part (both_part text_part (both_part text_part (both_part number_4_part (both_part number_4_part (both_part flag_part (list_part cert_part))))))))
+    (both_part user_kind_part (both_part text_part (both_part text_part (both_part number_4_part (both_part number_4_part (both_part flag_part (list_part (cert_part form)))))))))
 
 key_parts : Key → KeyParts
 key_parts k = (k.fpr, (k.bits, (k.algo, (k.made, (k.expires, (k.revoked, (k.caps, k.users)))))))
 
-pub key_part : IsPart key_bytes KeyFits key_at
+pub key_part : (form : Form) → IsPart (key_bytes form) (KeyFits form) (key_at form)
 unfolding key_bytes key_at key_parts
-key_part =
+key_part form =
     part_of (λ k f. record { fpr = f.0; bits = f.1.0; algo = f.1.1.0; made = f.1.1.1.0; expires = f.1.1.1.1.0; caps = f.1.1.1.1.1.1.0; users = f.1.1.1.1.1.1.1 })
     (λ k f. (f.fpr, (f.bits, (f.algo, (f.made, (f.expires, (tt, (f.caps, f.users))))))))
     (made_part key_of key_parts (λ p. refl) (λ k. refl)
-    (both_part fpr_part (both_part number_4_part (both_part number_4_part (both_part number_4_part (both_part number_4_part (both_part flag_part (both_part text_part (list_part user_part)))))))))
+    (both_part fpr_part (both_part number_4_part (both_part number_4_part (both_part number_4_part (both_part number_4_part (both_part flag_part (both_part text_part (list_part (user_part form))))))))))
 
 options_parts : Options → OptionsParts
 options_parts o = (o.pgp, (o.completes, (o.marginals, (o.depth, o.level))))
@@ -278,11 +330,26 @@ options_part =
     (both_part flag_part (both_part number_4_part (both_part number_4_part (both_part number_1_part number_1_part)))))
 
 row_parts : Row → RowParts
-row_parts r = (r.key, (r.level, (r.trust, (r.left, r.scope))))
+row_parts r = (r.key, (r.level, (r.trust, (r.left, (r.scope, r.via)))))
 
-pub row_part : IsPart row_bytes RowFits row_at
+newer_row_part : (rules : ℕ) → IsPart row_bytes RowFits (row_at (Third rules))
 unfolding row_bytes row_at row_parts
-row_part =
-    part_of (λ r f. record { key = f.0; scope = f.1.1.1.1 }) (λ r f. (f.key, (tt, (tt, (tt, f.scope)))))
+newer_row_part rules =
+    part_of (λ r f. record { key = f.0; scope = f.1.1.1.1.0; via = f.1.1.1.1.1 }) (λ r f. (f.key, (tt, (tt, (tt, (f.scope, f.via))))))
     (made_part row_of row_parts (λ p. refl) (λ r. refl)
-    (both_part number_8_part (both_part number_1_part (both_part trust_part (both_part number_1_part scope_part)))))
+    (both_part number_8_part (both_part number_1_part (both_part trust_part (both_part number_1_part (both_part scope_part (delegator_part rules)))))))
+
+-- rows of the formats that don't tell who delegated
+older_row_part : IsPart older_row_bytes OlderRowFits (made row_of (number_8_at & number_1_at & trust_at & number_1_at & scope_at & absent_at))
+unfolding older_row_bytes row_parts
+older_row_part =
+    spelled_as (λ r. ap (λ (b : List ℕ). number_8 r.key ++ (number_1 r.level ++ (trust_bytes r.trust ++ (number_1 r.left ++ b)))) (append-nil (scope_bytes r.scope)))
+    (part_of (λ r f. record { key = f.0; scope = f.1.1.1.1.0; via = f.1.1.1.1.1 }) (λ r f. (f.key, (tt, (tt, (tt, (f.scope, f.via))))))
+    (made_part row_of row_parts (λ p. refl) (λ r. refl)
+    (both_part number_8_part (both_part number_1_part (both_part trust_part (both_part number_1_part (both_part scope_part absent_part)))))))
+
+pub row_part : (format : Format) → IsPart (row_bytes_in format) (RowFitsIn format) (row_at format)
+unfolding row_at via_at
+row_part First = older_row_part
+row_part Second = older_row_part
+row_part (Third rules) = newer_row_part rules

@@ -3,6 +3,10 @@ use Rattle.std.specs.Prelude.{◌≡◌, ℕ, zero, suc, ◌==◌, ◌||◌, nat
 use Rattle.std.specs.Prelude.{option_and_then}
 use Rattle.std.specs.Int.{w32, w64, from_be_bytes}
 use Rattle.wot_types.specs.declared.cert.Cert.{Cert}
+use Rattle.wot_types.specs.declared.cert.Form.{Form}
+use Rattle.wot_types.specs.declared.cert.Form.TheVariants.{WithoutFpr, WithFpr}
+use Rattle.wot_types.specs.declared.format.Format.{Format}
+use Rattle.wot_types.specs.declared.format.Format.TheVariants.{First, Second, Third}
 use Rattle.wot_types.specs.declared.user.User.{User}
 use Rattle.wot_types.specs.declared.user.UserKind.{UserKind}
 use Rattle.wot_types.specs.declared.user.UserKind.TheVariants.{Uid, Uat}
@@ -79,6 +83,12 @@ option_at a true bytes = made Some a bytes
 unfoldable pub scope_at : Read (Option (List ℕ))
 scope_at bytes = flag_at bytes >>= λ f. option_at text_at f.0 f.1
 
+-- who delegated, which rows of the older formats don't tell
+unfoldable pub via_at : Format → Read (Option ℕ)
+via_at First bytes = Some (None, bytes)
+via_at Second bytes = Some (None, bytes)
+via_at (Third rules) bytes = flag_at bytes >>= λ f. option_at number_8_at f.0 f.1
+
 abbrev pub is_fpr : List ℕ → Bool
 is_fpr f = length f == 20 || length f == 32
 
@@ -107,13 +117,18 @@ unfoldable pub list_at : {A : Type 0} → Read A → Read (List A)
 list_at a bytes = number_4_at bytes >>= λ n. many_at a n.0 n.1
 
 abbrev pub CertParts : Type 0
-CertParts = ℕ × (ℕ × (Bool × (ℕ × (ℕ × (ℕ × (ℕ × Option (List ℕ)))))))
+CertParts = ℕ × (ℕ × (Bool × (ℕ × (ℕ × (ℕ × (ℕ × (Option (List ℕ) × Option (List ℕ))))))))
 
 abbrev pub cert_of : CertParts → Cert
-cert_of p = record { issuer = p.0; class = p.1.0; local = p.1.1.0; made = p.1.1.1.0; expires = p.1.1.1.1.0; depth = p.1.1.1.1.1.0; amount = p.1.1.1.1.1.1.0; scope = p.1.1.1.1.1.1.1 }
+cert_of p = record { issuer = p.0; class = p.1.0; local = p.1.1.0; made = p.1.1.1.0; expires = p.1.1.1.1.0; depth = p.1.1.1.1.1.0; amount = p.1.1.1.1.1.1.0; scope = p.1.1.1.1.1.1.1.0; issuer_fpr = p.1.1.1.1.1.1.1.1 }
 
-unfoldable pub cert_at : Read Cert
-cert_at = made cert_of (number_8_at & number_1_at & flag_at & number_4_at & number_4_at & number_1_at & number_1_at & scope_at)
+-- the issuer's fingerprint, which the first form doesn't have
+unfoldable pub issuer_fpr_at : Form → Read (Option (List ℕ))
+issuer_fpr_at WithoutFpr bytes = Some (None, bytes)
+issuer_fpr_at WithFpr bytes = flag_at bytes >>= λ f. option_at fpr_at f.0 f.1
+
+unfoldable pub cert_at : Form → Read Cert
+cert_at form = made cert_of (number_8_at & number_1_at & flag_at & number_4_at & number_4_at & number_1_at & number_1_at & scope_at & issuer_fpr_at form)
 
 abbrev pub UserParts : Type 0
 UserParts = UserKind × (List ℕ × (List ℕ × (ℕ × (ℕ × (Bool × List Cert)))))
@@ -121,8 +136,8 @@ UserParts = UserKind × (List ℕ × (List ℕ × (ℕ × (ℕ × (Bool × List 
 abbrev pub user_of : UserParts → User
 user_of p = record { kind = p.0; text = p.1.0; hash = p.1.1.0; made = p.1.1.1.0; expires = p.1.1.1.1.0; revoked = p.1.1.1.1.1.0; certs = p.1.1.1.1.1.1 }
 
-unfoldable pub user_at : Read User
-user_at = made user_of (user_kind_at & text_at & text_at & number_4_at & number_4_at & flag_at & list_at cert_at)
+unfoldable pub user_at : Form → Read User
+user_at form = made user_of (user_kind_at & text_at & text_at & number_4_at & number_4_at & flag_at & list_at (cert_at form))
 
 abbrev pub KeyParts : Type 0
 KeyParts = List ℕ × (ℕ × (ℕ × (ℕ × (ℕ × (Bool × (List ℕ × List User))))))
@@ -130,8 +145,8 @@ KeyParts = List ℕ × (ℕ × (ℕ × (ℕ × (ℕ × (Bool × (List ℕ × Lis
 abbrev pub key_of : KeyParts → Key
 key_of p = record { fpr = p.0; bits = p.1.0; algo = p.1.1.0; made = p.1.1.1.0; expires = p.1.1.1.1.0; revoked = p.1.1.1.1.1.0; caps = p.1.1.1.1.1.1.0; users = p.1.1.1.1.1.1.1 }
 
-unfoldable pub key_at : Read Key
-key_at = made key_of (fpr_at & number_4_at & number_4_at & number_4_at & number_4_at & flag_at & text_at & list_at user_at)
+unfoldable pub key_at : Form → Read Key
+key_at form = made key_of (fpr_at & number_4_at & number_4_at & number_4_at & number_4_at & flag_at & text_at & list_at (user_at form))
 
 abbrev pub OptionsParts : Type 0
 OptionsParts = Bool × (ℕ × (ℕ × (ℕ × ℕ)))
@@ -153,10 +168,10 @@ unfoldable pub entry_at : Read Entry
 entry_at = made entry_of (fpr_at & ownertrust_at)
 
 abbrev pub RowParts : Type 0
-RowParts = ℕ × (ℕ × (Trust × (ℕ × Option (List ℕ))))
+RowParts = ℕ × (ℕ × (Trust × (ℕ × (Option (List ℕ) × Option ℕ))))
 
 abbrev pub row_of : RowParts → Row
-row_of p = record { key = p.0; level = p.1.0; trust = p.1.1.0; left = p.1.1.1.0; scope = p.1.1.1.1 }
+row_of p = record { key = p.0; level = p.1.0; trust = p.1.1.0; left = p.1.1.1.0; scope = p.1.1.1.1.0; via = p.1.1.1.1.1 }
 
-unfoldable pub row_at : Read Row
-row_at = made row_of (number_8_at & number_1_at & trust_at & number_1_at & scope_at)
+unfoldable pub row_at : Format → Read Row
+row_at format = made row_of (number_8_at & number_1_at & trust_at & number_1_at & scope_at & via_at format)

@@ -1,4 +1,4 @@
--- How many bytes a spelling has: 8 for a key ID or a seed, 4 for another number, a date, the length of a text or the count
+-- How many bytes a spelling has that is written: 8 for a key ID or a seed, 4 for another number, a date, the length of a text or the count
 -- of a list, and 1 for a flag, a class, a level, a depth, an amount, a trust number, the length of a fingerprint or the kind
 -- of an edit.
 use Rattle.std.specs.Prelude.{ℕ, ◌+◌, List, length, sum_by, Option, Some, None}
@@ -15,9 +15,14 @@ unfoldable pub scope_size : Option (List ℕ) → ℕ
 scope_size None = 1
 scope_size (Some t) = 5 + length t
 
+-- a flag; of one that is there also its length
+unfoldable pub issuer_fpr_size : Option (List ℕ) → ℕ
+issuer_fpr_size None = 1
+issuer_fpr_size (Some fpr) = 2 + length fpr
+
 -- issuer, class, local mark, two dates, depth and amount
 unfoldable pub cert_size : Cert → ℕ
-cert_size c = 20 + scope_size c.scope
+cert_size c = 20 + scope_size c.scope + issuer_fpr_size c.issuer_fpr
 
 -- kind, two lengths, two dates, revoked mark and count
 unfoldable pub user_size : User → ℕ
@@ -31,9 +36,14 @@ key_size k = 26 + length k.fpr + length k.caps + sum_by user_size k.users
 unfoldable pub entry_size : Entry → ℕ
 entry_size e = 2 + length e.fpr
 
+-- the flag, and a key ID
+unfoldable pub via_size : Option ℕ → ℕ
+via_size None = 1
+via_size (Some id) = 9
+
 -- key, level, trust and depth that is left
 unfoldable pub row_size : Row → ℕ
-row_size r = 11 + scope_size r.scope
+row_size r = 11 + scope_size r.scope + via_size r.via
 
 -- the kind, and what it tells
 unfoldable pub payload_size : Edit → ℕ

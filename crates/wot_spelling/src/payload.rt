@@ -5,7 +5,8 @@ ghost use Rattle.wot_types.specs.declared.edit.Edit.{Edit};
 ghost use Rattle.wot_spelling.specs.Reading.{Gives};
 ghost use Rattle.wot_types.specs.Limits.{most_record};
 ghost use Rattle.wot_spelling.specs.Stored.{rows_at};
-ghost use Rattle.wot_types.specs.Payload.{EditFits, IsPayload, IsProper, payload};
+ghost use Rattle.wot_types.specs.declared.cert.Form.TheVariants.{WithFpr};
+ghost use Rattle.wot_types.specs.Payload.{EditFits, IsPayload, IsProper, IsWritten, payload};
 ghost use Rattle.wot_types.specs.Spelling.{text_bytes};
 ghost use Rattle.wot_spelling.specs.Edits.{GivesAll, edit_at, edit_of, entries_at, keys_at, range_at, sample_count_at};
 
@@ -15,15 +16,15 @@ use crate::sizes::payload_length;
 use crate::stop::Stop;
 use crate::writer::Writer;
 use std::alloc::Global;
-use wot_types::{Edit, Entries, Entry, Key, Keys, List, Mem, Options, Row};
+use wot_types::{Edit, Entries, Entry, Form, Format, Key, Keys, List, Mem, Options, Row};
 
 impl<'a> Reader<'a> {
     /// Keys to import: well formed, in strictly rising order of their key IDs.
     #[tactic(auto, unfolding(crate::specs::Edits::keys_at))]
-    pub fn keys(&mut self, alloc: Global) -> Result<Keys, Stop>
-        ensures { Gives (keys_at self.old) result self.new }
+    pub fn keys(&mut self, alloc: Global, form: Form) -> Result<Keys, Stop>
+        ensures { Gives (keys_at form self.old) result self.new }
     {
-        let keys = self.list::<Key>(alloc)?;
+        let keys = self.list::<Key>(alloc, form)?;
         if are_importable(alloc, keys.as_slice())? {
             Ok(keys)
         } else {
@@ -49,7 +50,7 @@ impl<'a> Reader<'a> {
     pub fn entries(&mut self, alloc: Global) -> Result<Entries, Stop>
         ensures { Gives (entries_at self.old) result self.new }
     {
-        let entries = self.list::<Entry>(alloc)?;
+        let entries = self.list::<Entry>(alloc, ())?;
         if are_settable(entries.as_slice()) {
             Ok(entries)
         } else {
@@ -59,10 +60,10 @@ impl<'a> Reader<'a> {
 
     /// Rows with regular expressions of 1 to 255 bytes, in strictly rising order of their key IDs.
     #[tactic(auto, unfolding(crate::specs::Stored::rows_at))]
-    pub fn rows(&mut self, alloc: Global) -> Result<List<Row>, Stop>
-        ensures { Gives (rows_at self.old) result self.new }
+    pub fn rows(&mut self, alloc: Global, format: Format) -> Result<List<Row>, Stop>
+        ensures { Gives (rows_at format self.old) result self.new }
     {
-        let rows = self.list::<Row>(alloc)?;
+        let rows = self.list::<Row>(alloc, format)?;
         if are_stored(rows.as_slice()) {
             Ok(rows)
         } else {
@@ -88,7 +89,7 @@ impl<'a> Reader<'a> {
         ensures { Gives (edit_at self.old) result self.new }
     {
         match self.number_1()? {
-            1 => Ok(Edit::Import(self.keys(alloc)?)),
+            1 => Ok(Edit::Import(self.keys(alloc, Form::WithoutFpr)?)),
             2 => Ok(Edit::Ownertrust(self.entries(alloc)?)),
             3 => {
                 let fpr = self.fpr()?;
@@ -108,6 +109,7 @@ impl<'a> Reader<'a> {
                 let count = self.sample_count()?;
                 Ok(Edit::Sample(seed, count))
             }
+            9 => Ok(Edit::Import(self.keys(alloc, Form::WithFpr)?)),
             _ => Err(Stop::NoSpelling),
         }
     }
@@ -126,15 +128,15 @@ fn read_edit(alloc: Global, bytes: &[u8]) -> Result<Edit, Stop>
     }
 }
 
-#[tactic(auto, unfolding(wot_types::specs::Payload::payload))]
+#[tactic(auto, unfolding(wot_types::specs::Payload::payload_in))]
 fn write_edit(writer: &mut Writer, edit: &Edit) -> Result<(), Mem>
     requires { length (payload edit.now) ≤ most_record }
     ensures ok { OnOk result (writer.new ≡ writer.old ++ payload edit.now) }
-    ensures fits { OnOk result (EditFits edit.now) }
+    ensures fits { OnOk result (EditFits WithFpr edit.now) }
 {
     match edit {
         Edit::Import(keys) => {
-            writer.number_1(1)?;
+            writer.number_1(9)?;
             writer.list(keys)
         }
         Edit::Ownertrust(entries) => {
@@ -171,11 +173,11 @@ fn write_edit(writer: &mut Writer, edit: &Edit) -> Result<(), Mem>
     }
 }
 
-/// The one payload of an edit. The journal writes it into the edit's record.
+/// The one payload of an edit that is written. The journal writes it into the edit's record.
 pub fn encode(alloc: Global, edit: &Edit) -> Result<Vec<u8>, Mem>
     requires proper { IsProper edit.now }
     requires room { length (payload edit.now) ≤ most_record }
-    ensures spelled { IfOk result (λ bytes. IsPayload bytes.items edit.now) }
+    ensures spelled { IfOk result (λ bytes. IsWritten bytes.items edit.now) }
 {
     let room = payload_length(edit) as usize;
     let mut writer = Writer::with_room(alloc, room)?;
@@ -189,7 +191,7 @@ pub fn encode_with_length(alloc: Global, edit: &Edit) -> Result<Vec<u8>, Mem>
     requires proper { IsProper edit.now }
     requires room { length (payload edit.now) ≤ most_record }
     ensures spelled { IfOk result (λ bytes. bytes.items ≡ text_bytes (payload edit.now)) }
-    ensures payload { IfOk result (λ _. IsPayload (payload edit.now) edit.now) }
+    ensures payload { IfOk result (λ _. IsWritten (payload edit.now) edit.now) }
 {
     let length = payload_length(edit) as u32;
     let mut writer = Writer::with_room(alloc, length as usize + 5)?;
@@ -210,7 +212,8 @@ pub fn decode(alloc: Global, bytes: &[u8]) -> Result<Option<Edit>, Mem>
     }
 }
 
-/// No payload begins another, and each spells one edit.
+/// No payload begins another, and each spells one edit; an edit has one that is written.
 pub fn one_payload()
+    ensures written { (a b : List ℕ) (x : Edit) → IsWritten a x → IsWritten b x → a ≡ b }
     ensures alone { (a b r s : List ℕ) (x y : Edit) → IsPayload a x → IsPayload b y → a ++ r ≡ b ++ s → (a ≡ b) × (x ≡ y) }
 {}

@@ -1,13 +1,15 @@
 //! Reading the parts of a spelling, from the front.
 
 ghost use Rattle.std.specs.Prelude.{◌≡◌, ◌==◌, ◌<◌, ◌^◌, ◌++◌, OnOk, length};
-ghost use Rattle.wot_spelling.specs.Reading.{Gives, GivesSeen, bytes_at, number_1_at, number_4_at, number_8_at, flag_at, text_at, scope_at, fpr_at, trust_at, ownertrust_at, user_kind_at, options_at, list_at};
+ghost use Rattle.wot_spelling.specs.Reading.{Gives, GivesSeen, bytes_at, number_1_at, number_4_at, number_8_at, flag_at, text_at, scope_at, via_at, fpr_at, issuer_fpr_at, trust_at, ownertrust_at, user_kind_at, options_at, list_at};
 
 use crate::stop::Stop;
 use crate::writer::Writer;
 use std::alloc::Global;
 use std::marker::Model;
-use wot_types::{Fpr, KeyId, List, Mem, Options, Ownertrust, Scope, Text, Trust, UserKind};
+use wot_types::{
+    Form, Format, Fpr, KeyId, List, Mem, Options, Ownertrust, Scope, Text, Trust, UserKind,
+};
 
 /// A row without a scope, the shortest part that stands in a list, takes so many bytes.
 const SHORTEST: usize = 12;
@@ -30,17 +32,20 @@ impl<'a> Model for Reader<'a> {
 pub trait Part: Drop {
     ghost use Rattle.std.specs.Prelude.{List, ℕ, Option};
 
-    /// Its spelling.
+    /// What tells the spellings that are read from one another, where there are several.
+    type Spelling: Copy;
+
+    /// Its spelling that is written.
     ghost bytes: { Self → List ℕ };
 
     /// Its numbers and lengths are within their bytes.
     ghost Fits: { Self → Type 0 };
 
     /// The part at the front of the bytes.
-    ghost at: { List ℕ → Option (Self × List ℕ) };
+    ghost at: { Self.Spelling → List ℕ → Option (Self × List ℕ) };
 
-    fn read(alloc: Global, reader: &mut Reader<'_>) -> Result<Self, Stop>
-        ensures { Gives (at reader.old) result reader.new };
+    fn read(alloc: Global, spelling: Self::Spelling, reader: &mut Reader<'_>) -> Result<Self, Stop>
+        ensures { Gives (at spelling reader.old) result reader.new };
 
     fn write(&self, writer: &mut Writer) -> Result<(), Mem>
         requires { length (bytes self.now) < 2 ^ 32 }
@@ -148,6 +153,23 @@ impl<'a> Reader<'a> {
         Ok(Some(Scope::new(alloc, text)?))
     }
 
+    /// Who delegated to an introducer, which rows of the older formats don't tell.
+    #[tactic(auto, unfolding(crate::specs::Reading::via_at))]
+    pub fn via(&mut self, format: Format) -> Result<Option<KeyId>, Stop>
+        ensures { Gives (via_at format self.old) result self.new }
+    {
+        match format {
+            Format::First | Format::Second => Ok(None),
+            Format::Third(_) => {
+                if self.flag()? {
+                    Ok(Some(self.key_id()?))
+                } else {
+                    Ok(None)
+                }
+            }
+        }
+    }
+
     #[tactic(auto, unfolding(crate::specs::Reading::fpr_at))]
     pub fn fpr(&mut self) -> Result<Fpr, Stop>
         ensures { Gives (fpr_at self.old) result self.new }
@@ -155,6 +177,23 @@ impl<'a> Reader<'a> {
         let length = self.number_1()?;
         let bytes = self.bytes(usize::from(length))?;
         Fpr::from_bytes(bytes).ok_or(Stop::NoSpelling)
+    }
+
+    /// The fingerprint of a certification's issuer, which the first form doesn't have.
+    #[tactic(auto, unfolding(crate::specs::Reading::issuer_fpr_at))]
+    pub fn issuer_fpr(&mut self, form: Form) -> Result<Option<Fpr>, Stop>
+        ensures { Gives (issuer_fpr_at form self.old) result self.new }
+    {
+        match form {
+            Form::WithoutFpr => Ok(None),
+            Form::WithFpr => {
+                if self.flag()? {
+                    Ok(Some(self.fpr()?))
+                } else {
+                    Ok(None)
+                }
+            }
+        }
     }
 
     #[tactic(auto, unfolding(crate::specs::Reading::trust_at))]
@@ -206,14 +245,14 @@ impl<'a> Reader<'a> {
     #[tactic(auto, unfolding(crate::specs::Reading::list_at))]
     /// A count, and that many parts. Room for them is taken at once, and for no more than the bytes that are left can spell: what is kept grows
     /// with the bytes, whatever the count.
-    pub fn list<T: Part>(&mut self, alloc: Global) -> Result<List<T>, Stop>
-        ensures { Gives (list_at T.at self.old) result self.new }
+    pub fn list<T: Part>(&mut self, alloc: Global, spelling: T::Spelling) -> Result<List<T>, Stop>
+        ensures { Gives (list_at (T.at spelling) self.old) result self.new }
     {
         let count = self.number_4()?;
         let room = (count as usize).min(self.len() / SHORTEST);
         let mut parts = List::with_capacity(alloc, room)?;
         for _ in 0..count {
-            let part = T::read(alloc, self)?;
+            let part = T::read(alloc, spelling, self)?;
             parts.push(part)?;
         }
         Ok(parts)

@@ -1,11 +1,11 @@
-//! How many bytes a spelling has. A count above 2^64 - 1 is given as 2^64 - 1.
+//! How many bytes a spelling has that is written. A count above 2^64 - 1 is given as 2^64 - 1.
 
 ghost use Rattle.std.specs.Prelude.{◌≡◌, length, sum_by};
 ghost use Rattle.wot_types.specs.Payload.{payload};
 ghost use Rattle.wot_types.specs.Numbers.{capped};
-ghost use Rattle.wot_spelling.specs.Sizes.{cert_size, entry_size, key_size, payload_size, scope_size, user_size};
+ghost use Rattle.wot_spelling.specs.Sizes.{cert_size, entry_size, issuer_fpr_size, key_size, payload_size, scope_size, user_size};
 
-use wot_types::{Cert, Edit, Entry, Key, Scope, User};
+use wot_types::{Cert, Edit, Entry, Fpr, Key, Scope, User};
 
 /// The bytes of a flag, a class, a depth, an amount, a trust number, the length of a fingerprint, or the kind of an edit.
 const BYTE: u64 = 1;
@@ -35,11 +35,22 @@ fn scope_size(scope: &Option<Scope>) -> u64
     }
 }
 
+#[tactic(auto, unfolding(crate::specs::Sizes::issuer_fpr_size))]
+fn issuer_fpr_size(named: &Option<Fpr>) -> u64
+    ensures { result ≡ capped (issuer_fpr_size named.now) }
+{
+    match named {
+        None => BYTE,
+        Some(fpr) => 2 * BYTE + fpr.as_bytes().len() as u64,
+    }
+}
+
 #[tactic(auto, unfolding(crate::specs::Sizes::cert_size))]
 fn cert_size(cert: &Cert) -> u64
     ensures { result ≡ capped (cert_size cert.now) }
 {
     CERT.saturating_add(scope_size(&cert.scope))
+        .saturating_add(issuer_fpr_size(&cert.issuer_fpr))
 }
 
 fn certs_size(certs: &[Cert]) -> u64

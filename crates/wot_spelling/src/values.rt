@@ -2,6 +2,7 @@
 
 ghost use Rattle.std.specs.Prelude.{◌≡◌, ◌<◌, ◌^◌, ◌++◌, is_some};
 ghost use Rattle.wot_types.specs.Spelling.{number_1, number_4, number_8, flag_bytes, cert_bytes, user_bytes, key_bytes, entry_bytes, EntryFits, CertFits, UserFits, KeyFits, row_bytes, RowFits};
+ghost use Rattle.wot_types.specs.declared.cert.Form.TheVariants.{WithFpr};
 ghost use Rattle.wot_spelling.specs.Reading.{cert_at, user_at, key_at, entry_at, row_at};
 
 use crate::fields::{KeyFields, UserFields};
@@ -10,17 +11,19 @@ use crate::reader::{Part, Reader};
 use crate::stop::Stop;
 use crate::writer::Writer;
 use std::alloc::Global;
-use wot_types::{Cert, Entry, Key, Mem, Ownertrust, Row, User};
+use wot_types::{Cert, Entry, Form, Format, Key, Mem, Ownertrust, Row, User};
 
 impl Part for Cert {
-    ghost bytes = { cert_bytes };
+    type Spelling = Form;
 
-    ghost Fits = { CertFits };
+    ghost bytes = { cert_bytes WithFpr };
+
+    ghost Fits = { CertFits WithFpr };
 
     ghost at = { cert_at };
 
     #[tactic(auto, unfolding(crate::specs::Reading::cert_at))]
-    fn read(alloc: Global, reader: &mut Reader<'_>) -> Result<Cert, Stop> {
+    fn read(alloc: Global, form: Form, reader: &mut Reader<'_>) -> Result<Cert, Stop> {
         let issuer = reader.key_id()?;
         let class = reader.number_1()?;
         let local = reader.flag()?;
@@ -29,6 +32,7 @@ impl Part for Cert {
         let depth = reader.number_1()?;
         let amount = reader.number_1()?;
         let scope = reader.scope(alloc)?;
+        let issuer_fpr = reader.issuer_fpr(form)?;
         Ok(Cert {
             issuer,
             class,
@@ -38,6 +42,7 @@ impl Part for Cert {
             depth,
             amount,
             scope,
+            issuer_fpr,
         })
     }
 
@@ -47,11 +52,11 @@ impl Part for Cert {
         if let Some(scope) = &self.scope {
             writer.text(scope.as_text())?;
         }
-        Ok(())
+        writer.issuer_fpr(&self.issuer_fpr)
     }
 }
 
-/// All of a certification but the text of its scope. One piece is written faster than eight.
+/// A certification up to the text of its scope. One piece is written faster than eight.
 #[tactic(auto, unfolding(wot_types::specs::Spelling::number_1, wot_types::specs::Spelling::number_4, wot_types::specs::Spelling::number_8, wot_types::specs::Spelling::flag_bytes))]
 fn cert_numbers(cert: &Cert) -> [u8; 21]
     ensures spelled { result ≡ number_8 cert.now.issuer ++ (number_1 cert.now.class ++ (flag_bytes cert.now.local ++ (number_4 cert.now.made ++ (number_4 cert.now.expires ++ (number_1 cert.now.depth ++ (number_1 cert.now.amount ++ flag_bytes (is_some cert.now.scope))))))) }
@@ -72,21 +77,23 @@ fn cert_numbers(cert: &Cert) -> [u8; 21]
 }
 
 impl Part for User {
-    ghost bytes = { user_bytes };
+    type Spelling = Form;
 
-    ghost Fits = { UserFits };
+    ghost bytes = { user_bytes WithFpr };
+
+    ghost Fits = { UserFits WithFpr };
 
     ghost at = { user_at };
 
     #[tactic(auto, unfolding(crate::specs::Reading::user_at))]
-    fn read(alloc: Global, reader: &mut Reader<'_>) -> Result<User, Stop> {
+    fn read(alloc: Global, form: Form, reader: &mut Reader<'_>) -> Result<User, Stop> {
         let kind = reader.user_kind()?;
         let text = reader.text(alloc)?;
         let hash = reader.text(alloc)?;
         let made = reader.number_4()?;
         let expires = reader.number_4()?;
         let revoked = reader.flag()?;
-        let certs = reader.list::<Cert>(alloc)?;
+        let certs = reader.list::<Cert>(alloc, form)?;
         Ok(User {
             kind,
             text,
@@ -113,14 +120,16 @@ impl Part for User {
 }
 
 impl Part for Key {
-    ghost bytes = { key_bytes };
+    type Spelling = Form;
 
-    ghost Fits = { KeyFits };
+    ghost bytes = { key_bytes WithFpr };
+
+    ghost Fits = { KeyFits WithFpr };
 
     ghost at = { key_at };
 
     #[tactic(auto, unfolding(crate::specs::Reading::key_at))]
-    fn read(alloc: Global, reader: &mut Reader<'_>) -> Result<Key, Stop> {
+    fn read(alloc: Global, form: Form, reader: &mut Reader<'_>) -> Result<Key, Stop> {
         let fpr = reader.fpr()?;
         let bits = reader.number_4()?;
         let algo = reader.number_4()?;
@@ -128,7 +137,7 @@ impl Part for Key {
         let expires = reader.number_4()?;
         let revoked = reader.flag()?;
         let caps = reader.text(alloc)?;
-        let users = reader.list::<User>(alloc)?;
+        let users = reader.list::<User>(alloc, form)?;
         Ok(Key {
             fpr,
             bits,
@@ -157,14 +166,16 @@ impl Part for Key {
 }
 
 impl Part for Entry {
+    type Spelling = ();
+
     ghost bytes = { entry_bytes };
 
     ghost Fits = { EntryFits };
 
-    ghost at = { entry_at };
+    ghost at = { λ _. entry_at };
 
     #[tactic(auto, unfolding(crate::specs::Reading::entry_at))]
-    fn read(_alloc: Global, reader: &mut Reader<'_>) -> Result<Entry, Stop> {
+    fn read(_alloc: Global, _spelling: (), reader: &mut Reader<'_>) -> Result<Entry, Stop> {
         let fpr = reader.fpr()?;
         let Ownertrust { trust, disabled } = reader.ownertrust()?;
         Ok(Entry {
@@ -186,6 +197,8 @@ impl Part for Entry {
 }
 
 impl Part for Row {
+    type Spelling = Format;
+
     ghost bytes = { row_bytes };
 
     ghost Fits = { RowFits };
@@ -193,18 +206,20 @@ impl Part for Row {
     ghost at = { row_at };
 
     #[tactic(auto, unfolding(crate::specs::Reading::row_at))]
-    fn read(alloc: Global, reader: &mut Reader<'_>) -> Result<Row, Stop> {
+    fn read(alloc: Global, format: Format, reader: &mut Reader<'_>) -> Result<Row, Stop> {
         let key = reader.key_id()?;
         let level = reader.number_1()?;
         let trust = reader.trust()?;
         let left = reader.number_1()?;
         let scope = reader.scope(alloc)?;
+        let via = reader.via(format)?;
         Ok(Row {
             key,
             level,
             trust,
             left,
             scope,
+            via,
         })
     }
 
@@ -215,6 +230,7 @@ impl Part for Row {
         writer.trust(self.trust)?;
         writer.number_1(self.left)?;
         writer.scope(&self.scope)?;
+        writer.via(self.via)?;
         Ok(())
     }
 }

@@ -1,9 +1,10 @@
 //! Writing the parts of a spelling, one after the other.
 
 ghost use Rattle.std.specs.Prelude.{◌≡◌, ◌<◌, ◌≤◌, ◌-◌, ◌^◌, ◌++◌, [], IfOk, OnOk, IfSome, drop, length};
+ghost use Rattle.wot_types.specs.declared.cert.Form.TheVariants.{WithFpr};
 ghost use Rattle.wot_types.specs.Fingerprint.{IsFprLength};
 ghost use Rattle.wot_types.specs.Ownertrust.{ownertrust_number};
-ghost use Rattle.wot_types.specs.Spelling.{IsShort, ListFits, OptionsFit, number_1, number_4, number_8, flag_bytes, text_bytes, scope_bytes, fpr_bytes, trust_bytes, kind_bytes, options_bytes, list_bytes};
+ghost use Rattle.wot_types.specs.Spelling.{IsShort, ListFits, OptionsFit, number_1, number_4, number_8, flag_bytes, text_bytes, scope_bytes, via_bytes, fpr_bytes, issuer_fpr_bytes, trust_bytes, kind_bytes, options_bytes, list_bytes};
 
 use crate::numbers::{number_4, number_8};
 use crate::reader::Part;
@@ -110,6 +111,21 @@ impl Writer {
         Ok(())
     }
 
+    /// Who delegated to an introducer.
+    #[tactic(auto, unfolding(wot_types::specs::Spelling::via_bytes))]
+    pub fn via(&mut self, via: Option<KeyId>) -> Result<(), Mem>
+        ensures ok { OnOk result (self.new ≡ self.old ++ via_bytes via) }
+        ensures fits { IfSome via (λ id. id < 2 ^ 64) }
+    {
+        match via {
+            None => self.flag(false),
+            Some(id) => {
+                self.flag(true)?;
+                self.key_id(id)
+            }
+        }
+    }
+
     #[tactic(auto, unfolding(wot_types::specs::Spelling::scope_bytes))]
     pub fn scope(&mut self, scope: &Option<Scope>) -> Result<(), Mem>
         requires { IfSome scope.now IsShort }
@@ -133,6 +149,21 @@ impl Writer {
         self.number_1(bytes.len() as u8)?;
         self.out.extend_from_slice(bytes)?;
         Ok(())
+    }
+
+    /// The fingerprint of a certification's issuer, where it is named.
+    #[tactic(auto, unfolding(wot_types::specs::Spelling::issuer_fpr_bytes))]
+    pub fn issuer_fpr(&mut self, named: &Option<Fpr>) -> Result<(), Mem>
+        ensures ok { OnOk result (self.new ≡ self.old ++ issuer_fpr_bytes WithFpr named.now) }
+        ensures fits { OnOk result (IfSome named.now IsFprLength) }
+    {
+        match named {
+            None => self.flag(false),
+            Some(fpr) => {
+                self.flag(true)?;
+                self.fpr(fpr)
+            }
+        }
     }
 
     #[tactic(auto, unfolding(wot_types::specs::Spelling::trust_bytes, wot_types::specs::Spelling::number_1))]

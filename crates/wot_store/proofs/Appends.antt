@@ -4,7 +4,8 @@ use Rattle.std.proofs.lemmas.List.{take-append-drop, drop-drop, length-drop, dro
 use Rattle.wot_types.specs.declared.edit.Edit.{Edit}
 use Rattle.wot_types.specs.State.{State}
 use Rattle.wot_types.specs.Outcome.{refusal_of, state_after, edited_store}
-use Rattle.wot_types.specs.Payload.{payload}
+use Rattle.wot_types.specs.declared.cert.Form.TheVariants.{WithFpr}
+use Rattle.wot_types.specs.Payload.{IsWritten, payload}
 use Rattle.wot_site.specs.Disk.{Image, disk_of, reads_of}
 use Rattle.wot_site.specs.Seen.{Seen}
 use Rattle.wot_site.specs.Work.{Works}
@@ -19,7 +20,7 @@ use Rattle.wot_journal.specs.Record.{Framed, IsClosed, record_of, with_record, o
 use Rattle.wot_journal.specs.Commit.{IsUnchanged, IsCommitting, Commits}
 use Rattle.wot_journal.specs.Next.{HasRecord}
 use Rattle.wot_store.specs.Base.{base_fault, bytes_of, has_closed_gate, header_of, other_side}
-use Rattle.wot_store.specs.Journal.{Ends, Reaches, HasPayload, records, after_edit}
+use Rattle.wot_store.specs.Journal.{Ends, Reaches, Recorded, records, after_edit}
 use Rattle.wot_types.specs.Store.{Store}
 use Rattle.wot_store.specs.Shows.{Shows, ShowsBase, IsStored}
 use Rattle.wot_store.specs.Appending.{IsRecordOf, place_after}
@@ -27,10 +28,18 @@ use Rattle.wot_store.specs.Changing.{IsStoredAfter, ShowsEither}
 use Rattle.wot_store.proofs.Headers.{IsWhole, base_whole, header_front, shown_header, whole_base}
 use Rattle.wot_pages.proofs.Held.{same_contents, same_fault}
 use Rattle.wot_store.proofs.Pairs.{IsShown, base_here, image_on, reads_bytes, replaced, shown_kept, shows_here}
-use Rattle.wot_store.proofs.Replaying.{reaches_more, length_record, has_payload}
+use Rattle.wot_store.proofs.Replaying.{reaches_more, length_record}
+
+-- an edit with the payload that is written of it
+abbrev written : Edit → Recorded
+written edit = record { payload = payload edit; edit = edit }
+
+-- where an edit has such a payload, it is this one
+has_written : (bytes : List ℕ) (edit : Edit) → IsWritten bytes edit → IsWritten (payload edit) edit
+has_written bytes edit spells = record { fits = spells.fits; proper = spells.proper; is = refl }
 
 -- records that stand before a place stay where the bytes before it stay
-pub reaches_front : (bytes c : List ℕ) (start : ℕ) (base : State) (edits : List Edit) (at : ℕ) (s : State) → take at c ≡ take at bytes → at < length c
+pub reaches_front : (bytes c : List ℕ) (start : ℕ) (base : State) (edits : List Recorded) (at : ℕ) (s : State) → take at c ≡ take at bytes → at < length c
     → Reaches bytes start base edits at s → Reaches c start base edits at s
 reaches_front bytes c start base edits at s front within reaches =
     let n = length (records edits) in
@@ -138,7 +147,7 @@ module _ (side : Side) (bytes : List ℕ) (header : Header) (is : header_of byte
         first e = sym (ap (λ (l : List ℕ). get_or l 0 0) end_record) ∙ get_or-drop (shown.end + length spelling + 5) (with_record bytes shown.end spelling) 0 0
             ∙ ap (λ (k : ℕ). get_or (with_record bytes shown.end spelling) k 0) none ∙ e
 
-  module _ (edit : Edit) (spelled : HasPayload edit) (allowed : refusal_of shown.state edit ≡ None) (room : shown.end + length (payload edit) + 6 ≤ most) where
+  module _ (edit : Edit) (spelled : IsWritten (payload edit) edit) (allowed : refusal_of shown.state edit ≡ None) (room : shown.end + length (payload edit) + 6 ≤ most) where
     accepted : after_edit shown.state edit ≡ Some (state_after shown.state edit)
     accepted = rw allowed refl
 
@@ -147,9 +156,9 @@ module _ (side : Side) (bytes : List ℕ) (header : Header) (is : header_of byte
 
     longer_journal : Ends (with_record bytes shown.end (payload edit)) (page_place header.pages) shows.base (state_after shown.state edit) (shown.end + length (payload edit) + 5)
     longer_journal = record {
-      edits = shows.journal.edits ++ edit ∷ [];
-      reaches = reaches_more (with_record bytes shown.end (payload edit)) (page_place header.pages) shows.base shows.journal.edits shown.end shown.state edit (shown.end + length (payload edit) + 5) (state_after shown.state edit)
-          (still_reaches (with_record bytes shown.end (payload edit)) (front_record (payload edit) room) (omega (arith, within_record (payload edit) room))) (has_record (payload edit) room) spelled accepted;
+      edits = shows.journal.edits ++ written edit ∷ [];
+      reaches = reaches_more (with_record bytes shown.end (payload edit)) (page_place header.pages) shows.base shows.journal.edits shown.end shown.state (written edit) (shown.end + length (payload edit) + 5) (state_after shown.state edit)
+          (still_reaches (with_record bytes shown.end (payload edit)) (front_record (payload edit) room) (omega (arith, within_record (payload edit) room))) (has_record (payload edit) room) (WithFpr, spelled) accepted;
       gate = closed_record (payload edit) room;
     }
 
@@ -195,11 +204,11 @@ module _ (place : Place) (built : Framed) (shown : Store) (edit : Edit) (is_reco
 
   recorded_header : header_of recorded ≡ Some stored.header
   recorded_header = ap (λ (l : List ℕ). header_of l) recorded_is
-      ∙ more_header place.side (bytes_of place.side (reads_of x.disks)) stored.header is_header shown base edit (has_payload built.payload edit is_record.spells) is_record.allowed fits
+      ∙ more_header place.side (bytes_of place.side (reads_of x.disks)) stored.header is_header shown base edit (has_written built.payload edit is_record.spells) is_record.allowed fits
 
   recorded_shows : ShowsBase place.side recorded stored.header (edited_store shown edit)
   recorded_shows = subst (λ (l : List ℕ). ShowsBase place.side l stored.header (edited_store shown edit)) (sym recorded_is)
-      (more_shows place.side (bytes_of place.side (reads_of x.disks)) stored.header is_header shown base edit (has_payload built.payload edit is_record.spells) is_record.allowed fits)
+      (more_shows place.side (bytes_of place.side (reads_of x.disks)) stored.header is_header shown base edit (has_written built.payload edit is_record.spells) is_record.allowed fits)
 
   recorded_image : (c : Image) → bytes_of (other_side place.side) c ≡ bytes_of (other_side place.side) (reads_of x.disks) → bytes_of place.side c ≡ recorded → Shows c (edited_store shown edit)
   recorded_image c other whole =

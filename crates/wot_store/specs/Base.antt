@@ -78,12 +78,19 @@ abbrev pub base_fault : Side → List ℕ → Header → Option BadStore
 base_fault side bytes header =
     if nat_lt (page_place header.pages) (min (length bytes) most) then option_map Seal (seal_fault header.epoch header.pages bytes) else Some (Short side 24)
 
--- the contents of a base: an image of this state with its rows, and fewer bytes 00 than a page has of content
-abbrev pub IsBaseOf : List ℕ → State → Type 0
-IsBaseOf contents s = IsBase content_size contents s (rows_of s)
+-- a state's rows, or none that were counted by the rules of now
+abbrev pub AreRowsOf : State → Option RowMap → Type 0
+AreRowsOf s None = Unit {0}
+AreRowsOf s (Some rows) = rows ≡ rows_of s
 
--- contents that are no base: they spell no state with rows, or one whose rows don't all stand; the fault is that of the least key whose row doesn't
+-- the contents of a base: an image of this state, with its rows where these were counted by the rules of now, and fewer bytes 00 than a page has of content
+pub record IsBaseOf (contents : List ℕ) (s : State) : Type 0 where
+  pub current : Option RowMap
+  pub spelled : IsBase content_size contents s current
+  pub rows : AreRowsOf s current
+
+-- contents that are no base: they spell no state, or one with rows by the rules of now that don't all stand; the fault is that of the least key whose row doesn't
 abbrev pub IsNoBase : List ℕ → BadStore → Type 0
-IsNoBase contents Spelling = (s : State) (rows : RowMap) → IsBase content_size contents s rows → ⊥
-IsNoBase contents (Row fault) = (s : State) × (rows : RowMap) × IsBase content_size contents s rows × IsLeastFault s rows fault
+IsNoBase contents Spelling = (s : State) (current : Option RowMap) → IsBase content_size contents s current → ⊥
+IsNoBase contents (Row fault) = (s : State) × (rows : RowMap) × IsBase content_size contents s (Some rows) × IsLeastFault s rows fault
 IsNoBase contents bad = ⊥

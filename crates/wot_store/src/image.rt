@@ -19,7 +19,7 @@ pub fn spell_state(alloc: Global, engine: &Engine) -> Result<Vec<u8>, Mem>
     ensures base { IfOk result (λ image. IsBaseOf (contents_for image.items) engine.now) }
     ensures spelled { IfOk result (λ image. image.items ≡ image_bytes engine.now (rows_of engine.now)) }
     ensures long { IfOk result (λ image. length image.items ≡ image_length engine.now) }
-    ensures few { IfOk result (λ image. length image.items < 2 ^ 29) }
+    ensures few { IfOk result (λ image. length image.items < 2 ^ 30) }
 {
     spell(alloc, &engine.lent(), engine.rows())
 }

@@ -10,10 +10,13 @@ use Rattle.wot_types.specs.declared.key.Key.{Key}
 use Rattle.wot_types.specs.Indexes.{has_expiry_between, is_between}
 use Rattle.wot_types.specs.Keyring.{Keyring}
 use Rattle.wot_types.specs.NextCheck.{key_expiries, sooner_of, soonest_after, soonest_of}
-use Rattle.wot_types.specs.Soonest.{if_after, next_expiry, none_at_0}
+use Rattle.wot_types.specs.Soonest.{next_expiry, none_at_0}
 use Rattle.wot_table.specs.declared.heading.Heading.TheVariants.{Expiry}
 use Rattle.wot_table.specs.Headings.{AgreesWith, is_one_of, is_under}
 use Rattle.wot_table.proofs.Values.{value_found, value_passes}
+
+abbrev if_after : ℕ → ℕ → ℕ
+if_after date expires = cond (nat_lt date expires) expires 0
 
 -- the first expiry, if it comes after the date, and the others
 soonest_after-cons : (date e : ℕ) (es : List ℕ) → soonest_after date (e ∷ es) ≡ sooner_of (if_after date e) (soonest_after date es)

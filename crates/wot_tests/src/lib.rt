@@ -4,9 +4,11 @@
 #[cfg(test)]
 mod compactions; // a sample that is compacted, stopped at each call of the disk
 #[cfg(test)]
+mod faults; // no call after one that failed
+#[cfg(test)]
 mod files; // runs over real files
 #[cfg(test)]
-mod gates; // runs over two workers
+mod gates; // runs over several workers
 #[cfg(test)]
 mod memory; // runs that may be short of memory
 #[cfg(test)]

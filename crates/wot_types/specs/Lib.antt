@@ -23,6 +23,12 @@ pub mod Expiry
 pub mod Selection
 pub mod Arrangement
 pub mod Codes
+pub mod DomainForm
+pub mod Expression
+pub mod ExpressionGrammar
+pub mod ExpressionMatch
+pub mod ExpressionMarks
+pub mod ExpressionReading
 pub mod Scope
 pub mod Candidates
 pub mod Levels

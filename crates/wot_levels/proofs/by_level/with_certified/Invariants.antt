@@ -2,7 +2,7 @@ use Rattle.std.proofs.Common.{◌≡◌, ◌⊎◌, ◌-◌, ◌+◌, ◌^◌, �
 use Rattle.std.specs.List.{Contains}
 use Rattle.std.specs.Option.{option_map_or}
 use Rattle.wot_types.specs.Indexes.{has_cert_by}
-use Rattle.wot_levels.specs.Walk.{is_done}
+use Rattle.wot_levels.proofs.Halfway.{is_done}
 use Rattle.wot_levels.proofs.by_level.with_certified.Given as goal
 
 abbrev pub invariant-loop-id : goal.invariant-loop-id

@@ -2,7 +2,7 @@ use Rattle.std.proofs.Common.{ℕ, option_map, unwrap_or, sym, ap, subst, ◌∙
 use Rattle.std.specs.FinMap as map
 use Rattle.wot_types.specs.Fingerprint.{key_id_of}
 use Rattle.wot_types.specs.Ownertrust.{OwnertrustMap, unset}
-use Rattle.wot_levels.specs.Entries.{EntriesLeft}
+use Rattle.wot_levels.proofs.Halfway.{EntriesLeft}
 use Rattle.wot_levels.specs.Standings.{standing_row}
 use Rattle.wot_levels.specs.Walk.{with_found}
 use Rattle.wot_levels.proofs.EntriesWalk.{entries_all, entries_put, entries_start, entry_kept}

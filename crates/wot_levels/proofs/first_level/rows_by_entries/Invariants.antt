@@ -1,4 +1,4 @@
-use Rattle.wot_levels.specs.Entries.{EntriesLeft}
+use Rattle.wot_levels.proofs.Halfway.{EntriesLeft}
 use Rattle.wot_levels.proofs.first_level.rows_by_entries.Given as goal
 
 abbrev pub invariant-loop-fpr : goal.invariant-loop-fpr

@@ -2,7 +2,7 @@ use Rattle.std.proofs.Common.{◌≡◌, Some, All, refl, sym, ap, subst, ◌∙
 use Rattle.std.specs.FinMap as map
 use Rattle.wot_types.specs.Keyring.{Keyring}
 use Rattle.wot_types.specs.Levels.{first_row}
-use Rattle.wot_levels.specs.Walk.{WalksOn}
+use Rattle.wot_levels.proofs.Halfway.{WalksOn}
 use Rattle.wot_levels.proofs.RowLemmas.{rows_at_zero}
 use Rattle.wot_levels.proofs.WalksOn.{walk_all, walk_put, walk_start}
 use Rattle.wot_levels.proofs.first_level.rows_by_keys.Goals as goal

@@ -1,5 +1,5 @@
 use Rattle.wot_types.specs.Levels.{first_row}
-use Rattle.wot_levels.specs.Walk.{WalksOn}
+use Rattle.wot_levels.proofs.Halfway.{WalksOn}
 use Rattle.wot_levels.proofs.first_level.rows_by_keys.Given as goal
 
 abbrev pub invariant-loop-keyblock : goal.invariant-loop-keyblock

@@ -32,9 +32,8 @@ returns-in_err-counts-clause-ticks g c =
 
 pub loop-id-preserved : goal.loop-id-preserved
 loop-id-preserved g c =
-    let keys = c.args.state.now.keys in
-    let o = c.args.state.now.options in
-    let now = c.args.state.now.date in
+    let s = c.args.state.now in
+    let keys = s.keys in
     let rows = c.args.rows.now in
     let ids = c.as_slice-id-items.result.now in
     let i = c.loop-id.id-index in
@@ -42,26 +41,25 @@ loop-id-preserved g c =
     let new = c.in_ok-counts.counts in
     let inside : i < length ids = c.loop-id-test.true in
     let next = next_of ids i x inside c.id-item.is in
-    let counted = counted_both keys o now rows (take i ids) (x ∷ []) finmap.empty c.loop-id.counts new c.loop-id.invariant.counts c.in_ok-counts.ensures.counts in
+    let counted = counted_both s rows (take i ids) (x ∷ []) finmap.empty c.loop-id.counts new c.loop-id.invariant.counts c.in_ok-counts.ensures.counts in
     let more = ap (weight keys) next in
     let both = weight_both keys (take i ids) (x ∷ []) in
     let one = weight_one keys x in
     let sofar = c.loop-id.invariant.ticks in
     let cost = c.in_ok-counts.ensures.ticks in
     record {
-      counts = subst (λ seen. AreCountedAt keys o now rows seen finmap.empty new) (sym next) counted;
+      counts = subst (λ seen. AreCountedAt s rows seen finmap.empty new) (sym next) counted;
       ticks = omega (arith, more, both, one, sofar, cost);
     }
 
 pub returns-clause-counts : goal.returns-clause-counts
 returns-clause-counts g c =
-    let keys = c.args.state.now.keys in
-    let o = c.args.state.now.options in
+    let s = c.args.state.now in
     let rows = c.args.rows.now in
     let ids = c.as_slice-id-items.result.now in
     let seen : length ids ≤ c.loop-id.id-index = omega (arith, c.loop-id-test.false) in
-    counted_certified keys o c.args.state.now.date rows ids (subst (λ m. AreCertified m rows ids) c.table-table.ensures (subst (AreCertified c.table-table.result.now rows) (sym c.as_slice-id-items.ensures.value) c.in_ok-ids.ensures.all)) c.loop-id.counts
-    (subst (λ xs. AreCountedAt keys o c.args.state.now.date rows xs finmap.empty c.loop-id.counts) (take_all ids c.loop-id.id-index seen) c.loop-id.invariant.counts)
+    counted_certified s rows ids (subst (λ m. AreCertified m rows ids) c.table-table.ensures (subst (AreCertified c.table-table.result.now rows) (sym c.as_slice-id-items.ensures.value) c.in_ok-ids.ensures.all)) c.loop-id.counts
+    (subst (λ xs. AreCountedAt s rows xs finmap.empty c.loop-id.counts) (take_all ids c.loop-id.id-index seen) c.loop-id.invariant.counts)
 
 pub returns-clause-ticks : goal.returns-clause-ticks
 returns-clause-ticks g c =

@@ -6,6 +6,6 @@ use Rattle.wot_live.proofs.all_counts.counts_by_introducers.Given as goal
 
 abbrev pub invariant-loop-id : goal.invariant-loop-id
 invariant-loop-id g l = record {
-  counts : AreCountedAt l.state.keys l.state.options l.state.date l.rows (take l.id-index l.id-items) finmap.empty l.counts;
+  counts : AreCountedAt l.state l.rows (take l.id-index l.id-items) finmap.empty l.counts;
   ticks : l.steps ≤ l.initial.steps + weight l.state.keys (take l.id-index l.id-items);
 }

@@ -14,6 +14,6 @@ returns g c =
     let all = c.deref.ensures.value ∙ c.in_ok-ids.ensures ∙ ap finmap.keys c.table-table.ensures in
     IfOk-weaker c.of.result
     (λ counts. counts ≡ finmap.from_entries pairs)
-    (λ counts. counts ≡ counts_over s.keys s.options s.date rows)
+    (λ counts. counts ≡ counts_over s rows)
     (λ counts is. counts_of_all s rows ids pairs counts all c.in_ok-pairs_by.ensures is)
     c.of.ensures

@@ -11,7 +11,7 @@ pub loop-user-init : goal.loop-user-init
 loop-user-init g c =
     let key = c.args.keyblock.now.1 in
     record {
-      counts = ap (λ xs. xs ++ map (spot_count c.args.state.now.options c.args.state.now.date c.args.rows.now) (spots_from 0 key.users)) c.in_ok-counts.ensures;
+      counts = ap (λ xs. xs ++ map (spot_count c.args.state.now c.args.rows.now) (spots_from 0 key.users)) c.in_ok-counts.ensures;
       ticks = let all = spot_certs 0 key.users in omega (arith, all);
     }
 
@@ -27,7 +27,7 @@ verdict_in-requires g c =
 pub loop-user-preserved : goal.loop-user-preserved
 loop-user-preserved g c =
     let key = c.args.keyblock.now.1 in
-    let f = spot_count c.args.state.now.options c.args.state.now.date c.args.rows.now in
+    let f = spot_count c.args.state.now c.args.rows.now in
     let i = c.loop-user.user in
     let old = c.loop-user.counts in
     let spots = spots_from 0 key.users in
@@ -62,7 +62,7 @@ returns-in_err-push-clause-ticks g c =
 pub returns-clause-counts : goal.returns-clause-counts
 returns-clause-counts g c =
     let key = c.args.keyblock.now.1 in
-    let f = spot_count c.args.state.now.options c.args.state.now.date c.args.rows.now in
+    let f = spot_count c.args.state.now c.args.rows.now in
     let old = c.loop-user.counts in
     let spots = spots_from 0 key.users in
     let many = length_spots 0 key.users in

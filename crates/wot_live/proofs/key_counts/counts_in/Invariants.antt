@@ -6,6 +6,6 @@ use Rattle.wot_live.proofs.key_counts.counts_in.Given as goal
 
 abbrev pub invariant-loop-user : goal.invariant-loop-user
 invariant-loop-user g l = record {
-  counts : l.counts ++ map (spot_count l.state.options l.state.date l.rows) (drop l.user (spots_from 0 l.keyblock.1.users)) ≡ key_counts l.state.options l.state.date l.rows l.keyblock.1;
+  counts : l.counts ++ map (spot_count l.state l.rows) (drop l.user (spots_from 0 l.keyblock.1.users)) ≡ key_counts l.state l.rows l.keyblock.1;
   ticks : l.steps + sum_by (λ (s : Spot). length s.certs) (drop l.user (spots_from 0 l.keyblock.1.users)) ≤ l.initial.steps + key_certs l.keyblock.1;
 }

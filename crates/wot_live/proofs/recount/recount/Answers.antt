@@ -34,10 +34,10 @@ loop-i-preserved g c =
     let here = ap (weight keys) c.id.ensures in
     let single = weight_one keys c.id.result in
     let cost = c.in_ok-counts.ensures.ticks in
-    let step = subst (λ ids. AreCountedAt keys c.args.state.now.options c.args.state.now.date c.args.rows.now ids c.loop-i.counts c.in_ok-counts.counts) (sym c.id.ensures) c.in_ok-counts.ensures.counts in
-    let all = counted_both keys c.args.state.now.options c.args.state.now.date c.args.rows.now (take i todo) (ids_at todo i) c.args.counts c.loop-i.counts c.in_ok-counts.counts c.loop-i.invariant.counts step in
+    let step = subst (λ ids. AreCountedAt c.args.state.now c.args.rows.now ids c.loop-i.counts c.in_ok-counts.counts) (sym c.id.ensures) c.in_ok-counts.ensures.counts in
+    let all = counted_both c.args.state.now c.args.rows.now (take i todo) (ids_at todo i) c.args.counts c.loop-i.counts c.in_ok-counts.counts c.loop-i.invariant.counts step in
     record {
-      counts = subst (λ ids. AreCountedAt keys c.args.state.now.options c.args.state.now.date c.args.rows.now ids c.args.counts c.in_ok-counts.counts) (sym next) all;
+      counts = subst (λ ids. AreCountedAt c.args.state.now c.args.rows.now ids c.args.counts c.in_ok-counts.counts) (sym next) all;
       ticks = omega (arith, both, there, here, single, sofar, cost);
     }
 
@@ -45,7 +45,7 @@ pub returns-clause-counts : goal.returns-clause-counts
 returns-clause-counts g c =
     let todo = c.args.todo.now in
     let whole : length todo ≤ c.loop-i.i = let many = c.len-count.ensures.len in let test = c.loop-i-test.false in omega (arith, many, test) in
-    subst (λ ids. AreCountedAt c.args.state.now.keys c.args.state.now.options c.args.state.now.date c.args.rows.now ids c.args.counts c.loop-i.counts) (take_all todo c.loop-i.i whole) c.loop-i.invariant.counts
+    subst (λ ids. AreCountedAt c.args.state.now c.args.rows.now ids c.args.counts c.loop-i.counts) (take_all todo c.loop-i.i whole) c.loop-i.invariant.counts
 
 pub returns-clause-ticks : goal.returns-clause-ticks
 returns-clause-ticks g c =

@@ -9,7 +9,8 @@ pub loop-id-init : goal.loop-id-init
 loop-id-init g c =
     let t = c.args.state.now in
     record {
-      pass = no_step t c.args.level c.args.course.rows c.args.course.todo;
+      pass = no_step t c.args.level c.args.course.moved.before c.args.course.rows c.args.course.todo c.args.course.moved.here;
+      before = refl;
       due = λ ids due. due;
       within = λ within. within;
       ticks = omega arith;
@@ -43,21 +44,25 @@ loop-id-preserved g c =
     let new = c.in_ok-course.course in
     let inv = c.loop-id.invariant in
     let only = only_at ids i c.id-item.result c.loop-id-test.true c.id-item.is in
-    let step = subst (λ xs. IsRecounted t n xs now.rows now.todo new.rows new.todo) (sym only) c.in_ok-course.ensures.step in
-    let all = both_steps t n (take i ids) (ids_at ids i) rows now.rows new.rows todo now.todo new.todo inv.pass step (λ x its. fresh_at ids i x c.requires.distinct its) in
+    let moved = c.args.course.moved.before in
+    let here = c.args.course.moved.here in
+    let one_step = subst (λ xs. IsRecounted t n now.moved.before xs now.rows now.todo now.moved.here new.rows new.todo new.moved.here) (sym only) c.in_ok-course.ensures.step in
+    let step = subst (λ m. IsRecounted t n m (ids_at ids i) now.rows now.todo now.moved.here new.rows new.todo new.moved.here) inv.before one_step in
+    let all = both_steps t n moved (take i ids) (ids_at ids i) rows now.rows new.rows todo now.todo new.todo here now.moved.here new.moved.here inv.pass step (λ x its. fresh_at ids i x c.requires.distinct its) in
     let one : i + 1 ≡ suc i = omega arith in
     let next = ap (λ k. take k ids) one ∙ take_at ids i in
     let both = weight_both keys (take i ids) (ids_at ids i) in
     let there = ap (weight keys) next in
-    let here = ap (weight keys) only in
+    let at = ap (weight keys) only in
     let single = weight_one keys c.id-item.result in
     let sofar = inv.ticks in
     let cost = c.in_ok-course.ensures.ticks in
     record {
-      pass = subst (λ xs. IsRecounted t n xs rows todo new.rows new.todo) (sym next) all;
+      pass = subst (λ xs. IsRecounted t n moved xs rows todo here new.rows new.todo new.moved.here) (sym next) all;
+      before = c.in_ok-course.ensures.before ∙ inv.before;
       due = λ xs due. c.in_ok-course.ensures.due xs (inv.due xs due);
       within = λ within. c.in_ok-course.ensures.within (inv.within within);
-      ticks = omega (arith, there, both, here, single, sofar, cost);
+      ticks = omega (arith, there, both, at, single, sofar, cost);
       unread = λ zero. c.in_ok-course.ensures.unread zero ∙ inv.unread zero;
     }
 
@@ -66,7 +71,9 @@ returns-clause-pass g c =
     let t = c.args.state.now in
     let ids = c.args.ids.now in
     let whole : length ids ≤ c.loop-id.id-index = omega (arith, c.loop-id-test.false) in
-    subst (λ xs. IsRecounted t c.args.level xs c.args.course.rows c.args.course.todo c.loop-id.course.rows c.loop-id.course.todo) (take_all ids c.loop-id.id-index whole) c.loop-id.invariant.pass
+    let old = c.args.course in
+    let new = c.loop-id.course in
+    subst (λ xs. IsRecounted t c.args.level old.moved.before xs old.rows old.todo old.moved.here new.rows new.todo new.moved.here) (take_all ids c.loop-id.id-index whole) c.loop-id.invariant.pass
 
 pub returns-clause-ticks : goal.returns-clause-ticks
 returns-clause-ticks g c =

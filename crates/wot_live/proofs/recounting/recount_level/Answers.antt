@@ -19,8 +19,10 @@ returns-clause-pass g c =
     let todo = c.args.course.todo in
     let ids = c.deref.result.now in
     let due = due_at c.args.course.agenda n in
-    IfOk-weaker c.recount_all.result (λ new. IsRecounted t n ids rows todo new.rows new.todo) (λ new. IsRecounted t n due rows todo new.rows new.todo)
-    (λ new step. same_step t n ids due rows todo new.rows new.todo (λ x. ap (λ xs. among xs x) c.deref.ensures.value ∙ c.each_once-ids.ensures.same x ∙ ap (λ xs. among xs x) (c.into_vec.ensures ∙ c.take-agenda.ensures.ids)) step) c.recount_all.ensures.pass
+    let moved = c.args.course.moved.before in
+    let here = c.args.course.moved.here in
+    IfOk-weaker c.recount_all.result (λ new. IsRecounted t n moved ids rows todo here new.rows new.todo new.moved.here) (λ new. IsRecounted t n moved due rows todo here new.rows new.todo new.moved.here)
+    (λ new step. same_step t n moved ids due rows todo here new.rows new.todo new.moved.here (λ x. ap (λ xs. among xs x) c.deref.ensures.value ∙ c.each_once-ids.ensures.same x ∙ ap (λ xs. among xs x) (c.into_vec.ensures ∙ c.take-agenda.ensures.ids)) step) c.recount_all.ensures.pass
 
 pub returns-clause-due : goal.returns-clause-due
 returns-clause-due g c =

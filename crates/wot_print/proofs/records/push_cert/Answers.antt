@@ -11,4 +11,5 @@ returns-clause-adds g c =
     let issued = both _ _ _ _ _ (both _ _ _ _ _ name c.in_ok-push_bytes.ensures.adds) c.in_ok-push_key_id_field.ensures.adds in
     let dated = and_two adds both _ _ _ _ _ _ issued c.in_ok-push_dates.ensures.adds in
     let trusted = both _ _ _ _ _ (both _ _ _ _ _ dated c.in_ok-push_depth.ensures.adds) c.in_ok-push_scope.ensures.adds in
-    both _ _ _ _ _ (both _ _ _ _ _ (both _ _ _ _ _ trusted c.in_ok-push.ensures.adds) c.in_ok-push_class.ensures.adds) c.in_ok-push-2.ensures.adds
+    let classed = both _ _ _ _ _ (both _ _ _ _ _ trusted c.in_ok-push.ensures.adds) c.in_ok-push_class.ensures.adds in
+    both _ _ _ _ _ (both _ _ _ _ _ classed c.in_ok-push_issuer_fpr.ensures.adds) c.in_ok-push-2.ensures.adds

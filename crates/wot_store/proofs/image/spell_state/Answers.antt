@@ -1,3 +1,4 @@
+use Rattle.std.proofs.Common.{Some, refl}
 use Rattle.wot_types.specs.Levels.{rows_of}
 use Rattle.wot_store.proofs.Errors.{if_ok_then}
 use Rattle.wot_store.proofs.Needed.{image_base}
@@ -13,7 +14,11 @@ spell-requires-clause-of_keys c id there = rw c.lent.ensures.state (rows_keyed c
 pub returns-clause-base : goal.returns-clause-base
 returns-clause-base c =
     if_ok_then _ _ c.spell.result (rw (c.lent.ensures.state, c.rows.ensures) at c.spell.ensures.spelled)
-    (λ image spelled. image_base image.items c.args.engine.now (rows_of c.args.engine.now) spelled)
+    (λ image spelled. record {
+      current = Some (rows_of c.args.engine.now);
+      spelled = image_base image.items c.args.engine.now (rows_of c.args.engine.now) spelled;
+      rows = refl;
+    })
 
 pub returns-clause-spelled : goal.returns-clause-spelled
 returns-clause-spelled c =

@@ -19,6 +19,6 @@ returns-clause-told c = λ key is.
       row = c.get.ensures.found ∙ ap (λ r. map.get r c.args.id) c.self.invariant.rows ∙ ap (λ s. map.get (rows_of s) c.args.id) same;
       counts = λ user spot at.
           ap (λ list. count_on list user) c.of_key.ensures ∙ ap (λ m. count_on (counts_at m c.args.id) user) c.self.invariant.counts
-          ∙ counted_at e.table e.options e.date (rows_of s) c.args.id user spot (ap (option_and_then (λ k. spot_of k user)) there ∙ at)
-          ∙ ap (λ (s : State). count_of s.options s.date spot (rows_of s)) same;
+          ∙ counted_at s (rows_of s) c.args.id user spot (ap (option_and_then (λ k. spot_of k user)) there ∙ at)
+          ∙ ap (λ (s : State). count_of s spot (rows_of s)) same;
     }

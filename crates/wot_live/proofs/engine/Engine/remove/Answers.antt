@@ -1,11 +1,11 @@
 use Rattle.std.specs.FinMap as map
 use Rattle.wot_types.specs.Touched.{named_by_remove}
-use Rattle.wot_live.specs.Follows.{no_keys}
+use Rattle.wot_live.specs.Follows.{no_keys, with_named}
 use Rattle.wot_live.proofs.EditLemmas.{due_after, edit_bound}
 use Rattle.wot_live.proofs.engine.Engine.remove.Goals as goal
 
 pub count-requires : goal.count-requires
-count-requires g c = record { due = due_after _ c.uncounted.ensures.due c.in_ok-remove.ensures.state c.uncounted.ensures.due.ranges c.in_ok-remove.ensures.since }
+count-requires g c = record { due = due_after c.uncounted.ensures.due c.in_ok-remove.ensures.state c.uncounted.ensures.due.ranges (λ s names due. (with_named names (named_by_remove c.args.id), c.in_ok-remove.ensures.since s names due)) }
 
 pub returns-clause-ticks : goal.returns-clause-ticks
 returns-clause-ticks g c =

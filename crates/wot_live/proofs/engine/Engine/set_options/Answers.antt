@@ -1,10 +1,10 @@
 use Rattle.wot_types.specs.Touched.{named_by_options}
-use Rattle.wot_live.specs.Follows.{no_keys}
+use Rattle.wot_live.specs.Follows.{no_keys, with_named}
 use Rattle.wot_live.proofs.EditLemmas.{due_after, edit_bound}
 use Rattle.wot_live.proofs.engine.Engine.set_options.Goals as goal
 
 pub count-requires : goal.count-requires
-count-requires g c = record { due = due_after _ c.uncounted.ensures.due c.set_options.ensures.state c.requires.ranges (λ s names due. c.set_options.ensures.since s names) }
+count-requires g c = record { due = due_after c.uncounted.ensures.due c.set_options.ensures.state c.requires.ranges (λ s names due. (with_named names named_by_options, c.set_options.ensures.since s names)) }
 
 pub returns-clause-ticks : goal.returns-clause-ticks
 returns-clause-ticks g c =

@@ -35,6 +35,6 @@ returns-clause-told c = λ key is.
       row = c.at.ensures.found (rows_of s) (ahead_later (rows_of s) w.from id w.rows later c.self.invariant.rows) ∙ ap (λ s. map.get (rows_of s) id) same;
       counts = λ user spot at.
           ap (λ list. count_on list user) (c.kept_at.ensures.kept (counts_of s) (ahead_later (counts_of s) w.from id w.counts later c.self.invariant.counts))
-          ∙ counted_at s.keys s.options s.date (rows_of s) id user spot (ap (option_and_then (λ k. spot_of k user)) there ∙ at)
-          ∙ ap (λ (s : State). count_of s.options s.date spot (rows_of s)) same;
+          ∙ counted_at s (rows_of s) id user spot (ap (option_and_then (λ k. spot_of k user)) there ∙ at)
+          ∙ ap (λ (s : State). count_of s spot (rows_of s)) same;
     }

@@ -8,4 +8,4 @@ pub invariant_of-result : goal.invariant_of-result
 invariant_of-result c =
     let t = uncounted_state c.self.inside.uncounted in
     let allowed = subst (λ s. IsAllowed s c.args.edit) (sym c.self.view_is) c.requires.allowed in
-    due_after _ c.self.invariant c.in_ok-uncounted.ensures.state (ranges_after t c.args.edit c.self.invariant.ranges allowed) c.in_ok-uncounted.ensures.since
+    due_after c.self.invariant c.in_ok-uncounted.ensures.state (ranges_after t c.args.edit c.self.invariant.ranges allowed) c.in_ok-uncounted.ensures.due

@@ -16,4 +16,4 @@ returns c = λ s t names same before due.
     listed_more s t (record t { date = to }) names (named_by_date t to) named c.in_ok-list.list (subst (IsDueSince s names t) c.in-Named.is due) refl
     (λ x. c.in_ok-list.ensures x
     ∙ (λ i. among named.list x || option_map_or (λ key. list_any (is_passed_between (sym before i) to) (key_expiries key)) (map.get (sym same i) x) false))
-    (date_alike t to)
+    (date_alike t to) (λ y _ there. (there, refl))

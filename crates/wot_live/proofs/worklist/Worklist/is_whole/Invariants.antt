@@ -1,7 +1,7 @@
 use Rattle.std.proofs.Common.{◌≡◌, ◌-◌, ◌+◌, ◌^◌, ℕ, true}
 use Rattle.std.specs.FinMap.{contains_key}
 use Rattle.std.specs.Option.{option_map_or}
-use Rattle.wot_levels.specs.Walk.{is_done}
+use Rattle.wot_levels.proofs.Halfway.{is_done}
 use Rattle.wot_live.specs.Recounting.{among}
 use Rattle.wot_live.proofs.worklist.Worklist.is_whole.Given as goal
 

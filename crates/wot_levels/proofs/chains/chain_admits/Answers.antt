@@ -1,0 +1,26 @@
+use Rattle.std.proofs.Common.{◌&&◌, true, Option, sym, ap, ◌∙◌}
+use Rattle.std.specs.Option.{option_copied, option_map_or}
+use Rattle.wot_types.specs.declared.row.Row.{Row}
+use Rattle.wot_types.specs.Candidates.{chain_admits, delegator}
+use Rattle.wot_types.proofs.Chains.{admits_step}
+use Rattle.wot_levels.proofs.chains.chain_admits.Goals as goal
+
+pub returns-then-not-is_in_scope : goal.returns-then-not-is_in_scope
+returns-then-not-is_in_scope c =
+    let rows = c.args.introducers.now in
+    let text = c.args.text.now in
+    let link = c.in-Some.link.now in
+    let above = option_map_or (λ (row : Row). chain_admits rows row text) (delegator rows link) true in
+    let out = sym c.is_in_scope.ensures ∙ c.if-not-is_in_scope.true in
+    sym (ap (λ b. b && above) out) ∙ sym (admits_step rows link text)
+    ∙ sym (ap (λ next. option_map_or (λ (row : Row). chain_admits rows row text) (option_copied next) true) c.in-Some.is) ∙ c.loop-next.invariant
+
+pub loop-next-preserved : goal.loop-next-preserved
+loop-next-preserved c =
+    let rows = c.args.introducers.now in
+    let text = c.args.text.now in
+    let link = c.in-Some.link.now in
+    let above = λ (next : Option Row). option_map_or (λ (row : Row). chain_admits rows row text) next true in
+    let within = sym c.is_in_scope.ensures ∙ c.if-not-is_in_scope.false in
+    ap above c.delegator-next.ensures ∙ sym (ap (λ b. b && above (delegator rows link)) within) ∙ sym (admits_step rows link text)
+    ∙ sym (ap (λ next. above (option_copied next)) c.in-Some.is) ∙ c.loop-next.invariant

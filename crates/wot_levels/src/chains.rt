@@ -1,0 +1,79 @@
+//! Whether an introducer may introduce a user ID: its scope admits it, and that of whoever delegated to it, and so on up.
+
+ghost use Rattle.std.specs.Prelude.{◌≡◌, ◌||◌, Some, not, IfSome, IsSome};
+ghost use Rattle.std.specs.FinMap as map;
+ghost use Rattle.std.specs.Option.{option_copied, option_map_or};
+ghost use Rattle.wot_types.specs.Candidates.{chain_admits, delegator};
+ghost use Rattle.wot_types.specs.Scope.{admits};
+
+use crate::introducers::Introducers;
+use wot_scope::{has_domain, in_scope};
+use wot_types::{KeyId, MOST_SCOPE, Options, Row, Rows, Text};
+
+/// The row of whoever delegated to an introducer, where it is of a lower level.
+fn delegator<'a>(introducers: &Introducers<'a>, row: &Row) -> Option<&'a Row>
+    ensures { option_copied result ≡ delegator introducers.now row.now }
+{
+    let above = introducers.get(row.via?)?;
+    if above.level < row.level {
+        Some(above)
+    } else {
+        None
+    }
+}
+
+/// Whether a scope admits a text. One of the domain form, as nearly all are, is tested without reading it as an expression.
+fn scope_admits(scope: &Text, text: &Text) -> bool
+    ensures { result ≡ admits (Some scope.now) text.now }
+{
+    if scope.as_bytes().len() <= MOST_SCOPE && has_domain(scope) {
+        return in_scope(scope, text);
+    }
+    wot_regex::admits(scope, text)
+}
+
+/// Whether an introducer's own scope admits a text.
+fn is_in_scope(row: &Row, text: &Text) -> bool
+    ensures { result ≡ admits row.now.scope text.now }
+{
+    match &row.scope {
+        Some(scope) => scope_admits(scope.as_text(), text),
+        None => true,
+    }
+}
+
+/// Whether each scope along an introducer's chain admits a text. Levels fall along it, so it ends.
+fn chain_admits<'a>(introducers: &Introducers<'a>, row: &'a Row, text: &Text) -> bool
+    ensures { result ≡ chain_admits introducers.now row.now text.now }
+{
+    let mut next = Some(row);
+    while let Some(link) = next {
+        if !is_in_scope(link, text) {
+            return false;
+        }
+        next = delegator(introducers, link);
+    }
+    true
+}
+
+/// A user ID's text is admitted where there are no scopes, or by the chain of the introducer with this row.
+pub fn is_admitted<'a>(
+    options: &Options,
+    introducers: &Introducers<'a>,
+    row: &'a Row,
+    text: &Text,
+) -> bool
+    ensures { result ≡ (not options.now.pgp || chain_admits introducers.now row.now text.now) }
+{
+    !options.pgp || chain_admits(introducers, row, text)
+}
+
+/// Whether the introducer with this key ID may introduce a user ID with this text. The classic model knows no scopes.
+pub fn admits(options: &Options, rows: &Rows, id: KeyId, user: &Text) -> bool
+    requires there { IsSome (map.get rows.now id) }
+    ensures { IfSome (map.get rows.now id) (λ row. result ≡ (not options.now.pgp || chain_admits rows.now row user.now)) }
+{
+    let introducers = Introducers::all(rows);
+    let row = introducers.get(id).unwrap();
+    is_admitted(options, &introducers, row, user)
+}

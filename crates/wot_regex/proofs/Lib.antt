@@ -1,0 +1,15 @@
+pub mod Places
+pub mod Passing
+pub mod Walks
+pub mod Found
+pub mod Completes
+pub mod Sound
+pub mod Stacks
+pub mod Tables
+pub mod Spreads
+pub mod Searches
+pub mod Takings
+pub mod Admitting
+pub mod Suffixes
+pub mod DomainTrees
+pub mod Domains

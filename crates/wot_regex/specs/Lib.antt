@@ -1,0 +1,6 @@
+pub mod Table
+pub mod Reaching
+pub mod Gathering
+pub mod Taking
+pub mod Cells
+pub mod TreeCode
