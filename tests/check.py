@@ -12,14 +12,11 @@ import subprocess
 import sys
 import tempfile
 
-import histories
-import keyring
-import store
-from histories import COMPACT, NEW, Steps
-from program import PROGRAM, REAL, folder, imported, run
+from reference import histories, keyring, store
+from reference.histories import COMPACT, NEW, Steps
+from reference.program import PROGRAM, REAL, USAGE, folder, imported, run
 
 WORKERS = ((), ("--workers", "1"), ("--workers", "2"), ("--workers=3",), ("--workers", "64"))
-USAGE = b"usage: wot [--workers N] [WORD]...\n"
 
 
 def result(done):
@@ -91,7 +88,7 @@ def usages():
         for words in (["--workers", "0"], ["--workers", "65"], ["--workers=0"], ["--workers=65"], ["--workers", "x"], ["--workers", "3", "--workers", "3"], ["--workers"]):
             for command in ([], ["check"], ["compact"]):
                 given = [*command, *words] if words == ["--workers"] else [*words, *command]
-                yield f"{given}", result(run("check\n", given, where)), (2, b"", USAGE)
+                yield f"{given}", result(run("check\n", given, where)), (2, b"", USAGE.encode())
         yield "the folder", os.listdir(where), []
     for line, wanted in (("check x", b"err bad-argument 1\n"), ("compact x", b"err bad-argument 1\n"), ("Check", b"err unknown-command\n"), ("compact now 2", b"err bad-argument 1\n")):
         with folder() as where:

@@ -7,12 +7,10 @@ earlier base or a stop has left on the other side; and in the last epoch, which 
 import random
 import sys
 
-import histories
-import keyring
-import store
-from histories import ASKED, COMPACT, Steps
-from keyring import rows_of
-from program import folder, key, run
+from reference import histories, keyring, store
+from reference.histories import ASKED, COMPACT, Steps
+from reference.keyring import rows_of
+from reference.program import folder, key, run
 
 
 def end(done):

@@ -13,11 +13,13 @@ import shutil
 import subprocess
 import sys
 
-from program import PROGRAM, by, fingerprint, folder, imported, key, run, trust
+from reference.program import PROGRAM, by, fingerprint, folder, imported, key, run, trust
 
 TOP = pathlib.Path(__file__).resolve().parent.parent
 CONTRIB = TOP / "contrib"
-PROGRAMS = ("deb", "git-gpg-wot", "wot-list", "wot-nightly", "wot-report", "wot-sync", "wot-verify", "wot-why", "wot-why-not", "wot.py")
+PROGRAMS = (
+    "deb", "git-gpg-wot", "gpg-wot", "wot-import", "wot-in", "wot-list", "wot-nightly", "wot-report", "wot-sync", "wot-verify", "wot-why", "wot-why-not", "wot.py",
+)
 sys.path.insert(0, str(CONTRIB))
 sys.dont_write_bytecode = True
 import wot  # noqa: E402
@@ -157,7 +159,7 @@ def asked():
                 yield name, raised(lambda command=command: store.ask(command)), wanted
             yield "a bad listing", raised(lambda: store.ask("import", ["", "pub:"])), ("BadListing", "listing 2 ShortRecord", None)
             yield "an end in a block", raised(lambda: store.ask("import", ["."]))[0], "ValueError"
-            yield "another run", raised(lambda: wot.Wot(where, PROGRAM, wait=0.1).ask("list")), ("Ended", "wot: disk fault", 5)
+            yield "another run", raised(lambda: wot.Wot(where, PROGRAM, wait=0.1).ask("list")), ("Held", "another run of wot holds the store", 5)
             yield "the session goes on", store.letter("b@example.org"), "f"
             store.ask("quit")
             yield "after quit", [raised(lambda: store.ask("list")) for _ in range(2)], [("Ended", "wot ended with status 1", 1)] * 2
@@ -206,17 +208,17 @@ def session(name):
 
 
 HANA = """\
-[  full  ] Hana <hana@example.org>
-  certified by Finn <finn@example.org>, fully trusted
-    certified by Cleo <cleo@example.org>, marginally trusted
-      certified by Ada <ada@example.org>, ultimately trusted
-    certified by Dan <dan@example.org>, marginally trusted
-      certified by Ada <ada@example.org>, ultimately trusted
-    certified by Eve <eve@example.org>, marginally trusted
-      certified by Ada <ada@example.org>, ultimately trusted
-  certified by Gus <gus@example.org>, marginally trusted by a trust signature of Ben <ben@example.org>
-    certified by Ben <ben@example.org>, fully trusted by a trust signature of Ada <ada@example.org>
-      certified by Ada <ada@example.org>, ultimately trusted
+[  full  ] Hana <hana@example.org> 0000000000000000000000000000000000000022
+  certified on 1970-01-01 by Finn <finn@example.org>, fully trusted
+    certified on 1970-01-01 by Cleo <cleo@example.org>, marginally trusted
+      certified on 1970-01-01 by Ada <ada@example.org>, ultimately trusted
+    certified on 1970-01-01 by Dan <dan@example.org>, marginally trusted
+      certified on 1970-01-01 by Ada <ada@example.org>, ultimately trusted
+    certified on 1970-01-01 by Eve <eve@example.org>, marginally trusted
+      certified on 1970-01-01 by Ada <ada@example.org>, ultimately trusted
+  certified on 1970-01-01 by Gus <gus@example.org>, marginally trusted by a trust signature of Ben <ben@example.org> of 1970-01-01
+    certified on 1970-01-01 by Ben <ben@example.org>, fully trusted by a trust signature of Ada <ada@example.org> of 1970-01-01
+      certified on 1970-01-01 by Ada <ada@example.org>, ultimately trusted
 """
 
 
@@ -241,24 +243,27 @@ def told():
         yield "letters that the terminal doesn't have", (done.stdout.splitlines()[-1:], done.returncode), (["uid           [ unknown] \\u4e2d"], 0)
     with store_of(session("domain")) as ask:
         yield "why, by a scope", ask("wot-why", "C <").stdout, (
-            "[  full  ] C <c@example.org>\n  certified by B <b@example.org>, fully trusted by a trust signature of A <a@example.org>, for example.org alone\n"
-            "    certified by A <a@example.org>, ultimately trusted\n")
+            f"[  full  ] C <c@example.org> {fingerprint('C')}\n"
+            "  certified on 1970-01-01 by B <b@example.org>, fully trusted by a trust signature of A <a@example.org> of 1970-01-01, for example.org alone\n"
+            "    certified on 1970-01-01 by A <a@example.org>, ultimately trusted\n")
     with store_of(trust("A", "u") + imported(key("A", text="\\x1b[31mA\u202e"), key("B", "A", text="B\\x3a"))) as ask:
-        yield "letters that would change the screen", ask("wot-why", "B:").stdout, "[  full  ] B:\n  certified by \\x1b[31mA\\u202e, ultimately trusted\n"
+        yield "letters that would change the screen", ask("wot-why", "B:").stdout, (
+            f"[  full  ] B: {fingerprint('B')}\n  certified on 1970-01-01 by \\x1b[31mA\\u202e, ultimately trusted\n")
 
 
 def many():
     """An explanation of more introducers than can be read: few that are enough come first."""
     names = [f"{number:02X}" for number in range(0x20, 0x40)]
     given = trust("A", "u") + "".join(trust(name, "m") for name in names) + trust("B", "f")
-    given += imported(key("A"), key("B", *names[:30]), *(key(name, "A") for name in names), key("C", "B", *names))
+    given += imported(key("A"), key("B", *names[:30]), *(key(name, "A") for name in [*names, "E"]), key("C", "B", *names), key("D", "E", *names))
     with store_of(given) as ask:
         short, whole = ask("wot-why", "c@example.org").stdout.splitlines(), ask("wot-why", "--all", "c@example.org").stdout
         yield "few", short[:4] + short[-2:], [
-            "[  full  ] C <c@example.org>", "  rests on 34 introducers; of those who certify a key the fewest are shown that are enough", "  certified by B <b@example.org>, fully trusted",
-            "    certified by 20 <20@example.org>, marginally trusted", "    and by 27 more who count", "  and by 32 more who count",
+            f"[  full  ] C <c@example.org> {fingerprint('C')}", "  rests on 34 introducers; of those who certify a key the fewest are shown that are enough",
+            "  certified on 1970-01-01 by B <b@example.org>, fully trusted", "    certified on 1970-01-01 by 20 <20@example.org>, marginally trusted", "    and by 27 more who count", "  and by 32 more who count",
         ]
-        yield "all", (len(short), whole.count("certified by"), "as told above" in whole), (11, 33 + 30 + 32, True)
+        yield "who counts for nothing", [line for line in ask("wot-why", "d@example.org").stdout.splitlines() if "nothing" in line], ["  and by 1 who count for nothing"]
+        yield "all", (len(short), whole.count("certified on"), "as told above" in whole), (11, 33 + 30 + 32, True)
 
 
 def blocks_of(lines):
@@ -307,40 +312,51 @@ def counted_again():
 
 
 def reason(given, text="C", *words):
-    """The reasons for the one user ID of this name."""
+    """What is said of the one user ID of this name, and of those who don't count for it."""
     with store_of(given) as ask:
-        return ask("wot-why-not", *words, f"{text} <").stdout.splitlines()[1:]
+        lines = ask("wot-why", *words, f"{text} <").stdout.splitlines()[1:]
+    return [re.sub(r"^  certified on 1970-01-01(?: until 1970-01-01)? by (.*), wh(?:o|ich) (?:doesn't count|counts for nothing): ", r"\1: ", line) for line in lines]
 
 
 def reasons():
-    """Why a user ID is not valid: each reason, over a keyring that has it."""
+    """Why a user ID is not valid: each reason, over a keyring that has it, and what is missing."""
     def with_b(*certs, own=trust("B", "f"), more="", date="date 5000\n", expires=""):
         return trust("A", "u") + own + date + more + imported(key("A"), key("B", "A", expires=expires), key("C", *certs))
     scope = "<[^>]+[@.]example\\x5c.net>$"
     trusting = imported(key("B", by("A", trusts="1 120", scope=scope)))
+    none = "  missing for full: 0 of 1 full, 0 of 3 marginal"
     for name, given, wanted in (
-        ("nobody", with_b(), "no key certified it, or gpg could check no certification of it"),
+        ("nobody", with_b(), "  no key certified it, or gpg could check no certification of it"),
         ("not there", with_b("D"), "the key 00000000000000DD: its key is not in the store"),
-        ("expired", with_b(by("B", expires=4000)), "B <b@example.org>: its certification expired on 1970-01-01"),
+        ("expired", with_b(by("B", expires=4000)), "B <b@example.org>: it expired on 1970-01-01"),
         ("taken back", with_b(by("B", record="rev", kind="30x")), "B <b@example.org>: it was taken back on 1970-01-01"),
-        ("below the level", with_b(by("B", kind="11x")), "B <b@example.org>: its certification is of a class below min-cert-level 2"),
-        ("never", with_b("B", own=trust("B", "n")), "B <b@example.org>: an introducer who counts for nothing: never trusted"),
+        ("below the level", with_b(by("B", kind="11x")), "B <b@example.org>: it is of a class below min-cert-level 2"),
         ("a revoked key", with_b("D", more=imported(key("D", "A").replace("pub:-", "pub:r"))), "D <d@example.org>: no introducer: its key is revoked"),
         ("an expired key", with_b("B", expires=4000), "B <b@example.org>: no introducer: its key is expired"),
         ("not valid", with_b("D", more=imported(key("D"))), "D <d@example.org>: no introducer: its own key is not valid, [ unknown]"),
-        ("too few", with_b("B", own=trust("B", "m")), "B <b@example.org>: marginally trusted: 1 of 3 that are needed, 2 too few"),
-        ("too few of the full", with_b("B", more="options pgp 2 3 5 2\n"), "B <b@example.org>: fully trusted: 1 of 2 that are needed, 1 too few"),
         ("too deep", with_b("B", more="options pgp 1 3 1 2\n"),
          "B <b@example.org>: too deep: it is 1 steps away from a key of yours, and introducers may be 0 (max-cert-depth 1)"),
         ("outside the scope", with_b("B", own="") + trusting, "B <b@example.org>: outside its scope: it is trusted for example.net alone"),
         ("outside a scope of another form", with_b("B", own="") + trusting.replace("example\\x5c.net", "example.net"),
          "B <b@example.org>: outside its scope: it is trusted for nobody, by a scope of another form"),
-        ("is valid", with_b("B"), "is valid; wot-why tells why"),
-        ("a revoked user ID", with_b("B").replace("uid:-::::1000::::C", "uid:r::::1000::::C"), "it, or its key, was revoked, whoever certified it"),
     ):
-        yield name, reason(given), [f"  {wanted}"]
-    yield "a level that is known", reason(with_b(by("B", kind="11x"), more="options pgp 1 3 5 1\n"), "C", "--min-cert-level", "1"), ["  is valid; wot-why tells why"]
-    yield "the chain", reason(session("chain-too-long"), "F"), ["  E <e@example.org>: too deep: it is 5 steps away from a key of yours, and introducers may be 4 (max-cert-depth 5)"]
+        yield name, reason(given), [none, wanted]
+    ada = "    certified on 1970-01-01 by A <a@example.org>, ultimately trusted"
+    for name, given, wanted in (
+        ("never", with_b("B", own=trust("B", "n")), ["B <b@example.org>: never trusted", none]),
+        ("too few", with_b("B", own=trust("B", "m")),
+         ["  certified on 1970-01-01 by B <b@example.org>, marginally trusted", ada, "  missing for full: 0 of 1 full, 1 of 3 marginal"]),
+        ("too few of the full", with_b("B", more="options pgp 2 3 5 2\n"),
+         ["  certified on 1970-01-01 by B <b@example.org>, fully trusted", ada, "  missing for full: 1 of 2 full, 0 of 3 marginal"]),
+        ("is valid", with_b("B", by("D", expires=9000)), ["  certified on 1970-01-01 by B <b@example.org>, fully trusted", ada]),
+        ("a revoked user ID", with_b("B").replace("uid:-::::1000::::C", "uid:r::::1000::::C"), ["  it, or its key, was revoked, whoever certified it"]),
+        ("an expired user ID", with_b("B").replace("uid:-::::1000::::C", "uid:-::::1000:4000:::C"), ["  it, or its key, expired on 1970-01-01, whoever certified it"]),
+    ):
+        yield name, reason(given), wanted
+    yield "all of a valid one", reason(with_b("B", "D"), "C", "--all")[2:], ["the key 00000000000000DD: its key is not in the store"]
+    yield "a level that is known", reason(with_b(by("B", kind="11x"), more="options pgp 1 3 5 1\n"), "C", "--min-cert-level", "1")[1:], [ada]
+    yield "the chain", reason(session("chain-too-long"), "F"), [
+        none, "E <e@example.org>: too deep: it is 5 steps away from a key of yours, and introducers may be 4 (max-cert-depth 5)"]
 
 
 class Page(html.parser.HTMLParser):
@@ -355,7 +371,7 @@ class Page(html.parser.HTMLParser):
         self.count += 1
         self.open += [tag] if tag not in ("meta", "br") else []
         self.asked += [tag] if tag in ("script", "link", "img", "iframe", "object") else []
-        self.asked += [name for name, _ in attrs if name in ("href", "src", "srcset", "action") or name.startswith("on")]
+        self.asked += [name for name, value in attrs if name in ("src", "srcset", "action") or name.startswith("on") or name == "href" and value[:1] != "#"]
 
     def handle_startendtag(self, tag, attrs):
         self.count += 1
@@ -376,11 +392,11 @@ def report():
         yield "a whole page", (page.open, page.asked, "http://www.w3.org/2000/svg" in text, text.count("//")), ([], [], True, 1)
         yield "its text is text", "&lt;script&gt;x&lt;/script&gt; &quot;&amp;&lt;x@example.org&gt;" in text, True
         picture = re.search(r"<svg.*?</svg>", text, re.S)[0]
-        yield "its picture", (picture.count("<rect"), picture.count("<line"), "Finn &lt;finn@example.org&gt;" in picture), (8, 10, True)
+        yield "its picture", (picture.count("<rect"), picture.count("<line"), "&lt;finn@example.org&gt;<" in picture), (8, 10, True)
         changed = text.partition("What changed")[2].partition("<h2>")[0]
         rows = [re.sub(r"<[^>]*>", " ", row).split() for row in changed.split("<tr>")[2:]]
         yield "what changed", [row[:3] for row in rows if row[-1][-2:] in ("BB", "CC", "C2")], [["full", "gone", "Old"], ["unknown", "full", "Cleo"]]
-        yield "nobody", "Nobody of that name" in text, True
+        yield "nobody", "nobody of that name: nobody" in text, True
         yield "to standard output", at.run("wot-report", "--store", ".", "-").stdout.startswith("<!DOCTYPE html>"), True
         yield "without a store", (at.status("wot-report", "--store", "none", "page.html"), (at.here / "page.html").read_text(encoding="utf-8") == text), (2, True)
 
@@ -397,11 +413,10 @@ def completion():
         yield "no store", (offered("wot", "list", ""), at.beside()), ([], [])
         run(imported(key("A"), key("B")), where=at.here)
         yield "a fingerprint", offered("wot", "why", "0" * 38 + "b"), [fingerprint("B")]
-        yield "an option", offered("wot-why", "--m"), ["--min-cert-level"]
-        names = [name for name in PROGRAMS if name.startswith("wot-")]
-        known = {name: offered(name, "--") for name in names}
-        told_of = {name: sorted({*re.findall(r"(--[a-z-]+)", at.run(name, "--help").stdout)} - {"--", "--check-sigs"}) for name in names}
-        yield "all options", {name: sorted(words) for name, words in known.items()}, told_of
+        yield "an option", offered("wot-why", "--min"), ["--min-cert-level"]
+        names = [name for name in PROGRAMS if "gpg" not in name]
+        told_of = {name: sorted({*re.findall(r"--[a-z-]+", at.run(name, "--help").stdout)}) for name in names}
+        yield "all options", {name: sorted(offered(name, "--")) for name in names}, told_of
     page = (TOP / "docs" / "MANUAL.md").read_text(encoding="utf-8").split("## Commands\n")[1].split("\n## ")[0]
     commands = {name for row in re.findall(r"^\| (`[^|]*) \|", page, re.M) for name in re.findall(r"`([a-z]+)", row)}
     with place() as at:
@@ -566,10 +581,10 @@ def nightly():
             done = subprocess.run(["wot-nightly", "."], stdout=full, stderr=subprocess.PIPE, cwd=at.here, env=at.environment, timeout=120, check=False)
         yield "nobody could be told", (done.returncode, b"No space left" in done.stderr, (at.here / "letters").read_bytes() == letters), (2, True, True)
         status, text = night()
-        yield "what got better", (status, text.splitlines()[:3]), (1, [
+        yield "what got better", (status, re.sub(r"on \d{4}-\d\d-\d\d by", "on by", text).splitlines()[:3]), (1, [
             f"[ unknown] -> [  full  ] Carol <carol@example.org> {carol}",
-            "          certified by Alice <alice@example.org>, fully trusted",
-            "            certified by Me <me@example.org>, ultimately trusted",
+            "          certified on by Alice <alice@example.org>, fully trusted",
+            "            certified on by Me <me@example.org>, ultimately trusted",
         ])
         status, text = night("--", "--options", "pgp 2 3 5 2", "--root", me)
         worse = re.findall(r"^(\[.{8}\] -> \[.{8}\]) (\w+)", text, re.M)
@@ -610,7 +625,7 @@ def verify():
         sign(alice, "--clearsign")
         yield "a signature of something else", verified("file", "file.sig"), 1
         yield "one that holds its content", (verified("--output", "out", "file.sig"), (at.here / "out").read_bytes()), (0, b"content\n")
-        yield "and needs an output", verified("file.sig"), 2
+        yield "and the verdict alone", verified("file.sig"), 0
         yield from cut_content(at, alice)
         sign(alice, "--clearsign")
         (at.here / "twice").write_bytes(signature.read_bytes() * 2)
@@ -640,17 +655,20 @@ def cut_content(at, signer):
 
 def people():
     """The programs for people and the module over what a sync made of gpg's keyring."""
-    _, alice, bob, _ = primaries()
+    _, alice, bob, carol = primaries()
     with synced() as at:
         def said(*words):
             done = at.run(*words)
             return done.stdout, done.returncode
         listed, status = said("wot-list", "bob@example.org")
-        shown = rf"as of .*\n\npub   ed25519 \d{{4}}-\d\d-\d\d \[SC\] \[expires: .*\] \[ownertrust: undefined\]\n      {bob}\nuid           \[  full  \] Bob <bob@example.org>\n"
+        shown = rf"as of .*\n\npub   ed25519 \d{{4}}-\d\d-\d\d \[SCE\] \[expires: .*\] \[ownertrust: undefined\]\n      {bob}\nuid           \[  full  \] Bob <bob@example.org>\n"
         yield "list", (re.fullmatch(shown, listed) is not None, status), (True, 0)
-        why = "[  full  ] Bob <bob@example.org>\n  certified by Alice <alice@example.org>, fully trusted\n    certified by Me <me@example.org>, ultimately trusted\n"
-        yield "why", said("wot-why", bob), (why, 0)
-        yield "why not", said("wot-why-not", "Carol"), ("[ unknown] Carol <carol@example.org>\n  no key certified it, or gpg could check no certification of it\n", 0)
+        days = r"on \d{4}-\d\d-\d\d by"
+        why = f"[  full  ] Bob <bob@example.org> {bob}\n  certified on by Alice <alice@example.org>, fully trusted\n    certified on by Me <me@example.org>, ultimately trusted\n"
+        yield "why", re.sub(days, "on by", said("wot-why", bob)[0]), why
+        yield "why not", said("wot-why-not", "Carol"), (
+            f"[ unknown] Carol <carol@example.org> {carol}\n  missing for full: 0 of 1 full, 0 of 3 marginal\n"
+            "  no key certified it, or gpg could check no certification of it\n", 0)
         yield "report", said("wot-report", "--why", "Bob", "page.html"), ("", 0)
         page = Page((at.here / "page.html").read_text(encoding="utf-8"))
         yield "its page", (page.open, page.asked), ([], [])

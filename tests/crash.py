@@ -13,10 +13,9 @@ import subprocess
 import sys
 import time
 
-import histories
-import store
-from histories import ASKED, COMPACT, NEW, Steps
-from program import PROGRAM, folder, run
+from reference import histories, store
+from reference.histories import ASKED, COMPACT, NEW, Steps
+from reference.program import PROGRAM, folder, run
 
 # what is stopped in a store that is there; a store is left for a new one after some stops
 AIMS = ("compact", "compact", "edit")

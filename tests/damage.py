@@ -3,10 +3,10 @@
 
 damage.py PROGRAM [--sample NUMBER | --all] [--seed NUMBER] [KIND]...: a listing is cut at every byte, alone and with the session that it stands in.
 A store that was moved to its other side twice, with edits before, between and after, has each bit of both files turned, is cut at each length,
-exchanged, and has one file replaced by an older copy of itself, by zeros and by bytes of any kind; images, rows, payloads and records are changed
-under seals and lengths that are right. Each run ends with the fault that a second reader finds first, and leaves both files as they were, or with
-the state that it finds, and an edit then goes to the place that it finds. Each fault of a store is made on purpose too. Of a kind of which there
-is more a sample is tried, and all with --all.
+exchanged, and has one file replaced by an older copy of itself, by zeros and by bytes of any kind; images, rows, payloads and records are changed, and
+written as they were before, under seals and lengths that are right. Each run ends with the fault that a second reader finds first, and leaves both files
+as they were, or with the state that it finds, and an edit then goes to the place that it finds. Each fault of a store is made on purpose too, and so
+is damage that no run notices. Of a kind of which there is more a sample is tried, and all with --all.
 """
 import argparse
 import collections
@@ -19,13 +19,10 @@ import sys
 import tempfile
 from concurrent.futures import ThreadPoolExecutor
 
-import histories
-import keyring
-import listing
-import store
-from histories import COMPACT
-from keyring import Options, Row
-from program import REAL, by, fingerprint, folder, key, run, short
+from reference import histories, keyring, listing, store
+from reference.histories import COMPACT
+from reference.keyring import Options, Row
+from reference.program import REAL, by, fingerprint, folder, key, run, short
 
 BLOCK = (
     REAL
@@ -87,9 +84,16 @@ def fault(given):
     return None if found == store.Bad(name) and not any(differs) else (name, found, differs)
 
 
+def unnoticed(given):
+    """What differs where damage is made that shows a state: that state is told."""
+    state, sides = given
+    found, differs = store.shown(*sides), opened(sides)
+    return None if not isinstance(found, store.Bad) and found.state == state and differs is None else (found, differs)
+
+
 STEPS = [
     histories.trust("A", "u"),
-    histories.keys(key("A"), key("B", by("A", trusts="1 60", scope="<[^>]+[@.]b>$")), key("C", "A", by("B", kind="30x", record="rev"), expires=9000)),
+    histories.keys(key("A"), key("B", by("A", trusts="1 60", scope="<[^>]+[@.]b>$", named=fingerprint("A"))), key("C", "A", by("B", kind="30x", record="rev"), expires=9000)),
     histories.trust("B", "f"), histories.date(4000),
     COMPACT,
     histories.trust("C", "m"), histories.options(Options(True, 2, 3, 5, 1)), histories.keys(key("D", by("C", trusts="2 120"), by("A", kind="11l"))),
@@ -103,6 +107,8 @@ ZERO, ONE = STAGES[-1]
 STATE = store.shown(ZERO, ONE).state
 IMAGE = store.image_bytes(STATE, keyring.rows_of(STATE))
 MADE = store.sampled(7, 60)(keyring.opening())
+# a side of several pages
+LONG = store.side_for(1, MADE)
 
 
 def written(stage):
@@ -124,6 +130,12 @@ def with_byte(data, place, byte):
 
 def with_number(data, place, value):
     return data[:place] + store.number(value, 8) + data[place + 8:]
+
+
+def with_pages(data, other, places):
+    """A side with pages of another one in their place: the first of these places of the other at 0, and so on."""
+    pages = [other[store.base_end(place):store.base_end(place + 1)] for place in places]
+    return data[:store.HEADER] + b"".join(pages) + data[store.base_end(len(pages)):]
 
 
 def with_rows(state, rows, payloads=()):
@@ -182,14 +194,30 @@ def rows():
             others = [row._replace(level=level) for level in (0, 1, row.level + 1, state.options.depth, 255)]
             others += [row._replace(trust=trust) for trust in keyring.TRUST_NUMBERS] + [row._replace(left=left) for left in (0, row.left + 1, 255)]
             others += [row._replace(scope=scope) for scope in (None, b"x", b"<[^>]+[@.]b>$", b"y" * 255)]
+            others += [row._replace(via=via) for via in (None, 0, k, 2**64 - 1, *own)]
             yield from ((with_rows(state, own | {k: other}), b"") for other in others if other != row)
         absent = [0, 2**40, 2**64 - 1, *(k for k in state.keys if k not in own)]
         yield from ((with_rows(state, own | {k: Row(level, 5, 0, None)}), b"") for k in absent for level in (0, 1, 4, 5, 255))
 
 
+def older():
+    """A base of an older format, or of older rules, with the rows of now, fewer, others and none, and an import in the first form behind it."""
+    unnamed = histories.after(histories.NEW, histories.keys(key("A"), key("B", by("A", trusts="2 120")), key("C", "B")))
+    state = store.edited(unnamed, histories.trust("A", "u").payload).state
+    for form, rules, there in ((1, 0, state), (2, 0, state), (2, 0, STATE), (3, 1, STATE), (3, 2, STATE)):
+        own = keyring.rows_of(there)
+        fewer = {k: own[k] for k in sorted(own)[1:]}
+        for stored in (own, fewer, {}, {k: row._replace(level=7, scope=b"(") for k, row in own.items()}, {2**40: Row(9, 0, 9, None)}):
+            image = store.image_bytes(there, stored, form, rules)
+            yield from ((store.side_of(1, image, records), b"") for records in ((), [store.import_payload(state.keys, store.FIRST_IMPORT)]))
+            yield from ((store.side_of(1, with_byte(image, place, byte)), b"") for place in (8, 9) for byte in range(5))
+            yield b"", store.side_of(9, image + bytes(3))
+
+
 def payloads():
     """A record with one bit of its payload turned, in its right frame."""
-    edits = [histories.trust("A", "u").payload, payload_of_import(STATE.keys), b"\2" + store.some(sorted(STATE.trusts.items()), store.entry_bytes)]
+    edits = [histories.trust("A", "u").payload, store.import_payload(STATE.keys), b"\2" + store.some(sorted(STATE.trusts.items()), store.entry_bytes)]
+    edits.append(store.import_payload(histories.after(histories.NEW, histories.keys(key("A"), key("B", "A"))).state.keys, store.FIRST_IMPORT))
     edits += [histories.flag("A", True).payload, histories.delete("B").payload, histories.options(Options()).payload]
     # a sample with a bit turned would be one of very many keys
     yield from ((store.side_for(1, STATE, [with_bit(edit, bit)]), b"") for edit in edits for bit in range(8 * len(edit)))
@@ -197,10 +225,6 @@ def payloads():
     yield from ((store.side_for(1, STATE, [edit[:size]]), b"") for edit in edits for size in range(len(edit) + 1))
     yield from ((store.side_for(1, STATE, [edit + b"\0"]), b"") for edit in edits)
     yield from ((store.side_for(1, STATE, [one, other]), b"") for one in edits for other in edits)
-
-
-def payload_of_import(keys):
-    return b"\1" + store.some([keys[k] for k in sorted(keys)], store.key_bytes)
 
 
 def numbers():
@@ -226,29 +250,44 @@ def purposes():
     own = keyring.rows_of(STATE)
     fewer = {k: own[k] for k in sorted(own)[1:]}
     new, gone, nothing = store.side_for(1, STATE)[:-1], b"\5" + bytes(8), b"\6\0\0\0"
-    taken = payload_of_import({0xAA: STATE.keys[0xAA]._replace(fpr=b"\x11" * 12 + bytes(7) + b"\xaa")})
+    taken = store.import_payload({0xAA: STATE.keys[0xAA]._replace(fpr=b"\x11" * 12 + bytes(7) + b"\xaa")})
     yield from (("Magic", sides) for sides in ((with_byte(ZERO, 1, 0x58), ONE), (ZERO, with_byte(ONE, 7, 0)), (ZERO, with_byte(ZERO, 3, 0)), (b"", with_byte(ONE, 2, 1))))
     yield from (("SameEpoch", sides) for sides in ((ZERO, ZERO), (ONE, ONE), (with_bit(ZERO, 8 * 100), ZERO), (ZERO, with_number(ONE, 8, 3))))
     yield from (("Short", (side, b"")) for side in (ZERO[:4000], ZERO[:4120], ZERO[:24], with_number(ZERO, 16, 0)[:24], with_number(ZERO, 16, 2), new + b"\xa5", new + b"\xa5\xff\xff\xff\xff\0", new + store.record(gone)))
+    yield from (("SameEpoch", (side, side)) for side in (new + b"\0", store.side_for(2**40, MADE)))
+    yield "Seal", (with_number(store.side_for(1, STATE, [histories.date(1).payload] * 600), 16, 2), b"")
+    yield from (("Seal", sides) for sides in ((with_pages(LONG, LONG, (1, 0)), b""), (with_pages(LONG, store.side_for(2, MADE), (0,)), b"")))
     yield from (("Seal", sides) for sides in ((with_bit(ZERO, 8 * 100), ONE), (with_bit(ZERO, 8 * 4119), ONE), (with_number(ZERO, 8, 5), ONE), (with_bit(store.side_for(4, MADE), 8 * 8000), ONE)))
-    spelled = [with_byte(IMAGE, 8, 0xFF), IMAGE + b"\1", IMAGE + bytes(store.CONTENT), with_byte(IMAGE, 13, 2)]
+    spelled = [with_byte(IMAGE, 8, 0xFF), IMAGE + b"\1", IMAGE + bytes(store.CONTENT), with_byte(IMAGE, 14, 2)]
+    spelled += [with_byte(IMAGE, 8, form) for form in (0, 1, 2, 4)] + [with_byte(IMAGE, 9, rules) for rules in (0, store.RULES + 1, 255)]
     spelled += [store.number(len(IMAGE) - 8 - less, 8) + IMAGE[8:len(IMAGE) - less] for less in (1, 4, 20)]
     yield from (("Spelling", (store.side_of(4, image, [nothing]), ONE)) for image in spelled)
-    yield "Spelling", (with_number(ZERO, 16, 0), ONE)
+    yield from (("Spelling", sides) for sides in ((with_number(ZERO, 16, 0), ONE), (with_number(LONG, 16, 1), b"")))
     yield from (("Row", (with_rows(STATE, fewer, records), b"")) for records in ((), [gone], [nothing], [histories.trust("A", "u").payload]))
     yield "Row", (b"", with_rows(STATE, {}))
     yield "Row", (with_rows(MADE, {k: row._replace(level=row.level + 1) for k, row in keyring.rows_of(MADE).items()}), b"")
-    yield from (("BadPayload", (store.side_for(1, STATE, [histories.date(1).payload, bad, gone]), b"")) for bad in (nothing, b"", b"\xff", b"\0", b"\x09", histories.date(1).payload + b"\0"))
-    yield from (("BadEdit", (store.side_for(1, STATE, [histories.date(1).payload, bad, nothing]), b"")) for bad in (gone, taken, histories.delete("C").payload))
+    date = histories.date(1).payload
+    yield from (("BadPayload", (store.side_for(1, STATE, [date, bad, gone]), b"")) for bad in (nothing, b"", b"\xff", b"\0", b"\x09", b"\x0a", date + b"\0"))
+    yield from (("BadEdit", (store.side_for(1, STATE, [date, bad, nothing]), b"")) for bad in (gone, taken, histories.delete("C").payload))
+
+
+def passed():
+    """Damage that shows a state, with that state: what isn't shown is changed, a page is another store's, and a blank side lies over a side."""
+    other = STATE._replace(trusts={EDIT: (keyring.FULL, False)})
+    yield from ((STATE, (ZERO, with_bit(ONE, 8 * place))) for place in (24, 100, 4119, len(ONE) - 1))
+    yield other, (with_pages(store.side_for(1, STATE), store.side_for(1, other), (0,)), b"")
+    yield from ((keyring.opening(), sides) for sides in ((b"", b""), (bytes(50), bytes(50))))
+    yield store.shown(*STAGES[8]).state, (b"", ONE)
 
 
 FAULTS = ("Magic", "SameEpoch", "Short", "Seal", "Spelling", "Row", "BadPayload", "BadEdit")
-KINDS = (turned, turned_where_it_counts, replaced, cut, exchanged, images, rows, payloads, numbers, bytes_of_any_kind)
+KINDS = (turned, turned_where_it_counts, replaced, cut, exchanged, images, rows, older, payloads, numbers, bytes_of_any_kind)
 
 
 def tries():
     """What is tried, kind after kind: its name, how each is looked at, and all that there are."""
     yield "faults made on purpose", fault, purposes()
+    yield "damage that is not noticed", unnoticed, passed()
     yield "stages of a store", written, range(len(STAGES))
     yield "cuts of a listing", cut_listing, range(len(BLOCK) + 1)
     yield "cuts of a session", cut_session, range(len(SESSION) + 1)
@@ -270,7 +309,7 @@ def some(things, most):
 def batches(check, things):
     """What is taken of a kind, in batches, each with how many there are of it."""
     if not asked.all:
-        yield some(things, asked.sample if check not in (fault, written) else sys.maxsize)
+        yield some(things, asked.sample if check not in (fault, unnoticed, written) else sys.maxsize)
         return
     things = iter(things)
     while batch := list(itertools.islice(things, 1000)):

@@ -1,10 +1,11 @@
 #!/usr/bin/env python3
 """Runs the built program on devices that fail, and looks at the order of its calls.
 
-Standard output on a full device, a folder as standard input, streams that were closed before the run, and the writes and syncs between two
-replies.
+Standard output on a full device, a folder as standard input, streams that were closed before the run, each told by the system's error, and the
+writes and syncs between two replies.
 What the machine has no means for is skipped, and said so.
 """
+import errno
 import itertools
 import os
 import re
@@ -13,7 +14,7 @@ import subprocess
 import sys
 import tempfile
 
-from program import PROGRAM, fingerprint, folder, imported, key, run, short, trust
+from reference.program import PROGRAM, Fault, fault, fingerprint, folder, imported, key, run, short, trust
 
 
 def full_output():
@@ -21,7 +22,7 @@ def full_output():
         return "skipped: no /dev/full"
     with folder() as store, open("/dev/full", "wb") as full:
         done = subprocess.run([PROGRAM], input=b"list\n", stdout=full, stderr=subprocess.PIPE, cwd=store, timeout=60)
-    return "ok" if (done.returncode, done.stderr) == (4, b"wot: write fault\n") else f"FAULT: {done}"
+    return "ok" if (done.returncode, fault(done.stderr)) == (4, Fault(4, "standard output", errno.ENOSPC)) else f"FAULT: {done}"
 
 
 def folder_as_input():
@@ -29,7 +30,7 @@ def folder_as_input():
         here = os.open(store, os.O_RDONLY)
         done = subprocess.run([PROGRAM], stdin=here, capture_output=True, cwd=store, timeout=60)
         os.close(here)
-    return "ok" if (done.returncode, done.stderr, done.stdout) == (3, b"wot: read fault\n", b"") else f"FAULT: {done}"
+    return "ok" if (done.returncode, fault(done.stderr), done.stdout) == (3, Fault(3, "standard input", errno.EISDIR), b"") else f"FAULT: {done}"
 
 
 def usage_makes_nothing():
@@ -52,6 +53,9 @@ RUNS = {
     "an import of a session": (imported(key("A")).encode(), [], b"ok keys 1 kept 0 passed 0\n", b"", 1),
 }
 
+# a stream that was closed is none, until the folder stands in its place
+NO_STREAM = (errno.EBADF, errno.EISDIR)
+
 
 def run_without(closed, given, words, where):
     """A run that begins with these descriptors closed."""
@@ -67,11 +71,11 @@ def without(closed, given, words, told, entries, keys):
         run(trust("A", "u"), where=store)
         done = run_without(closed, given, words, store)
         later = run("export\nlist\n", where=store).stdout
-    status, fault = (3, b"wot: read fault\n") if given and 0 in closed else (4, b"wot: write fault\n") if 1 in closed else (0, b"")
-    wanted = (status, b"" if status else told, b"" if 2 in closed else fault)
+    status, place = (3, "standard input") if given and 0 in closed else (4, "standard output") if 1 in closed else (0, None)
+    is_told = done.stderr == b"" if status == 0 or 2 in closed else fault(done.stderr) in [Fault(status, place, error) for error in NO_STREAM]
     found = (later.partition(b"ok\n")[0], later.count(b"pub:"))
     made = (EXPORTED, 0) if status == 3 else (EXPORTED + entries, keys)
-    return None if ((done.returncode, done.stdout, done.stderr), found) == (wanted, made) else (done, later)
+    return None if ((done.returncode, done.stdout), found) == ((status, b"" if status else told), made) and is_told else (done, later)
 
 
 def bad_store_without(closed, words):

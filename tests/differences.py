@@ -1,7 +1,8 @@
 #!/usr/bin/env python3
 """Makes with gpg the keyrings on which docs/GNUPG.md says that GnuPG's letters are others, and those on which it says that they are the same.
 
-The program reads what gpg prints as it stands. It skips where there is no gpg that can make such a keyring.
+The program reads what gpg prints as it stands. It skips where there is no gpg that can make such a keyring. Some keyrings are made packet by packet,
+since gpg itself makes no such certifications; they need Python's `cryptography`.
 """
 import contextlib
 import os
@@ -9,9 +10,9 @@ import subprocess
 import sys
 import tempfile
 
-import gnupg
-from gnupg import DAY, START, NoGnuPG, gpg, later, letters, records
-from program import folder, run
+from reference import gpg_keys, packets
+from reference.gpg_keys import DAY, START, NoGnuPG, gpg, later, letters, primaries, records
+from reference.program import folder, run
 
 ULTIMATE, FULL, NEVER, UNDEFINED = 6, 5, 3, 2
 
@@ -20,18 +21,18 @@ ULTIMATE, FULL, NEVER, UNDEFINED = 6, 5, 3, 2
 def home():
     """A fresh folder for gpg, in which nothing was made yet."""
     with tempfile.TemporaryDirectory(prefix="wot", ignore_cleanup_errors=True) as folder:
-        os.environ["GNUPGHOME"], gnupg.clock = folder, START
+        os.environ["GNUPGHOME"], gpg_keys.clock = folder, START
         yield
         subprocess.run(["gpgconf", "--kill", "all"], capture_output=True, check=False)
 
 
 def make(count=1, expires="never", host="example.org"):
     """The fingerprints of keys that are made one after the other."""
-    first = len(gnupg.primaries())
+    first = len(primaries())
     for number in range(first, first + count):
         later()
         gpg("--quick-generate-key", f"Key {number} <k{number}@{host}>", "ed25519", "cert", expires)
-    return gnupg.primaries()[first:]
+    return primaries()[first:]
 
 
 def sign(issuer, key, *words):
@@ -47,7 +48,7 @@ def trust_sign(issuer, key, value, depth, domain="", user=1):
 
 def own(**trusts):
     """Sets the ownertrust of each key, by its place in the keyring; gpg has made all of them ultimate."""
-    keys = gnupg.primaries()
+    keys = primaries()
     gpg("--import-ownertrust", given="".join(f"{key}:{trusts.get(f'key{place}', UNDEFINED)}:\n" for place, key in enumerate(keys)))
 
 
@@ -62,16 +63,16 @@ def printed():
 
 def asked_gnupg(number, date=None):
     """GnuPG's letter at a date, or now."""
-    now, gnupg.clock = gnupg.clock, gnupg.clock if date is None else date
+    now, gpg_keys.clock = gpg_keys.clock, gpg_keys.clock if date is None else date
     gpg("--check-trustdb")
     found = letter(gpg("--with-colons", "--fixed-list-mode", "--list-keys"), number)
-    gnupg.clock = now
+    gpg_keys.clock = now
     return found
 
 
 def asked_program(number, date=None):
     """The program's letter at a date, or now, where it reads what gpg prints now."""
-    lines = ["ownertrust", *gpg("--export-ownertrust").splitlines(), ".", f"date {gnupg.clock if date is None else date}"]
+    lines = ["ownertrust", *gpg("--export-ownertrust").splitlines(), ".", f"date {gpg_keys.clock if date is None else date}"]
     done = run("\n".join([*lines, "import", *printed().split("\n"), ".", "list", ""]).encode(errors="surrogateescape"))
     if done.returncode:
         sys.exit(f"differences: the program ended with {done.returncode}, and told {done.stdout[:300]}")
@@ -81,7 +82,7 @@ def asked_program(number, date=None):
 def expiring_key():
     """A key at the second of its expiry."""
     a, b = make() + make(expires="1d")
-    expiry = gnupg.clock + DAY
+    expiry = gpg_keys.clock + DAY
     sign(a, b)
     own(key0=ULTIMATE)
     return [(asked_gnupg(1, date), asked_program(1, date)) for date in (expiry - 1, expiry, expiry + 1)]
@@ -157,7 +158,7 @@ def signed_twice(edit):
     gpg("--import", given=unsigned)
     sign(a, b, "--default-cert-expire", "1d")
     gpg("--import", given=signed)
-    return [(asked_gnupg(1, date), asked_program(1, date)) for date in (gnupg.clock + DAY - 1, gnupg.clock + DAY)]
+    return [(asked_gnupg(1, date), asked_program(1, date)) for date in (gpg_keys.clock + DAY - 1, gpg_keys.clock + DAY)]
 
 
 def certification_that_cannot_be_revoked():
@@ -176,7 +177,7 @@ def next_check():
     own()
     gpg("--check-trustdb")
     listing = printed()
-    told = run("\n".join([f"date {gnupg.clock}", "import", *listing.splitlines(), ".", "list", ""])).stdout.decode()
+    told = run("\n".join([f"date {gpg_keys.clock}", "import", *listing.splitlines(), ".", "list", ""])).stdout.decode()
     due = [[fields[4] for fields in records(text) if fields[0] == "tru"] for text in (listing, told)]
     return [tuple("no" if date == ["0"] else "yes" for date in due)]
 
@@ -201,7 +202,7 @@ def deleted_key():
     with folder() as store:
         for _ in range(2):
             run("\n".join(["ownertrust", *gpg("--export-ownertrust").splitlines(), ".", "import", *printed().splitlines(), ".", ""]), where=store)
-            if b in gnupg.primaries():
+            if b in primaries():
                 gpg("--delete-secret-and-public-key", b)
         listed, exported = (run(f"{command}\n", where=store).stdout.decode() for command in ("list", "export"))
     there = "Key 1 " in printed(), b in gpg("--export-ownertrust")
@@ -212,7 +213,7 @@ def expiring_certification():
     """A certification at the second of its expiry."""
     a, b = make(2)
     sign(a, b, "--default-cert-expire", "1d")
-    expiry = gnupg.clock + DAY
+    expiry = gpg_keys.clock + DAY
     own(key0=ULTIMATE)
     return [(asked_gnupg(1, date), asked_program(1, date)) for date in (expiry - 1, expiry)]
 
@@ -257,6 +258,92 @@ def revoked_owner():
     return [(asked_gnupg(1), asked_program(1))]
 
 
+def chain(domain, host):
+    """An introducer who is trusted for a domain by one who is trusted for another: the letter of a user ID that the former certifies."""
+    a, b, c = make(3)
+    (d,) = make(host=host)
+    trust_sign(a, b, 2, 2, "example.org")
+    trust_sign(b, c, 2, 1, domain)
+    sign(c, d)
+    own(key0=ULTIMATE)
+    return [(asked_gnupg(3), asked_program(3))]
+
+
+def chain_beyond():
+    """An introducer who is trusted for a domain that his own introducer is not trusted for."""
+    return chain("example.net", "example.net")
+
+
+def chain_within():
+    """An introducer who is trusted for a part of his introducer's domain, and a user ID in that part."""
+    return chain("lists.example.org", "lists.example.org")
+
+
+def chain_in_the_first_alone():
+    """The same, and a user ID in the rest of the domain."""
+    return chain("lists.example.org", "example.org")
+
+
+def hand_made(texts, made):
+    """Both letters of the last key of some, which are made packet by packet; the first is ultimately trusted."""
+    if packets.Ed25519PrivateKey is None:
+        raise NoGnuPG("no cryptography for Python")
+    keys = [packets.Key(b"%d" % number, text) for number, text in enumerate(texts)]
+    with tempfile.NamedTemporaryFile() as file:
+        file.write(b"".join(key.block(*made(keys, key)) for key in keys))
+        file.flush()
+        gpg("--import", file.name)
+    gpg("--import-ownertrust", given=f"{keys[0].fingerprint.hex().upper()}:{ULTIMATE}:\n")
+    return [(asked_gnupg(len(keys) - 1), asked_program(len(keys) - 1))]
+
+
+def fingerprint_of_no_key():
+    """A certification that names a fingerprint of which the keyring has no key, and whose key ID is that of its issuer."""
+    def made(keys, key):
+        return [key.signature(keys[0], named=bytes(12) + keys[0].fingerprint[-8:])] if key is keys[1] else []
+    return hand_made(["Key 0 <a>", "Key 1 <b>"], made)
+
+
+def fingerprint_of_another():
+    """A certification that names the fingerprint of another key that is there: gpg checks it with that key, and marks it as bad."""
+    def made(keys, key):
+        return [key.signature(keys[0], named=keys[1].fingerprint)] if key is keys[2] else []
+    return hand_made(["Key 0 <a>", "Key 1 <b>", "Key 2 <c>"], made)
+
+
+def own_fingerprint():
+    """A certification that names its issuer's fingerprint."""
+    def made(keys, key):
+        return [key.signature(keys[0])] if key is keys[1] else []
+    return hand_made(["Key 0 <a>", "Key 1 <b>"], made)
+
+
+def scoped(expression, *texts):
+    """Both letters of these user IDs, each certified by an introducer with this scope."""
+    def made(keys, key):
+        if key is keys[1]:
+            return [key.signature(keys[0], more=packets.trust_signature(1, 120, expression))]
+        return [key.signature(keys[1])] if key is keys[2] else []
+    found = []
+    for text in texts:
+        with home():
+            found += hand_made(["Key 0 <a>", "Key 1 <b>", f"Key 2 {text}"], made)
+    return found
+
+
+def expressions():
+    """Regular expressions that gpg does not write, each with a user ID that matches it and one that doesn't."""
+    return [
+        *scoped(r"@(a|b)\.org>", "<c@b.org>", "<c@c.org>"), *scoped(r"\.example\.com$", "c@lists.example.com", "<c@lists.example.com>"),
+        *scoped(".*", "<c@example.org>"), *scoped("^key 2", "<c@example.org>"), *scoped("(x", "(x <c@example.org>"),
+    ]
+
+
+def unescaped_dot():
+    """A domain whose dot is not escaped."""
+    return scoped("<[^>]+[@.]example.org>$", "<c@example.org>", "<c@exampleXorg>", "<c@example.net>")
+
+
 # what is compared, and what GnuPG and the program answer, each at one date or at some
 DIFFERENT = {
     expiring_key: [("f", "f"), ("f", "e"), ("e", "e")],
@@ -269,6 +356,9 @@ DIFFERENT = {
     ownertrust_field: [("f", "-")],
     deleted_key: [("gone", "f"), ("gone", "f")],
     certification_that_cannot_be_revoked: [("f", "f"), ("f", "-")],
+    chain_beyond: [("f", "-")],
+    fingerprint_of_no_key: [("f", "-")],
+    expressions: [("-", "f"), ("-", "-"), ("-", "f"), ("-", "-"), ("-", "f"), ("-", "f"), ("f", "-")],
 }
 SAME = {
     expiring_certification: [("f", "f"), ("-", "-")],
@@ -277,6 +367,11 @@ SAME = {
     never_lifted: [("f", "f")],
     expired_owner: [("-", "-")],
     revoked_owner: [("-", "-")],
+    chain_within: [("f", "f")],
+    chain_in_the_first_alone: [("-", "-")],
+    own_fingerprint: [("f", "f")],
+    fingerprint_of_another: [("-", "-")],
+    unescaped_dot: [("f", "f"), ("f", "f"), ("-", "-")],
 }
 
 if __name__ == "__main__":

@@ -2,11 +2,13 @@
 """Lets the disk fail under the built program: at each call that it makes, where a file may grow no more, on a full disk, and where a file of the
 store can't be opened, is something else or can't be written.
 
-Each run ends with the status of what failed. What it leaves is then opened on a disk that is well: a second reader of the files and the program find
-the same, the store after all steps whose `ok` was told, or after one more. What the machine has no means for is skipped, and said so.
+Each run ends with the status of what failed, and tells on what the call was made and the system's error. What it leaves is then opened on a disk
+that is well: a second reader of the files and the program find the same, the store after all steps whose `ok` was told, or after one more. What the
+machine has no means for is skipped, and said so.
 """
 import collections
 import contextlib
+import errno
 import os
 import pwd
 import re
@@ -18,11 +20,10 @@ import subprocess
 import sys
 import tempfile
 
-import histories
-import store
-from histories import ASKED, COMPACT, NEW
-from keyring import Options
-from program import PROGRAM, by, folder, key, run, short
+from reference import histories, store
+from reference.histories import ASKED, COMPACT, NEW
+from reference.keyring import Options
+from reference.program import PROGRAM, by, fault, folder, key, run, short
 
 STEPS = [
     histories.trust("A", "u"), histories.keys(key("A"), key("B", "A")), COMPACT, histories.trust("B", "f"), histories.sample(7, 30), COMPACT,
@@ -30,7 +31,8 @@ STEPS = [
 ]
 SESSION = "".join(step.given for step in STEPS).encode()
 REACHED = histories.states(NEW, STEPS)
-FAULTS = {0: b"", 3: b"wot: read fault\n", 4: b"wot: write fault\n", 5: b"wot: disk fault\n"}
+STREAMS = {0: "standard input", 1: "standard output"}
+PLACES = {"standard input": 3, "standard output": 4, "the current folder": 5, "wot.0": 5, "wot.1": 5}
 
 
 class Differs(Exception):
@@ -53,45 +55,62 @@ def kept(sides, told, reached=tuple(REACHED)):
     found, count = store.shown(*sides), histories.acknowledged(told)
     places = [place for place in (count, count + 1) if place < len(reached) and reached[place] == found]
     need(places, count, "steps are acknowledged, and a second reader finds", found)
-    with folder() as well:
-        store.write_sides(well, sides)
-        done = run(ASKED, where=well)
+    with folder() as other:
+        store.write_sides(other, sides)
+        done = run(ASKED, where=other)
     need((done.returncode, done.stdout, done.stderr) == (0, histories.shows(found.state), b""), count, "steps are acknowledged, and the program tells", done)
     return places[0]
 
 
-def ended(status, done):
-    need((done[0], done[2]) == (status, FAULTS[status]), "ended as", done, "in place of", status)
+def well(done):
+    need((done[0], done[2]) == (0, b""), "ended as", done, "in place of well")
 
 
-CALL = re.compile(r'^\d+ +(\w+)\((?:AT_FDCWD, "([^"]*)"|(\d+))')
-ERRORS = {"openat": "EACCES", "flock": "EAGAIN", "write": "ENOSPC"}
+def failed(done, error=None, places=store.NAMES):
+    """Where a run ended for a call on one of these places, with this error of the system."""
+    told = fault(done[2])
+    need(told and told.place in places and (done[0], told.status) == (PLACES[told.place],) * 2, "ended as", done, "in place of a fault of", places)
+    need(told.error == error if error else told.error, "ended by", done, "in place of", error)
+
+
+def ended(done, error, places=store.NAMES):
+    """Where a run came to its end, or failed so."""
+    if done[0]:
+        failed(done, error, places)
+    else:
+        well(done)
+
+
+CALL = re.compile(r'^\d+ +(\w+)\((?:AT_FDCWD, "([^"]*)"|(\d+)).* = (-?\d+)')
+ERRORS = {"openat": errno.EACCES, "flock": errno.EAGAIN, "write": errno.ENOSPC}
 
 
 def failing(name, number, error, where, log):
     """The session with one call failing."""
-    traced = ["strace", "-f", "-o", log, "-e", f"trace={name}", "-e", f"inject={name}:error={error}:when={number}"]
+    traced = ["strace", "-f", "-o", log, "-e", f"trace={name}", "-e", f"inject={name}:error={errno.errorcode[error]}:when={number}"]
     return session(where, front=traced)
 
 
 def calls_of_a_session():
-    """The calls of the session from the first on a file on: the name, the number among those of this name, and what it is on."""
-    counts, found, begun = collections.Counter(), [], False
+    """The calls of the session from the first on a file on: the name, the number among those of this name, and what it is on, as it is told."""
+    counts, found, begun, places = collections.Counter(), [], False, dict(STREAMS)
     with folder() as where, tempfile.NamedTemporaryFile() as log:
-        ended(0, session(where, front=["strace", "-f", "-o", log.name, "-e", "trace=openat,flock,fsync,fdatasync,fstat,newfstatat,statx,lseek,read,write"]))
+        well(session(where, front=["strace", "-f", "-o", log.name, "-e", "trace=openat,flock,fsync,fdatasync,fstat,newfstatat,statx,lseek,read,write"]))
         for line in log.read().decode(errors="replace").splitlines():
             call = CALL.match(line)
             if call:
-                name, path, on = call.groups()
+                name, path, on, result = call.groups()
                 counts[name] += 1
                 begun = begun or path == "."
+                if path:
+                    places[int(result)] = "the current folder" if path == "." else path
                 if begun:
-                    found.append((name, counts[name], path or int(on)))
+                    found.append((name, counts[name], places[int(result if path else on)]))
     return found
 
 
 def each_call():
-    """Each call fails once: the status is that of what it is on."""
+    """Each call fails once: the status and the reason are those of what it is on."""
     if not shutil.which("strace"):
         return "skipped: no strace"
     try:
@@ -101,21 +120,21 @@ def each_call():
     statuses = collections.Counter()
     with tempfile.NamedTemporaryFile() as log:
         for name, number, on in calls:
-            status = {0: 3, 1: 4}.get(on, 5)
+            error = ERRORS.get(name, errno.EIO)
             with folder() as where:
-                done = failing(name, number, ERRORS.get(name, "EIO"), where, log.name)
+                done = failing(name, number, error, where, log.name)
                 sides = store.read_sides(where)
             try:
-                ended(status, done)
+                failed(done, error, [on])
                 kept(sides, done[1])
             except Differs as differs:
                 raise Differs(f"{name} number {number}, on {on}: {differs}") from None
-            statuses[status] += 1
-        interrupted = [call for call in calls if call[2] in (0, 1)]
+            statuses[done[0]] += 1
+        interrupted = [call for call in calls if call[2] in STREAMS.values()]
         for name, number, on in interrupted:
             with folder() as where:
-                done = failing(name, number, "EINTR", where, log.name)
-            ended(0, done)
+                done = failing(name, number, errno.EINTR, where, log.name)
+            well(done)
     return f"ok, {len(calls)} calls: " + ", ".join(f"{count} end with {status}" for status, count in sorted(statuses.items())) + f"; {len(interrupted)} interrupted"
 
 
@@ -145,7 +164,7 @@ def files_that_may_not_grow():
             done = session(where, limited(size))
             sides = store.read_sides(where)
             need(max(map(len, sides)) <= size, size, "bytes may be written, and", max(map(len, sides)), "are")
-        ended(0 if done[0] == 0 else 5, done)
+        ended(done, errno.EFBIG)
         need(done[0] or histories.acknowledged(done[1]) == len(STEPS), "the run has not told all:", done)
         counts.append(kept(sides, done[1]))
     need(counts[0] == 0 and counts[-1] == len(STEPS), "the limits are not those of the session", counts)
@@ -175,16 +194,16 @@ def full_disks():
         for blocks in range(1, 12):
             with disk(f"size={4 * blocks}k") as where:
                 done = session(where)
-                ended(5 if done[0] else 0, done)
+                ended(done, errno.ENOSPC)
                 counts.append(kept(store.read_sides(where), done[1]))
-        for names in (1, 2):
+        for names, name in ((1, "wot.0"), (2, "wot.1")):
             with disk(f"nr_inodes={names}") as where:
-                ended(5, session(where))
+                failed(session(where), errno.ENOSPC, [name])
                 need(store.read_sides(where) == (b"", b""), "something was written")
         many = [histories.trust("%02X" % n, "qnmfu"[n % 5]) for n in range(256)] * 9
         with disk("size=60k") as where:
             done = session(where, given="".join(step.given for step in many).encode())
-            ended(5, done)
+            failed(done, errno.ENOSPC)
             last = kept(store.read_sides(where), done[1], histories.states(NEW, many))
     except NoDisk:
         return "skipped: no disk can be mounted"
@@ -201,7 +220,7 @@ def output_on_a_full_disk():
                 with open(os.path.join(small, "told"), "wb+") as told:
                     told.write(bytes(4096 - room))
                     told.flush()
-                    ended(4, session(where, told=told, given="".join(step.given for step in edits).encode()))
+                    failed(session(where, told=told, given="".join(step.given for step in edits).encode()), errno.ENOSPC, ["standard output"])
                     told.seek(4096 - room)
                     kept(store.read_sides(where), told.read(), histories.states(NEW, edits))
     except NoDisk:
@@ -247,7 +266,7 @@ def files_of_another():
                 os.chmod(os.path.join(where, name), bits)
             for given in (SESSION, b"list\n"):
                 done = as_nobody(where, given)
-                ended(5, done)
+                failed(done, errno.EACCES, [next(name for name, bits in zip(store.NAMES, mode) if bits != 0o666)])
                 need(done[1] == b"", "told", done[1])
             stays(where, sides, mode)
     for name in (None, *store.NAMES):
@@ -257,7 +276,7 @@ def files_of_another():
                     pass
                 os.chmod(os.path.join(where, name), 0o666)
             os.chmod(where, 0o755)
-            ended(5, as_nobody(where))
+            failed(as_nobody(where), errno.EACCES, [next(one for one in store.NAMES if one != name)])
             need(os.listdir(where) == [one for one in (name,) if one], "files were made", os.listdir(where))
     with folder() as where:
         sides = old_store(where)
@@ -265,9 +284,16 @@ def files_of_another():
         for name in store.NAMES:
             os.chmod(os.path.join(where, name), 0o666)
         done = as_nobody(where, STEPS[4].given.encode())
-        ended(0, done)
+        well(done)
         kept(store.read_sides(where), b"ok\n" * 4 + done[1])
     return f"ok, {len(modes)} pairs of rights, and folders that hold no more"
+
+
+# the error with which such a thing is not opened; another is, and fails later
+OPENED = {
+    "a folder": errno.EISDIR, "a link to itself": errno.ELOOP, "a link into no folder": errno.ENOENT, "a folder elsewhere": errno.EISDIR,
+    "a link to /dev/tty": errno.ENXIO,
+}
 
 
 def things_that_are_no_files():
@@ -287,7 +313,8 @@ def things_that_are_no_files():
                 os.unlink(path)
                 make(path)
                 done = session(where, given=b"list\n", start_new_session=True)
-                need(done[0] == 5 and done[1:] == (b"", FAULTS[5]), kind, "as", name, done)
+                need(done[1] == b"", kind, "as", name, done)
+                failed(done, OPENED.get(kind), [name] if kind in OPENED else store.NAMES)
                 left = store.read_file(os.path.join(where, other))
                 need(left == sides[store.NAMES.index(other)], kind, "the other file was changed")
                 need(not stat.S_ISREG(os.lstat(path).st_mode), kind, "is a file now")
@@ -303,7 +330,7 @@ def disks_that_are_read_only():
             if subprocess.run(["mount", "-o", "remount,ro", where], capture_output=True, check=False).returncode:
                 return "skipped: no disk can be mounted again"
             for given in (SESSION, b"list\n"):
-                ended(5, session(where, given=given))
+                failed(session(where, given=given), errno.EROFS, ["wot.0"])
             stays(where, sides, "read only")
     except NoDisk:
         return "skipped: no disk can be mounted"
@@ -321,7 +348,7 @@ def no_descriptors():
             done = session(where, limits_of(count), given=b"list\n")
             # below, the system can't load the program
             if done[0] != 127:
-                ended(5 if done[0] else 0, done)
+                ended(done, errno.EMFILE, ["the current folder", *store.NAMES])
                 found.append(done[0])
             stays(where, sides, count)
     need(5 in found and found[-1] == 0, "the limits are not those of a run", found)

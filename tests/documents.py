@@ -1,8 +1,10 @@
 #!/usr/bin/env python3
-"""Looks at the documents: links lead somewhere, a block of shell that an output follows prints it, the man page names what the manual does,
-the picture of the crates is that of crates.txt, and the definitions and files that are named stand where it is said.
+"""Looks at the documents: links lead somewhere, a block of shell that an output follows prints it, the man page names what the manual does and
+has the number of the newest change, the picture and the table of the rooms are those of crates.txt, no room stands on a higher one, the list of
+definitions is the one that docs/definitions.py makes, each script of the tests is run and told of, and the definitions and files that are named stand
+where it is said.
 
-The man page is also read by mandoc or by man, where there is one.
+The man pages are also read by mandoc or by man, where there is one.
 """
 import os
 import pathlib
@@ -11,10 +13,10 @@ import shutil
 import subprocess
 import sys
 
-from program import PROGRAM, folder
+from reference.program import PROGRAM, folder
 
 TOP = pathlib.Path(__file__).resolve().parent.parent
-DOCUMENTS = sorted([*TOP.glob("*.md"), *TOP.glob("docs/*.md"), *TOP.glob("bench/*.md"), *TOP.glob("examples/**/README.md")])
+DOCUMENTS = sorted([*TOP.glob("*.md"), *TOP.glob("docs/**/*.md"), *TOP.glob("bench/*.md"), *TOP.glob("tests/*.md"), *TOP.glob("examples/**/README.md")])
 FENCED = re.compile(r"^```.*?^```$", re.M | re.S)
 LINK = re.compile(r"\]\(([^)\s]+)\)")
 SESSION = re.compile(r"^```sh\n((?:(?!```).*\n)*)```\n\n```\n((?:(?!```).*\n)*)```$", re.M)
@@ -82,10 +84,18 @@ def man_page():
 
 
 def crates():
-    """The picture of the crates is drawn from crates.txt as it is."""
-    drawn = subprocess.run([sys.executable, TOP / "docs" / "crates.py"], capture_output=True, text=True, timeout=60, check=True).stdout
-    is_same = drawn == (TOP / "docs" / "crates.svg").read_text(encoding="utf-8")
-    return "the picture of the crates", [] if is_same else ["docs/crates.svg: not what docs/crates.py draws of crates.txt"]
+    """The picture of the rooms is drawn from crates.txt as it is, no room stands on a higher one, and the table has them in that order."""
+    done = subprocess.run([sys.executable, TOP / "docs" / "crates.py"], capture_output=True, text=True, timeout=60, check=False)
+    wrong = done.stderr.splitlines()
+    if not wrong and done.stdout != (TOP / "docs" / "crates.svg").read_text(encoding="utf-8"):
+        wrong.append("docs/crates.svg: not what docs/crates.py draws of crates.txt")
+    text = (TOP / "docs" / "ARCHITECTURE.md").read_text(encoding="utf-8").split("| Room | Crate ")[1].split("\n\n")[0]
+    cells = [line.split(" | ")[:2] for line in text.splitlines()[2:]]
+    told = [word for room, names in cells for word in [room.strip("| "), *re.findall(r"`(\w+)`", names)] if word]
+    kept = [word for line in (TOP / "crates.txt").read_text(encoding="utf-8").splitlines() for word in re.findall(r"^(?:# )?(\w+):", line)]
+    kept = [word for word in kept if not re.search(r"_(tests|examples)$", word)]
+    wrong += [] if told == kept else [f"docs/ARCHITECTURE.md: the rooms are not those of crates.txt: {next((pair for pair in zip(told, kept) if pair[0] != pair[1]), 'at the end')}"]
+    return "the picture and the table of the rooms", wrong
 
 
 def definitions():
@@ -104,6 +114,13 @@ def definitions():
     return f"{count} definitions", wrong
 
 
+def index():
+    """The list of the definitions is the one that docs/definitions.py makes."""
+    made = subprocess.run([sys.executable, TOP / "docs" / "definitions.py"], capture_output=True, text=True, timeout=60, check=True).stdout
+    is_same = made == (TOP / "docs" / "DEFINITIONS.md").read_text(encoding="utf-8")
+    return "the list of definitions", [] if is_same else ["docs/DEFINITIONS.md: not what docs/definitions.py makes of crates/*/specs"]
+
+
 def places():
     """The files that the table of places to change names are there, each in a crate of its cell, with what is named behind it."""
     count, wrong = 0, []
@@ -120,20 +137,39 @@ def places():
     return f"{count} places", wrong
 
 
+def scripts():
+    """The gate runs each script of the tests, and their table has a row for each; so has that of the libraries."""
+    parts = (TOP / "tests" / "README.md").read_text(encoding="utf-8").split("## The second reading")
+    told, libraries = (set(re.findall(r"`(\w+)\.py`", "\n".join(re.findall(r"^\| (.*?) \|", part, re.M)))) for part in parts)
+    run = set(re.search(r"^for check in (.*); do$", (TOP / ".ci" / "run").read_text(encoding="utf-8"), re.M)[1].split())
+    there, below = ({path.stem for path in TOP.glob(f"tests/{part}")} for part in ("*.py", "reference/*.py"))
+    wrong = [f"tests/README.md: {name}.py is not in the table and there" for name in sorted((told ^ there) | (libraries ^ below))]
+    return f"{len(there)} scripts", wrong + [f".ci/run: {name}.py is not run, or not there" for name in sorted(run ^ there)]
+
+
+def number():
+    """The man page has the number and the date of the newest change."""
+    newest, date = re.search(r"^## ([\d.]+) \(([\d-]+)\)", (TOP / "CHANGELOG.md").read_text(encoding="utf-8"), re.M).groups()
+    is_same = (TOP / "docs" / "wot.1").read_text(encoding="utf-8").startswith(f'.TH WOT 1 {date} "wot {newest}" ')
+    return f"number {newest}", [] if is_same else [f"docs/wot.1: not of {date} and wot {newest}, as CHANGELOG.md is"]
+
+
 def man_is_read():
-    """The man page has no warnings."""
-    page = str(TOP / "docs" / "wot.1")
+    """The man pages have no warnings."""
+    pages = [str(TOP / "docs" / page) for page in ("wot.1", "gpg-wot.1")]
     if shutil.which("mandoc"):
-        done = subprocess.run(["mandoc", "-T", "lint", "-W", "warning", page], capture_output=True, text=True, timeout=60, check=False)
+        done = subprocess.run(["mandoc", "-T", "lint", "-W", "warning", *pages], capture_output=True, text=True, timeout=60, check=False)
         return "read by mandoc", done.stdout.splitlines()
     if shutil.which("man") and shutil.which("groff"):
-        done = subprocess.run(["man", "--warnings", "-Tutf8", "-Z", "-l", page], capture_output=True, text=True, timeout=60, check=False)
+        done = subprocess.run(["man", "--warnings", "-Tutf8", "-Z", "-l", *pages], capture_output=True, text=True, timeout=60, check=False)
         return "read by man", done.stderr.splitlines()
     return "not read: no mandoc and no man", []
 
 
 if __name__ == "__main__":
-    found = [check() for check in (dead_links, sessions, first_session, crates, definitions, places, man_page, man_is_read)]
+    found = [check() for check in (
+        dead_links, sessions, first_session, crates, definitions, index, places, scripts, man_page, number, man_is_read,
+    )]
     wrong = [line for _, lines in found for line in lines]
     if wrong:
         sys.exit("\n".join(["documents:", *wrong]))

@@ -2,9 +2,9 @@
 """Makes edits of all kinds at random in sessions on small keyrings, and recounts each state from nothing.
 
 edits.py PROGRAM [--time SECONDS] [--edits NUMBER] [--seed NUMBER]: sessions are made until the time is over or there were so many edits. After
-each edit, and each `compact` between them, the state, as `sigs` and `export` print it, is given to another process with an empty store, and what
-`list`, `sigs`, `export`, `check` and some `why` tell there is compared. A session's store is reopened too. The first difference ends the check
-and leaves the session's commands in a file.
+each edit, and each `compact` between them, the state, as `sigs` and `export` print it, is given to another process with an empty store and to a second
+reading of the rules, and what `list`, `sigs`, `export`, `check` and some `why` tell is compared with both. A session's store is reopened too. The first
+difference ends the check and leaves the session's commands in a file.
 """
 import argparse
 import os
@@ -14,14 +14,15 @@ import tempfile
 import time
 from concurrent.futures import ThreadPoolExecutor
 
-from program import folder, run
+from reference import histories, keyring
+from reference.program import folder, run
 
 # no store here has to outlive a stop of the machine; a session that is left may
 KEPT = tempfile.gettempdir()
 tempfile.tempdir = "/dev/shm" if os.path.isdir("/dev/shm") else None
 NAMES, EDITS = 12, 40
 DATES = (1000, 1002, 1003, 1004, 1005)
-SCOPES = ("", "", "", "<[^>]+[@.]a\\x5c.example>$", "<[^>]+[@.]example>$", "a.example")
+SCOPES = ("", "", "", "", "<[^>]+[@.]a\\x5c.example>$", "<[^>]+[@.]example>$", "a.example", "(0|1)@[^b]", "[ab]\\x5c.example>$", "a**")
 
 
 def fingerprint(name, other=False):
@@ -35,7 +36,9 @@ class Edits:
 
     def __init__(self, chance):
         self.chance = chance
-        self.date, self.options = 0, "pgp 1 3 5 2"
+        self.date, self.options = 0, keyring.Options()
+        # from the second key on, which is the user's own, each up to this one delegates to the next
+        self.chain = chance.choice((0, 3, 4, 5, 6, 7))
 
     def name(self):
         return self.chance.randrange(1, NAMES + 1)
@@ -44,18 +47,30 @@ class Edits:
         return self.chance.choice((*[""] * 30, *DATES))
 
     def certification(self, name):
-        issuer = self.chance.choice((1, 2, self.name(), self.name()))
-        record, kind = self.chance.choice((*[("sig", "1" + c + x) for c in "0123" for x in "xl"], ("sig", "13x"), ("rev", "30x")))
-        trusts = self.chance.choice(("", "", "1 120", "1 60", "2 120", "3 60", "2 30"))
-        made = self.chance.randrange(1, 5)
-        return f"{record}:!:::{issuer:016X}:{made}:{self.expiry()}:{trusts}:{self.chance.choice(SCOPES) if trusts else ''}::{kind}:\n"
+        is_linked = 2 < name <= self.chain and self.chance.random() < 0.9
+        issuer = self.chance.randrange(name, NAMES + 1) if is_linked else self.chance.choice((1, 2, self.name(), self.name()))
+        record, kind = self.chance.choice((*[("sig", "1" + c + x) for c in "01233" for x in "xl"], ("rev", "30x")))
+        trusts = self.chance.choice(("", "", "1 120", "1 60", "2 120", "3 60", "2 30", "6 120"))
+        return self.line(issuer, self.chance.randrange(1, 5), trusts, record, kind)
+
+    def line(self, issuer, made, trusts, record="sig", kind="13x", scopes=SCOPES):
+        """A certification with a scope where it is a trust signature, which may name its issuer's fingerprint, or another's."""
+        scope = self.chance.choice(scopes) if trusts else ""
+        own, others = fingerprint(issuer), (fingerprint(issuer, other=True), fingerprint(self.name()))
+        named = self.chance.choice((*[""] * 6, *[own] * 4, *others))
+        return f"{record}:!:::{issuer:016X}:{made}:{self.expiry()}:{trusts}:{scope}::{kind}:" + (f":{named}:" if named else "") + "\n"
 
     def key(self, name):
-        revoked = self.chance.choice("-------r")
-        lines = [f"pub:{revoked}:255:22:{name:016X}:1:{self.expiry()}::-:::scSC:\n", f"fpr:::::::::{fingerprint(name, self.chance.random() < 0.03)}:\n"]
-        for user in range(self.chance.choice((1, 1, 1, 2, 0))):
-            lines.append(f"uid:{self.chance.choice('------r')}::::1:{self.expiry()}:::K {name} <{user}@{self.chance.choice('ab')}.example>:\n")
-            lines += [self.certification(name) for _ in range(self.chance.randrange(5))]
+        # those on whom the others rest are mostly live
+        is_steady = name <= max(2, self.chain) and self.chance.random() < 0.8
+        revoked, expires = ("-", "") if is_steady else (self.chance.choice("-" * 15 + "r"), self.expiry())
+        lines = [f"pub:{revoked}:255:22:{name:016X}:1:{expires}::-:::scSC:\n", f"fpr:::::::::{fingerprint(name, self.chance.random() < 0.03)}:\n"]
+        for user in range(self.chance.choice((1, 1, 1, 2) if is_steady else (1, 1, 1, 2, 0))):
+            revoked, expires = ("-", "") if is_steady else (self.chance.choice("-" * 15 + "r"), self.expiry())
+            lines.append(f"uid:{revoked}::::1:{expires}:::K {name} <{user}@{self.chance.choice('ab')}.example>:\n")
+            lines += [self.certification(name) for _ in range(self.chance.choice((0, 2, 4, 6)))]
+            if 2 < name <= self.chain and self.chance.random() < 0.9:
+                lines.append(self.line(name - 1, 5, f"{self.chain + 2 - name} 120", scopes=("",) * 8 + SCOPES))
         return "".join(lines)
 
     def imported(self):
@@ -91,9 +106,9 @@ class Edits:
             self.date = self.chance.choice((0, *DATES * 2, 2**32 - 1))
             return f"date {self.date}\n"
         if kind < 0.97:
-            depth = self.chance.choice((1, 2, 3, 5, 255))
-            self.options = f"{self.chance.choice(('pgp', 'pgp', 'classic'))} {self.chance.choice((1, 1, 2))} {self.chance.choice((2, 3))} {depth} {self.chance.choice((1, 2, 3))}"
-            return f"options {self.options}\n"
+            ranges = ((True, True, False), (1, 1, 2), (2, 3), (1, 2, 3, 5, 5, 7, 7, 255), (1, 2, 3))
+            self.options = keyring.Options(*map(self.chance.choice, ranges))
+            return histories.options(self.options).given
         return f"sample {self.chance.choice((7, 8))} {self.chance.randrange(1, 13)}\n"
 
     def questions(self):
@@ -113,8 +128,21 @@ def replies(told):
 
 def recounted(date, options, sigs, export, questions):
     """The replies of an empty store to which the state is given, ownertrust first; and those that are wanted."""
-    given = f"ownertrust\n{export.removesuffix('ok' + chr(10))}.\nimport\n{sigs.removesuffix('ok' + chr(10))}.\noptions {options}\ndate {date}\n"
+    given = f"ownertrust\n{export.removesuffix('ok' + chr(10))}.\nimport\n{sigs.removesuffix('ok' + chr(10))}.\n"
+    given += histories.options(options).given + histories.date(date).given
     return replies(run(given + "sigs\nexport\n" + questions).stdout)[4:]
+
+
+def read_again(date, options, sigs, export, questions):
+    """The replies of a second reading of the rules on the same state."""
+    state = histories.printed(sigs.encode(), export.encode(), date, options)
+    rows, found = keyring.rows_of(state), [keyring.sigs(state) + b"ok\n", keyring.export(state) + b"ok\n"]
+    for command, *words in map(str.split, questions.splitlines()):
+        if command == "why":
+            found.append(keyring.why(state, rows, bytes.fromhex(words[0]), int(words[1])))
+        else:
+            found.append((keyring.tally(state) if command == "check" else keyring.listed(state)) + b"ok\n")
+    return [reply.decode() for reply in found]
 
 
 def session(seed, pool):
@@ -135,6 +163,9 @@ def session(seed, pool):
     groups = [told[i * count : (i + 1) * count] for i in range(EDITS)]
     counted = pool.map(lambda both: recounted(*both[0][:2], both[1][1], both[1][2], both[0][2]), zip(states, groups))
     wrong = [(f"after edit {i + 1}", group[1:], wanted) for i, (group, wanted) in enumerate(zip(groups, counted)) if group[1:] != wanted]
+    for number, (state, group) in enumerate(zip(states, groups), 1):
+        wanted = read_again(*state[:2], *group[1:3], state[2])
+        wrong += [(f"after edit {number}, by a second reading", group[1:], wanted)] if group[1:] != wanted else []
     if again != groups[-1][1:]:
         wrong.append(("reopened", again, groups[-1][1:]))
     refused = sum(group[0].startswith("err") for group in groups)
@@ -167,7 +198,7 @@ def main():
             compactions += sum(command.startswith("compact\n") for command in commands)
     print(
         f"edits: {sessions * EDITS} edits at random in {sessions} sessions from seed {asked.seed}, {compactions} of them compactions and {refusals} refused: "
-        f"each state has the letters that it has when counted from nothing, and {explained} explanations the same introducers and counts"
+        f"each state has the letters that it has when counted from nothing and by a second reading, and {explained} explanations the same introducers and counts"
     )
 
 

@@ -1,17 +1,18 @@
 #!/usr/bin/env python3
 """Recounts letters outside the program's own explanation, over a keyring made at random and over the one that `sample` makes.
 
-For some user IDs the cut keyring is made from what `why` and `sigs` print, imported into an empty store with the same ownertrust, date
-and options, and the letter there is compared with the letter in the whole.
+For some user IDs the reply to `why` is compared with a second reading's, and the cut keyring is made from what `why` and `sigs` print, imported into
+an empty store with the same ownertrust, date and options, and the letter there is compared with the letter in the whole.
 """
 import random
 import sys
 
-from program import folder, run
+from reference import histories, keyring
+from reference.program import folder, run
 
 KEYS, ASKED = 300, 40
 chance = random.Random(17)
-SETTINGS = "date 5000\noptions pgp 1 2 40 1\n"
+AT_RANDOM, MADE = (5000, keyring.Options(marginals=2, depth=40, level=1)), (1750000000, keyring.Options())
 
 
 def fingerprint(number):
@@ -30,10 +31,11 @@ def certification(number):
     record, kind = ("rev", "30x") if chance.random() < 0.05 else ("sig", chance.choice(["10x", "13x", "13l"]))
     trusts, scope = "", ""
     if record == "sig" and chance.random() < 0.3:
-        trusts = f"{chance.choice([1, 2, 3])} {chance.choice([60, 120])}"
-        scope = chance.choice(["", "", "<[^>]+[@.]d1\\x5c.example>$"])
+        trusts = f"{chance.choice([1, 2, 3, 6])} {chance.choice([60, 120])}"
+        scope = chance.choice(["", "", "<[^>]+[@.]d1\\x5c.example>$", "@d[^0]", "k[0-9]+@d(1|2)"])
     expires = chance.choice(["", "", "", "", 4000, 9000])
-    return f"{record}:!:::{key_id(issuer)}:{chance.randrange(1000, 5000)}:{expires}:{trusts}:{scope}::{kind}:\n"
+    named = chance.choice(["", "", f":{fingerprint(issuer)}:", f":{fingerprint(issuer)}:", f":{fingerprint(number)}:"])
+    return f"{record}:!:::{key_id(issuer)}:{chance.randrange(1000, 5000)}:{expires}:{trusts}:{scope}::{kind}:{named}\n"
 
 
 def key(number):
@@ -78,18 +80,23 @@ def cut(sigs, kept, explained):
 
 def explained(name, settings, begun):
     """Asks for some user IDs of a keyring that these commands make, and recounts each on the keyring that is cut down to its explanation."""
-    seen, sizes = {}, []
+    seen, sizes, set_up = {}, [], "".join(step.given for step in (histories.date(settings[0]), histories.options(settings[1])))
     with folder() as store:
-        assert run(settings + begun, where=store).returncode == 0
-        sigs = blocks(run("sigs\n", where=store).stdout.decode())
-        ownertrust = "ownertrust\n" + run("export\n", where=store).stdout.decode()[: -len("ok\n")] + ".\n"
+        assert run(set_up + begun, where=store).returncode == 0
+        printed, exported = (run(f"{command}\n", where=store).stdout for command in ("sigs", "export"))
+        state = histories.printed(printed, exported, *settings)
+        sigs, rows = blocks(printed.decode()), keyring.rows_of(state)
+        ownertrust = "ownertrust\n" + exported.decode()[: -len("ok\n")] + ".\n"
         users = [(key, fingerprint, place) for key, (fingerprint, lines) in sigs.items() for place in range(1, len(letters(lines)) + 1)]
         for key, fingerprint, place in chance.sample(users, ASKED):
             told = run(f"why {fingerprint} {place}\n", where=store).stdout.decode()
+            again = keyring.why(state, rows, bytes.fromhex(fingerprint), place).decode()
+            if told != again:
+                sys.exit(f"explanations: {name}: why {fingerprint} {place} told\n{told}in place of\n{again}")
             lines = [line.split(":") for line in told.splitlines()]
             kept = {line[1] for line in lines if line[0] == "row"}
             wanted = letters(sigs[key][1])[place - 1]
-            there = run(settings + ownertrust + "import\n" + cut(sigs, kept, key) + ".\nlist\n").stdout.decode()
+            there = run(set_up + ownertrust + "import\n" + cut(sigs, kept, key) + ".\nlist\n").stdout.decode()
             found = letters(blocks(there)[key][1])[place - 1]
             if not lines[0][1] == lines[-2][1] == wanted == found or lines[-2][0] != "cut":
                 sys.exit(f"explanations: {name}: user ID {place} of {key} is {wanted}, and {found} on the cut keyring; why told\n{told}")
@@ -99,8 +106,8 @@ def explained(name, settings, begun):
 
 
 ownertrust_block = "ownertrust\n" + "".join(entry(n) for n in range(1, KEYS + 1)) + ".\n"
-explained("keys at random", SETTINGS, ownertrust_block + "import\n" + "".join(key(n) for n in range(1, KEYS + 1)) + ".\n")
+explained("keys at random", AT_RANDOM, ownertrust_block + "import\n" + "".join(key(n) for n in range(1, KEYS + 1)) + ".\n")
 if run("sample 7 1\n").stdout == b"err unknown-command\n":
     print("explanations: made keys: skipped: no command sample")
 else:
-    explained("made keys", "date 1750000000\n", f"sample 7 {KEYS}\n")
+    explained("made keys", MADE, f"sample 7 {KEYS}\n")

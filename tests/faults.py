@@ -6,8 +6,8 @@ by its line and its fault.
 """
 import os
 
-import store
-from program import fingerprint, folder, key, key_id, run, short, trust
+from reference import store
+from reference.program import fingerprint, folder, key, key_id, run, short, trust
 
 TRUSTS = (trust("A", "u") + trust("B", "m")).encode()
 # where the journal of a new store begins: behind the header and one page

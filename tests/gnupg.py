@@ -9,53 +9,12 @@ import subprocess
 import sys
 import tempfile
 
-from program import run
+from reference import gpg_keys
+from reference.gpg_keys import DAY, NoGnuPG, gpg, later, letters, primaries
+from reference.program import run
 
 KEYS, CERTIFICATIONS, ROUNDS = 10, 24, 20
-START = 1700000000
-DAY = 86400
 NUMBERS = [2, 3, 4, 4, 5, 5, 6]
-
-
-class NoGnuPG(Exception):
-    pass
-
-
-clock = START
-
-
-def later(seconds=60):
-    """Each thing that gpg makes has a date of its own."""
-    global clock
-    clock += seconds
-    return clock
-
-
-def gpg(*words, given="", batch=True):
-    always = ["--yes", "--quiet", "--no-tty", "--pinentry-mode", "loopback", "--passphrase", "", "--faked-system-time", f"{clock}!"]
-    try:
-        return subprocess.run(
-            ["gpg", *(["--batch"] if batch else []), *always, *words],
-            input=given, capture_output=True, text=True, errors="surrogateescape", check=True, timeout=60,
-        ).stdout
-    except (OSError, subprocess.SubprocessError) as fault:
-        raise NoGnuPG(fault) from fault
-
-
-def records(text):
-    return [line.split(":") for line in text.splitlines()]
-
-
-def primaries():
-    """The fingerprints of the keys, in the order of the keyring."""
-    found, wanted = [], False
-    for fields in records(gpg("--with-colons", "--list-keys")):
-        if fields[0] == "pub":
-            wanted = True
-        elif fields[0] == "fpr" and wanted:
-            found.append(fields[9])
-            wanted = False
-    return found
 
 
 def made(count, usage="cert", expires="never"):
@@ -109,11 +68,6 @@ def trusting_keyring(chance):
     return keys
 
 
-def letters(listing):
-    """The letter of each user ID, by its text."""
-    return {fields[9]: fields[1] for fields in records(listing) if fields[0] in ("uid", "uat")}
-
-
 def by_gnupg(trusts):
     gpg("--import-ownertrust", given="".join(f"{key}:{number}:\n" for key, number in trusts.items()))
     gpg("--check-trustdb")
@@ -121,7 +75,7 @@ def by_gnupg(trusts):
 
 
 def by_program(listing):
-    session = ["ownertrust", *gpg("--export-ownertrust").splitlines(), ".", f"date {clock}", "import", *listing.splitlines(), ".", "list", ""]
+    session = ["ownertrust", *gpg("--export-ownertrust").splitlines(), ".", f"date {gpg_keys.clock}", "import", *listing.splitlines(), ".", "list", ""]
     done = run("\n".join(session))
     if done.returncode:
         sys.exit(f"gnupg: the program ended with {done.returncode}, and told {done.stdout[:300]}")

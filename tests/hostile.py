@@ -18,12 +18,9 @@ import tempfile
 import time
 from concurrent.futures import ThreadPoolExecutor
 
-import keyring
-import listing
-import ownertrust
-import store
-from keyring import OWNER_LETTERS, Options
-from program import REAL, by, fingerprint, folder, key, run, short
+from reference import keyring, listing, ownertrust, store
+from reference.keyring import OWNER_LETTERS, Options
+from reference.program import REAL, by, fingerprint, folder, key, run, short
 
 MEMORY = 2**30
 EXAMPLES = pathlib.Path(__file__).resolve().parent.parent / "examples"
@@ -31,15 +28,15 @@ DOMAIN = "<[^>]+[@.]example\\x5c.org>$"
 # each kind of record and of value that is read
 RICH = (
     key("A", expires=5000)
-    + key("B", by("A", trusts="2 120", scope=DOMAIN), by("C", kind="30x", record="rev"), text="B <b@example.org>")
+    + key("B", by("A", trusts="2 120", scope=DOMAIN, named=fingerprint("A")), by("C", kind="30x", record="rev"), text="B <b@example.org>")
     + key("C", by("B", made=3000, trusts="1 60"), by("A", made=2000, expires=4000), by("A", made="20010203T040506", kind="12l"), text="C <c@my.Example.org>")
-    + "uat:r::::1000:2000:1F1F::1 3201:\n" + by("A") + by("B", kind="11x")
+    + "uat:r::::1000:2000:1F1F::1 3201:\n" + by("A", named=fingerprint("A")) + by("B", kind="11x", named=fingerprint("A")) + by("B", named=fingerprint("D"))
     + "sub:u:255:18:00000000000000E1:1000:\nfpr:::::::::" + fingerprint("E") + ":\n" + by("A")
     + f"pub:-:255:22:00000000000000DD:1000:::-:::scSC:\nfpr:::::::::00000000000000DD{'0' * 48}:\nuid:-::::1000::::Col\\x3aon \\n \\\\:\n" + by("B") + by("C")
     + "sec:u:255:22:00000000000000EE:1000:\nuid:-::::1000::::E:\n"
 )
 KINDS = [b"pub", b"fpr", b"uid", b"uat", b"sig", b"rev", b"sub", b"ssb", b"sec", b"crt", b"crs", b"tru", b"rvk", b"grp", b"", b"pu", b"PUB"]
-SIGNATURE = [2, 5, 6, 7, 8, 8, 9, 9, 9, 11]
+SIGNATURE = [2, 5, 6, 7, 8, 8, 9, 9, 9, 11, 13, 13]
 READ = {b"pub": [2, 3, 4, 5, 6, 7, 12], b"fpr": [10], b"uid": [2, 6, 7, 8, 10], b"uat": [2, 6, 7, 8, 10], b"sig": SIGNATURE, b"rev": SIGNATURE}
 IDS = [b"00000000000000" + name * 2 for name in (b"A", b"B", b"C", b"D", b"a")]
 VALUES = [
@@ -52,6 +49,7 @@ VALUES = [
     *(b"\\", b"\\x", b"\\x0", b"\\xg1", b"\\x3a", b"\\n\\r\\t\\f\\v\\b\\0\\\\", b"\\N"),
     *(b"a@example.org", b"N <a@example.org>", b"N <a@x.EXAMPLE.org>", b"N <a>@example.org>", b"<@example.org>"),
     *(DOMAIN.encode(), b"<[^>]+[@.]>$", b"<[^>]+[@.]example.org>$", b"<[^>]+[@.]" + b"a" * 243 + b">$", b"<[^>]+[@.]" + b"a" * 244 + b">$"),
+    *(b"(a|example)", b"^A", b"x**", b"[^@]+@[a-e]x", b"0" * 48 + b"00000000000000AA", b"0" * 41),
     *(b".*", b"scESCD", b"e\xc3\xa9D1", b"\xff\x00\x01", b"x" * 300),
 ]
 

@@ -1,11 +1,15 @@
 #!/usr/bin/env python3
-"""Drives the built program through pipes as a person does: writes one line, waits for its reply, writes the next."""
+"""Drives the built program through pipes as a person does: writes one line, waits for its reply, writes the next.
+
+On a terminal a session says first that it reads commands, and nothing else does.
+"""
 import os
+import pty
 import select
 import subprocess
 import sys
 
-from program import PROGRAM, fingerprint, folder
+from reference.program import PROGRAM, USAGE, fingerprint, folder
 
 A = fingerprint("A")
 TURNS = [
@@ -15,6 +19,18 @@ TURNS = [
     ("export", ""),  # no newline yet: no reply
     ("\n", f"{A}:6:\nok\n"),
 ]
+HINT = b"wot: reads commands from standard input; see wot(1)\n"
+
+
+def on_a_terminal(*words):
+    """What standard output and error get of a run whose standard input is a terminal, on which its end is typed."""
+    ours, theirs = pty.openpty()
+    with folder() as store, subprocess.Popen([PROGRAM, *words], stdin=theirs, stdout=subprocess.PIPE, stderr=subprocess.PIPE, cwd=store) as child:
+        os.write(ours, b"export\n\x04")
+        told = child.communicate(timeout=10)
+    os.close(ours)
+    os.close(theirs)
+    return told
 
 
 def reply(pipe, wanted):
@@ -32,7 +48,7 @@ def reply(pipe, wanted):
 
 
 with folder() as store:
-    child = subprocess.Popen([PROGRAM], stdin=subprocess.PIPE, stdout=subprocess.PIPE, cwd=store)
+    child = subprocess.Popen([PROGRAM], stdin=subprocess.PIPE, stdout=subprocess.PIPE, stderr=subprocess.PIPE, cwd=store)
     for line, wanted in TURNS:
         child.stdin.write(line.encode())
         child.stdin.flush()
@@ -40,7 +56,11 @@ with folder() as store:
         if told != wanted:
             sys.exit(f"interactive: after {line!r} came {told!r} in place of {wanted!r}")
     child.stdin.close()
-    status = child.wait(timeout=10)
-if status != 1:
-    sys.exit(f"interactive: the status is {status} in place of 1")
+    found = (child.wait(timeout=10), child.stderr.read())
+if found != (1, b""):
+    sys.exit(f"interactive: the status and standard error are {found} in place of 1 and nothing")
+for words, wanted in (((), (b"ok\n", HINT)), (("export",), (b"ok\n", b"")), (("-x",), (b"", USAGE.encode()))):
+    told = on_a_terminal(*words)
+    if told != wanted:
+        sys.exit(f"interactive: on a terminal, with the words {words}, came {told!r} in place of {wanted!r}")
 print("interactive: ok")

@@ -7,13 +7,15 @@ import subprocess
 import sys
 import time
 
-from program import PROGRAM, folder, run
+from reference.program import PROGRAM, folder, run
 
-KEYS, USERS, CERTS, TEXT, TRUSTS, RECORD = 2**18, 2**20, 2**22, 2**28, 2**18, 2**28
+KEYS, USERS, CERTS, TEXT, TRUSTS, RECORD = 2**18, 2**20, 2**22, 2**28, 2**18, 2**29
 KEY_USERS, KEY_CERTS, SCOPE, LINE = 1024, 2**22, 255, 65536
-# the bytes of a record beside its texts: the tag and the number of keys, a key, a user ID; an entry with a fingerprint of 32 bytes
-HEAD, KEY_BYTES, USER_BYTES, ENTRY_BYTES = 5, 46, 22, 34
+# the bytes of a record beside its texts: the tag and the number of keys, a key, a user ID, a certification, and what it has more where it names a
+# fingerprint of 32 bytes, or has a regular expression; an entry with a fingerprint of 32 bytes
+HEAD, KEY_BYTES, USER_BYTES, CERT_BYTES, NAMED_BYTES, SCOPE_BYTES, ENTRY_BYTES = 5, 46, 22, 22, 33, 4, 34
 USER, CERT = "uid:-" + ":" * 8, f"sig:!:::{2**40:016X}" + ":" * 6 + "10:\n"
+NAMED, SCOPED = (CERT.replace("::10:", f"{scope}::10::{2**240:064X}:") for scope in ("", "x"))
 LONG = 65000
 
 
@@ -213,23 +215,40 @@ def of_text(size, count=16):
     return (numbered(number, texts(share)) for number, share in enumerate(shares(count, size)))
 
 
-def payload_of(size, count=16):
-    """The bytes of the record of these keys."""
-    return HEAD + size + sum(KEY_BYTES + USER_BYTES * -(-share // LONG) for share in shares(count, size))
-
-
-def text_and_record():
-    """The bytes of texts, and of a record, which come after them."""
-    session = Session("bytes")
-    size = TEXT + RECORD - payload_of(TEXT)
-    assert payload_of(size) == RECORD
+def text():
+    """The bytes of texts."""
+    session = Session("bytes of texts")
     session.want("err full text", block(of_text(TEXT + 1)))
-    session.want("err full record", block(of_text(TEXT)))
-    session.want("err full record", block(of_text(size + 1)))
-    session.want(accepted(16), block(of_text(size)))
-    session.want("err full text", block([numbered(16, texts(TEXT - size + 1))]))
-    session.want(accepted(1), block([numbered(16, texts(TEXT - size))]))
+    session.want(accepted(16), block(of_text(TEXT - 1)))
+    session.want("err full text", block([numbered(16, ["ab"])]))
+    session.want(accepted(1), block([numbered(16, "a")]))
     session.want("err full text", block([numbered(17, "a")]))
+    return session
+
+
+def grown(size):
+    """Four texts each for as many keys as hold so many bytes more than one for each text."""
+    count = -(-size // (4 * LONG))
+    return [[letter + "x" * part for letter, part in zip("abcd", shares(4, share))] for share in shares(count, size)]
+
+
+def full(text, scoped):
+    """As many keys, user IDs and certifications as there may be, with so many bytes of text; each certification names a fingerprint, and the first have a scope."""
+    long = grown(text - scoped - USERS)
+    for number in range(KEYS):
+        users = long[number] if number < len(long) else "abcd"
+        certs = (SCOPED if 16 * number < scoped else NAMED) * 4
+        yield numbered(number) + "".join(f"{USER}{user}:\n{certs}" for user in users)
+
+
+def record():
+    """The bytes of a record, which come after the limits of the keyring: only one at these, of certifications with all that they may have, passes them."""
+    session = Session("a record")
+    plain = HEAD + KEYS * KEY_BYTES + USERS * USER_BYTES + CERTS * (CERT_BYTES + NAMED_BYTES) + TEXT
+    scoped = -(-(RECORD + 1 - plain) // (16 * SCOPE_BYTES)) * 16
+    over = plain + scoped * SCOPE_BYTES - RECORD
+    session.want("err full record", block(full(TEXT - over + 1, scoped)))
+    session.want(accepted(KEYS, CERTS), block(full(TEXT - over, scoped)))
     return session
 
 
@@ -245,10 +264,8 @@ def all_at_once():
     session, four = Session("all limits at once"), "abcd"
     session.want(f"ok entries {TRUSTS}", entries(TRUSTS))
     session.want(accepted(KEYS, CERTS), block(numbered(number, four, 4) for number in range(KEYS)))
-    missing = TEXT - 4 * KEYS
-    count = -(-missing // (4 * LONG))
-    grown = [[letter + "x" * part for letter, part in zip(four, shares(4, share))] for share in shares(count, missing)]
-    session.want(accepted(count, 16 * count), block(numbered(number, texts, 4) for number, texts in enumerate(grown)))
+    long = grown(TEXT - 4 * KEYS)
+    session.want(accepted(len(long), 16 * len(long)), block(numbered(number, texts, 4) for number, texts in enumerate(long)))
     session.want("err full keys", block([numbered(KEYS, "e", 1)]))
     session.want("err full users", block([numbered(KEYS - 1, "abcde", 4)]))
     session.want("err full certs", block([numbered(KEYS - 1, ["a", "b", "c", "dd"], 4) + CERT]))
@@ -262,7 +279,7 @@ def all_at_once():
 SMALL = [lines, scopes, key_users, keys, users, trusts]
 if run("sample 7 1\n").stdout != b"err unknown-command\n":
     SMALL.append(made_keys)
-LARGE = [certs, text_and_record, trusts_and_record, all_at_once]
+LARGE = [certs, text, record, trusts_and_record, all_at_once]
 named = [check for check in SMALL + LARGE if check.__name__ in sys.argv]
 chosen = SMALL + LARGE if "--all" in sys.argv else named or SMALL
 for check in chosen:

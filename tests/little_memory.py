@@ -8,10 +8,9 @@ import subprocess
 import sys
 import tempfile
 
-import histories
-import store
-from histories import COMPACT, NEW
-from program import PROGRAM, folder, run, short
+from reference import histories, store
+from reference.histories import COMPACT, NEW
+from reference.program import PROGRAM, folder, run, short
 
 # no store here has to outlive a stop of the machine
 tempfile.tempdir = "/dev/shm" if os.path.isdir("/dev/shm") else None

@@ -2,8 +2,8 @@
 """Refuses memory to the built program, one allocation in a run, and looks at how it ends and at what its store shows then.
 
 A library that is loaded before C's own lets the n-th call of `malloc` or `realloc` fail. Each worked session is run for every n up to where
-none fails. A run ends with status 7, or with 3, 4 or 5 where the streams or the files were short of memory; it tells a prefix of what it
-tells with memory, and a later run shows the first edits, every one of them that was acknowledged. Where the tests of whole runs are built
+none fails. A run ends with status 7, or with 3, 4 or 5 and the reason where the streams or the files were short of memory; it tells a prefix of
+what it tells with memory, and a later run shows the first edits, every one of them that was acknowledged. Where the tests of whole runs are built
 (by `rt test` in their folder, or given as the second word), their sessions over a site in memory are run so too. It skips where there is no C
 compiler.
 """
@@ -15,12 +15,12 @@ import subprocess
 import sys
 import tempfile
 
-from program import PROGRAM, by, fingerprint, folder, imported, key, run, short, trust
+from reference.program import PROGRAM, by, fault, fingerprint, folder, imported, key, run, short, trust
 
 tempfile.tempdir = "/dev/shm" if os.path.isdir("/dev/shm") else None
 TESTS = pathlib.Path(sys.argv[2] if len(sys.argv) > 2 else "crates/wot_tests/out/wot_tests_tests").absolute()
 TEST = "memory::want_of_memory_loses_no_edit"
-LINES = {3: b"wot: read fault\n", 4: b"wot: write fault\n", 5: b"wot: disk fault\n", 7: b"wot: out of memory\n"}
+NO_MEMORY = (7, b"wot: out of memory\n")
 REFUSING = r"""
 #include <errno.h>
 #include <fcntl.h>
@@ -66,8 +66,9 @@ def fault_of(done, whole, shown, states):
     acknowledged = min(done.stdout.count(b"\n"), len(states) - 1)
     if done.returncode == whole.returncode and (done.stdout, done.stderr) != (whole.stdout, whole.stderr):
         return "ended as with memory, and told something else"
-    if done.returncode != whole.returncode and done.stderr != LINES.get(done.returncode):
-        return "ended with another status"
+    told = fault(done.stderr)
+    if done.returncode != whole.returncode and (done.returncode, done.stderr) != NO_MEMORY and (told is None or told.status != done.returncode):
+        return f"ended with another status, told by {done.stderr!r}"
     if not whole.stdout.startswith(done.stdout):
         return "told something else"
     if shown not in states[acknowledged:]:
@@ -88,9 +89,9 @@ def sweep(library, name):
             if not failed:
                 return ends
             shown = run("export\nsigs\n", where=store)
-        fault = "the next run failed" if shown.returncode else fault_of(done, whole, shown.stdout, states)
-        if fault:
-            sys.exit(f"memory: {name}: allocation {number}: {fault}: status {done.returncode}, told {short(done.stdout)}")
+        wrong = "the next run failed" if shown.returncode else fault_of(done, whole, shown.stdout, states)
+        if wrong:
+            sys.exit(f"memory: {name}: allocation {number}: {wrong}: status {done.returncode}, told {short(done.stdout)}")
         ends[done.returncode] = ends.get(done.returncode, 0) + 1
 
 

@@ -18,10 +18,9 @@ import sys
 import tempfile
 from concurrent.futures import ThreadPoolExecutor
 
-import histories
-import store
-from histories import ASKED, Steps
-from program import PROGRAM, folder, run, short
+from reference import histories, store
+from reference.histories import ASKED, Steps
+from reference.program import PROGRAM, folder, run, short
 
 STEPS, SETS = 10, 6
 FILLS = (b"\0", b"\xa5", b"\xff")

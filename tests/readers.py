@@ -3,13 +3,12 @@
 
 It skips what the machine lacks, and says so.
 """
-import os
 import re
 import subprocess
 import sys
 import tempfile
 
-from program import by, fingerprint, imported, key, key_id, run, trust
+from reference.program import by, fingerprint, imported, key, key_id, run, trust
 
 GIVEN = (
     trust("A", "u") + trust("B", "m") + f"disable {fingerprint('C')}\n"

@@ -12,7 +12,7 @@ import shutil
 import subprocess
 import sys
 
-from program import PROGRAM, folder, run
+from reference.program import PROGRAM, folder, run
 
 TOP = pathlib.Path(__file__).resolve().parent.parent
 DOCUMENTS = [TOP / "README.md", TOP / "docs" / "RECIPES.md", TOP / "docs" / "SEQUOIA.md"]
@@ -29,7 +29,9 @@ def authenticated(without):
 # what the output of each block under this title must have
 SHOWN = {
     "From gpg to a store": [r"^uid:f:[^\n]*:Bob <bob@example.org>:$"],
-    "A store of what gpg says": [r"^uid           \[  full  \] Bob <bob@example.org>$", r"^ok keys 4 kept 2 (.*\n)*uid:f:[^\n]*:Bob <bob@example.org>:$"],
+    "A store of what gpg says": [r"^uid           \[  full  \] Bob <bob@example.org>$"],
+    "One store": [r"^uid:f:[^\n]*:Bob <bob@example.org>:\n(.*\n)*ok\ntally:\d+:1:2:0:0:1:0:0:\nok$"],
+    "A store by hand": [r"^ok keys 4 kept 2 (.*\n)*uid:f:[^\n]*:Bob <bob@example.org>:$", r"\Aok keys 4 kept 2 .*\n\Z"],
     "Ownertrust back into gpg": [r"\Aok\n\Z"],
     "A nightly run": [
         r"\A(\[  new   \].*\n){4}as of .*\nas of .*; the next check is at .*\n\Z",
@@ -38,13 +40,21 @@ SHOWN = {
     ],
     "May I install this?": [r"\[  full  \] Alice <alice@example.org>\npackage.tar: a good signature by a signer of alice@example.org whose letter is at least f\n\Z"],
     "Signed commits and tags": [r"\AG fully Alice <alice@example.org>\n\Z"],
+    "Any program that asks gpg": [
+        r"^uid +\[  full  \] Bob <bob@example.org>\n(.*\n)*\[GNUPG:\] TRUST_FULLY 0 wot$",
+        r"^uid +\[  full  \] Bob <bob@example.org>$",
+        r"\ABob <bob@example.org> True\n\Z",
+        r"\ATRUST_FULLY\nTrue invalid recipient\n\Z",
+    ],
     "Names and letters in words": [
-        r"\[  full  \] Bob <bob@example.org>\n  certified by Alice <alice@example.org>, fully trusted\n    certified by Me <me@example.org>, ultimately trusted\n"
-        r"\[ unknown\] Carol <carol@example.org>\n  no key certified it, or gpg could check no certification of it\n\Z"
+        r"\[  full  \] Bob <bob@example.org> [0-9A-F]{40}\n"
+        r"  certified on [0-9-]{10} by Alice <alice@example.org>, fully trusted\n    certified on [0-9-]{10} by Me <me@example.org>, ultimately trusted\n"
+        r"\[ unknown\] Carol <carol@example.org> [0-9A-F]{40}\n  missing for full: 0 of 1 full, 0 of 3 marginal\n"
+        r"  no key certified it, or gpg could check no certification of it\n\Z"
     ],
     "A page to show": [r"\A\Z"],
-    "One key's letter, for a mail program": [r"\Af\n\Z", r"\A[0-9A-F]{40}\n\Z"],
-    "Asked by a program": [r"\Af \['[0-9A-F]{40}'\]\nno-such-key\n\Z"],
+    "One key's letter, for a mail program": [r"\Af [0-9A-F]{40}\n\Z", r"\Af\n\Z", r"\A[0-9A-F]{40}\n\Z"],
+    "Asked by a program": [r"\Agreen\nno mark\n\['[0-9A-F]{40}'\]\nno-such-key\n\Z"],
     "A keyring file, as Debian ships them": [r"^uid +\[ultimate\] Debian Archive Automatic Signing Key \(11/bullseye\)"],
     "What changes on a date": [r"^> e [0-9A-F]{40} Bob <bob@example.org>$", r"\A[1-9][0-9]*\n\Z"],
     "Two keyrings compared": [r"^< f [0-9A-F]{40} Bob <bob@example.org>$"],
@@ -57,7 +67,7 @@ SHOWN = {
     ],
     "Both answers": [authenticated({"bob"}), authenticated(set())],
 }
-NEEDS_CHECK = re.compile(r"wot-nightly|wot check|wot compact|nightly/")
+NEEDS_CHECK = re.compile(r"wot-nightly|wot(-in)? check|wot compact|nightly/")
 KNOWS_CHECK = run("check\n").stdout != b"err unknown-command\n"
 
 
@@ -101,7 +111,15 @@ def lacking(text):
     """What a block needs and the machine or the program lacks, or nothing."""
     files = [file for file in re.findall(r"=(/\S+)", text) if not os.path.exists(file)]
     tools = [tool for tool in ("git", "sq-wot", "dpkg-deb") if re.search(rf"^ *{tool} ", text, re.M) and not shutil.which(tool)]
-    return next(iter([*files, *tools, *(["check and compact"] if NEEDS_CHECK.search(text) and not KNOWS_CHECK else [])]), None)
+    modules = [module for module in ("gpg", "gnupg") if re.search(rf"^import {module}$", text, re.M) and not has_module(module)]
+    return next(iter([*files, *tools, *modules, *(["check and compact"] if NEEDS_CHECK.search(text) and not KNOWS_CHECK else [])]), None)
+
+
+def has_module(module):
+    try:
+        return subprocess.run(["/usr/bin/python3", "-c", f"import {module}"], capture_output=True, check=False).returncode == 0
+    except OSError:
+        return False
 
 
 def run_all(document, here, tools):

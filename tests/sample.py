@@ -2,8 +2,8 @@
 """Compares the keys that `sample` makes, and their ownertrust, with those that another program makes, and its replies."""
 import sys
 
-import made
-from program import folder, run
+from reference import made
+from reference.program import folder, run
 
 SEED, COUNT = 7, 300
 LETTERS = "-?qnmfu"

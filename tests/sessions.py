@@ -6,7 +6,7 @@ The sessions are those of this file and those of examples/. Each is run a second
 import pathlib
 import sys
 
-from program import by, fingerprint, folder, imported, key, key_id, letters, run, short, trust
+from reference.program import USAGE, by, fingerprint, folder, imported, key, key_id, letters, run, short, trust
 
 TRU = "tru::1:0:0:3:1:5\n"
 
@@ -24,11 +24,16 @@ def listed(*keys, tru=TRU):
     return tru + "".join(lines(*k) for k in keys) + "ok\n"
 
 
-A, B, C = fingerprint("A"), fingerprint("B"), fingerprint("C")
+A, B, C, D = map(fingerprint, "ABCD")
+# of another key with A's key ID
+ANOTHER = "11" + "0" * 36 + "AA"
+NO_FINGERPRINTS = (ANOTHER[1:], ANOTHER + "0", "G" * 40, ANOTHER[:39] + " ", "0" * 63)
+D_ELSEWHERE = key("D", by("C", 4000), text="D <d@other.net>")
+ORG, NET, LISTS = (f"<[^>]+[@.]{domain}>$" for domain in ("example\\x5c.org", "other\\x5c.net", "lists\\x5c.example\\x5c.org"))
 TWO_KEYS = trust("A", "u") + imported(key("A"), key("B", "A"))
 TWO_TOLD = "ok\nok keys 2 kept 1 passed 0\n"
 TWO_LISTED = listed(("A", "u", "u"), ("B", "f", "-"))
-OTHER_A = "pub:-:255:22:00000000000000AA:1000:::-:::scSC:\nfpr:::::::::11" + "0" * 36 + "AA:\n"
+OTHER_A = f"pub:-:255:22:00000000000000AA:1000:::-:::scSC:\nfpr:::::::::{ANOTHER}:\n"
 QUOTED = "a\\x3ab\\\\c\\n".encode() + bytes([0xC3, 0xA9])
 EXAMPLES = pathlib.Path(__file__).resolve().parent.parent / "examples"
 
@@ -79,6 +84,48 @@ SESSIONS = {
         + TRU + lines("A", "u", "u") + lines("B", "f", "-") + "sig:!:::00000000000000AA:2000:::::13x:\nok\n"
         + TRU + lines("B", "f", "-") + "sig:!:::00000000000000AA:2000:::::13x:\nok\n"
         + listed(("A", "u", "u")),
+        0,
+    ),
+    "a certification that names its issuer's fingerprint": (
+        trust("A", "u") + imported(key("A"), key("B", by("A", named=A.lower()))) + f"list {B}\nsigs {B}\n",
+        TWO_TOLD + TRU + lines("B", "f", "-") + "ok\n" + TRU + lines("B", "f", "-") + f"sig:!:::00000000000000AA:2000:::::13x::{A}:\nok\n",
+        0,
+    ),
+    "a certification that names another fingerprint": (
+        trust("A", "u") + imported(key("A"), key("B", by("A", named=ANOTHER))) + "list\n",
+        TWO_TOLD + listed(("A", "u", "u"), ("B", "-", "-")),
+        0,
+    ),
+    "a revocation that names another fingerprint": (
+        trust("A", "u") + imported(key("A"), key("B", "A", by("A", 3000, kind="30x", record="rev", named=ANOTHER))) + "list\n",
+        "ok\nok keys 2 kept 2 passed 0\n" + TWO_LISTED,
+        0,
+    ),
+    "a fingerprint of 64 digits is another than one of 40": (
+        trust("A", "u") + imported(key("A"), key("B", by("A", named="00000000000000AA" + "0" * 48))) + f"sigs {B}\n",
+        TWO_TOLD + TRU + lines("B", "-", "-") + f"sig:!:::00000000000000AA:2000:::::13x::00000000000000AA{'0' * 48}:\nok\n",
+        0,
+    ),
+    "what is no fingerprint names none": (
+        trust("A", "u") + imported(key("A"), key("B", *(by("A", named=named) for named in NO_FINGERPRINTS))) + f"sigs {B}\n",
+        "ok\nok keys 2 kept 5 passed 0\n" + TRU + lines("B", "f", "-") + "sig:!:::00000000000000AA:2000:::::13x:\n" * 5 + "ok\n",
+        0,
+    ),
+    "a fingerprint that is another as soon as its issuer's key is there": (
+        imported(key("B", by("A", named=ANOTHER))) + trust("A", "u") + imported(OTHER_A + "uid:-::::1000::::A <a@example.org>:\n")
+        + f"trust {ANOTHER} u\nlist {B}\ndelete {ANOTHER}\n" + imported(key("A")) + f"list {B}\n",
+        "ok keys 1 kept 1 passed 0\nok\nok keys 1 kept 0 passed 0\nok\n" + TRU + lines("B", "f", "-")
+        + "ok\nok\nok keys 1 kept 0 passed 0\n" + TRU + lines("B", "-", "-") + "ok\n",
+        0,
+    ),
+    "a delegator whose scope is another": (
+        trust("A", "u") + imported(key("A"), key("B", by("A", trusts="2 120", scope=ORG)), key("C", by("B", 3000, trusts="1 120", scope=NET)), D_ELSEWHERE)
+        + f"list {D}\nwhy {C} 1\n" + imported(key("B", by("A", 2500, trusts="2 120"))) + f"list {D}\nwhy {D} 1\n",
+        "ok\nok keys 4 kept 3 passed 0\n" + TRU + lines("D", "-", "-").replace("d@example.org", "d@other.net") + "ok\n"
+        + f"why:f:00000000000000CC:1:0:1:0:0:\nrow:00000000000000AA:0:u:0:::\nrow:00000000000000BB:1:f:1:{ORG}:00000000000000AA:\nby:00000000000000BB:f:\ncut:f:\nok\n"
+        + "ok keys 1 kept 1 passed 0\n" + TRU + lines("D", "f", "-").replace("d@example.org", "d@other.net") + "ok\n"
+        + "why:f:00000000000000DD:1:0:1:0:0:\nrow:00000000000000AA:0:u:0:::\nrow:00000000000000BB:1:f:1::00000000000000AA:\n"
+        + f"row:00000000000000CC:2:f:0:{NET}:00000000000000BB:\nby:00000000000000CC:f:\ncut:f:\nok\n",
         0,
     ),
     "a key of another fingerprint is not that key": (
@@ -176,7 +223,13 @@ def trusted(*certs, text="C <c@example.org>", also="", options=""):
     return letters(run(given).stdout.decode("latin-1")).popitem()[1]
 
 
-ORG = "<[^>]+[@.]example\\x5c.org>$"
+def chained(scope, text, first=by("A", trusts="2 120", scope=ORG), second="", options=""):
+    """The letter of a user ID that C certifies, whom B trusts within a scope, who is trusted by A."""
+    second = second or by("B", 3000, trusts="1 120", scope=scope)
+    given = trust("A", "u") + options + imported(key("A"), key("B", first), key("C", second), key("D", by("C", 4000), text=text)) + f"list {D}\n"
+    return letters(run(given).stdout.decode())[text]
+
+
 LONG = "<[^>]+[@.]" + "a" * 243 + ">$"
 # a question about trust signatures, and its answer
 LETTERS = {
@@ -190,9 +243,19 @@ LETTERS = {
     "and no longer name": (lambda: trusted(by("A", trusts="1 120", scope=ORG), text="N <a@evilexample.org>"), "-"),
     "and no address without brackets": (lambda: trusted(by("A", trusts="1 120", scope=ORG), text="a@example.org"), "-"),
     "an escaped hyphen": (lambda: trusted(by("A", trusts="1 120", scope="<[^>]+[@.]my\\x5c-site\\x5c.org>$"), text="N <a@my-site.org>"), "f"),
-    "an unescaped dot is no form": (lambda: trusted(by("A", trusts="1 120", scope="<[^>]+[@.]example.org>$"), text="N <a@example.org>"), "-"),
-    "an escaped letter is no form": (lambda: trusted(by("A", trusts="1 120", scope="<[^>]+[@.]\\x5cexample\\x5c.org>$"), text="N <a@example.org>"), "-"),
-    "an empty domain is no form": (lambda: trusted(by("A", trusts="1 120", scope="<[^>]+[@.]>$"), text="N <a@>"), "-"),
+    "an unescaped dot takes any byte": (lambda: trusted(by("A", trusts="1 120", scope="<[^>]+[@.]example.org>$"), text="N <a@exampleXorg>"), "f"),
+    "an escaped letter stands for itself": (lambda: trusted(by("A", trusts="1 120", scope="<[^>]+[@.]\\x5cexample\\x5c.org>$"), text="N <a@example.org>"), "f"),
+    "an empty domain takes an address without one": (lambda: trusted(by("A", trusts="1 120", scope="<[^>]+[@.]>$"), text="N <a@>"), "f"),
+    "and none with one": (lambda: trusted(by("A", trusts="1 120", scope="<[^>]+[@.]>$"), text="N <a@example.org>"), "-"),
+    "an end without a bracket": (lambda: trusted(by("A", trusts="1 120", scope="\\x5c.example\\x5c.org$"), text="a@lists.example.org"), "f"),
+    "and a text with one": (lambda: trusted(by("A", trusts="1 120", scope="\\x5c.example\\x5c.org$"), text="N <a@lists.example.org>"), "-"),
+    "one of two, somewhere in the text": (lambda: trusted(by("A", trusts="1 120", scope="(lists|dev)\\x5c.example"), text="C <c@dev.Example.org>"), "f"),
+    "and neither": (lambda: trusted(by("A", trusts="1 120", scope="(lists|dev)\\x5c.example"), text="C <c@devXexample.org>"), "-"),
+    "any text at all": (lambda: trusted(by("A", trusts="1 120", scope=".*")), "f"),
+    "a sign twice is no expression": (lambda: trusted(by("A", trusts="1 120", scope="C.**")), "-"),
+    "an open group is no expression": (lambda: trusted(by("A", trusts="1 120", scope="(C")), "-"),
+    "an empty branch takes an empty user ID": (lambda: trusted(by("A", trusts="1 120", scope="|"), text=""), "f"),
+    "and one or more of a byte none": (lambda: trusted(by("A", trusts="1 120", scope="^A+$"), text=""), "-"),
     "two brackets": (lambda: trusted(by("A", trusts="1 120", scope=ORG), text="N <b <a@example.org>"), "f"),
     "a bracket within": (lambda: trusted(by("A", trusts="1 120", scope=ORG), text="N <a>@example.org>"), "-"),
     "nothing before the separator": (lambda: trusted(by("A", trusts="1 120", scope=ORG), text="N <@example.org>"), "-"),
@@ -200,6 +263,16 @@ LETTERS = {
     "upper case in the domain": (lambda: trusted(by("A", trusts="1 120", scope="<[^>]+[@.]EXAMPLE\\x5c.org>$"), text="N <a@example.org>"), "f"),
     "escaped bytes above 127": (lambda: trusted(by("A", trusts="1 120", scope="<[^>]+[@.]z\\x5c\\xc3\\x5c\\xb6>$"), text="N <a@zö>"), "f"),
     "a scope of 255 bytes": (lambda: trusted(by("A", trusts="1 120", scope=LONG), text="N <a@" + "a" * 243 + ">"), "f"),
+    "a chain narrows": (lambda: chained(NET, "D <d@other.net>"), "-"),
+    "a user ID within both scopes of a chain": (lambda: chained(LISTS, "E <e@lists.example.org>"), "f"),
+    "within the first alone": (lambda: chained(LISTS, "F <f@example.org>"), "-"),
+    "a chain whose first link has no scope": (lambda: chained(NET, "D <d@other.net>", by("A", 2500, trusts="2 120")), "f"),
+    "a chain whose last link has none": (lambda: chained("", "D <d@example.org>"), "f"),
+    "and what is beyond it": (lambda: chained("", "D <d@other.net>"), "-"),
+    "a scope within a chain that is no expression": (lambda: chained("", "D <d@example.org>", by("A", trusts="2 120", scope="a**"), second="A"), "q"),
+    "the classic model knows no chains": (lambda: chained(NET, "D <d@other.net>", options="options classic 1 3 5 2\n" + trust("B", "f") + trust("C", "f")), "f"),
+    "a trust signature that names another fingerprint": (lambda: trusted(by("A"), by("A", 3000, trusts="1 120", named=ANOTHER)), "q"),
+    "and one that names its issuer's": (lambda: trusted(by("A", 3000, trusts="1 120", named=A)), "f"),
     "a full introducer passes no depth on": (
         lambda: letters(
             run(
@@ -211,8 +284,7 @@ LETTERS = {
     ),
 }
 
-# words of the command line, the input, what is told, the line on standard error and the status
-USAGE = "usage: wot [--workers N] [WORD]...\n"
+# words of the command line, the input, what is told, what standard error gets and the status
 WORDS = {
     "list": (["list"], "", listed(), "", 0),
     "one ownertrust": (["trust", A, "o"], "frob\n", "ok\n", "", 0),
@@ -231,6 +303,7 @@ WORDS = {
     "a dash after --": (["--", "-"], "", "", USAGE, 2),
     "help": (["--help"], "", "", USAGE, 2),
     "an empty word": ([""], "", "err unknown-command\n", "", 1),
+    "a word that is not UTF-8": ([b"\xff"], "", "", "wot: no words\n", 9),
 }
 
 

@@ -1,5 +1,6 @@
 #!/usr/bin/env python3
-"""Starts a second run of the built program on a store that another run has: it ends as a disk fault, and has read and written nothing.
+"""Starts a second run of the built program on a store that another run has: it ends as a disk fault, tells why, and has
+read and written nothing.
 
 Each may come first, a session or a single command; and a run that was ended by a signal leaves the store free.
 """
@@ -10,10 +11,10 @@ import subprocess
 import sys
 import time
 
-from program import PROGRAM, fingerprint, folder, run, trust
+from reference.program import HELD, PROGRAM, fingerprint, folder, run, trust
 
 A, B = fingerprint("A"), fingerprint("B")
-REFUSED = (5, b"", b"wot: disk fault\n")
+REFUSED = (5, b"", f"{HELD}\nwot: disk fault\n".encode())
 
 
 def started(where, words=()):

@@ -4,13 +4,15 @@ It shares nothing with the program, and counts everything from nothing.
 """
 from typing import NamedTuple
 
+from .expression import admits
+
 UNKNOWN, UNDEFINED, NEVER, MARGINAL, FULL, ULTIMATE = 0, 2, 3, 4, 5, 6
 TRUST_NUMBERS = (UNKNOWN, UNDEFINED, NEVER, MARGINAL, FULL, ULTIMATE)
 OWNER_LETTERS = {UNKNOWN: "-", UNDEFINED: "q", NEVER: "n", MARGINAL: "m", FULL: "f", ULTIMATE: "u"}
 REVOCATION = 0x30
 CLASSES = (0x10, 0x11, 0x12, 0x13, REVOCATION)
 LIMITS = {"keys": 2**18, "users": 2**20, "certs": 2**22, "text": 2**28, "trusts": 2**18}
-KEY_USERS, KEY_CERTS, SCOPE, RECORD = 1024, 2**22, 255, 2**28
+KEY_USERS, KEY_CERTS, SCOPE, RECORD = 1024, 2**22, 255, 2**29
 
 
 class Cert(NamedTuple):
@@ -22,6 +24,7 @@ class Cert(NamedTuple):
     depth: int
     amount: int
     scope: bytes | None
+    issuer_fpr: bytes | None = None  # the fingerprint that it names
 
 
 class User(NamedTuple):
@@ -65,6 +68,7 @@ class Row(NamedTuple):
     trust: int
     left: int
     scope: bytes | None
+    via: int | None = None  # the key that delegated to it
 
 
 def opening():
@@ -93,53 +97,44 @@ def live_users(state, key):
     return [n for n, user in enumerate(key.users) if is_live(key, state.date) and is_live(user, state.date)]
 
 
+def names_another(state, cert):
+    """Whether the certification names a fingerprint, and the key of its issuer's key ID has another one."""
+    key = state.keys.get(cert.issuer)
+    return cert.issuer_fpr is not None and key is not None and key.fpr != cert.issuer_fpr
+
+
 def usable(state, user):
     """The deciding certification of each issuer, with its place, where it is usable."""
     latest = {}
     for place, cert in enumerate(user.certs):
         if cert.kind in (0x11, 0x12, 0x13) and cert.kind & 15 < state.options.level:
             continue
+        if names_another(state, cert):
+            continue
         if cert.issuer not in latest or latest[cert.issuer][1].made <= cert.made:
             latest[cert.issuer] = place, cert
     return [(place, cert) for place, cert in latest.values() if cert.kind != REVOCATION and not is_expired(cert.expires, state.date)]
 
 
-def domain(scope):
-    """The domain of a regular expression of the domain form, or nothing."""
-    front, back = b"<[^>]+[@.]", b">$"
-    if len(scope) <= len(front + back) or not scope.startswith(front) or not scope.endswith(back):
-        return None
-    pieces, found = list(scope[len(front):-len(back)]), []
-    while pieces:
-        byte = bytes([pieces.pop(0)])
-        if byte == b"\\":
-            if not pieces or bytes([pieces[0]]).isalnum():
-                return None
-            byte = bytes([pieces.pop(0)])
-        elif not byte.isalnum() and byte not in b"-_":
-            return None
-        found.append(byte)
-    return b"".join(found)
+def chain(rows, row):
+    """The row, and behind it that of whoever delegated to it, and so on up: each of a lesser level."""
+    found = [row]
+    while row.via in rows and rows[row.via].level < row.level:
+        row = rows[row.via]
+        found.append(row)
+    return found
 
 
-def admits(scope, text):
-    """Whether the text ends with an address of the domain, or of one below it."""
-    wanted = domain(scope)
-    if wanted is None or not text.endswith(b">"):
-        return False
-    front, tail = text[:-1][:-len(wanted)], text[:-1][-len(wanted):]
-    if tail.lower() != wanted.lower() or front[-1:] not in (b"@", b"."):
-        return False
-    before = front[:-1]
-    inner = before[before.rfind(b">") + 1:]
-    return b"<" in inner[:-1]
+def chain_admits(rows, row, text):
+    """Whether each scope along the chain admits the text."""
+    return all(link.scope is None or admits(link.scope, text) for link in chain(rows, row))
 
 
 def candidates(state, rows, user):
     """The usable certifications by introducers, with their places."""
     def counts(cert):
         row = rows.get(cert.issuer)
-        return row is not None and (not state.options.pgp or row.scope is None or admits(row.scope, user.text))
+        return row is not None and (not state.options.pgp or chain_admits(rows, row, user.text))
     return [(place, cert) for place, cert in usable(state, user) if counts(cert)]
 
 
@@ -179,7 +174,7 @@ def given(state, rows, key, level):
         return Row(level, own_trust(state, key), 0, None)
     allowed, cert = found
     amount = FULL if cert.amount >= 120 else MARGINAL if cert.amount >= 60 else UNKNOWN
-    return Row(level, max(own_trust(state, key), amount), allowed - 1, cert.scope)
+    return Row(level, max(own_trust(state, key), amount), allowed - 1, cert.scope, cert.issuer)
 
 
 def rows_of(state):
@@ -230,6 +225,63 @@ def next_check(state):
     return min((thing.expires for thing in things if thing.expires > state.date), default=0)
 
 
+def introducer_rests_on(state, rows, k):
+    """The keys on which an introducer rests: the candidates of its first user ID that was full over the rows of lower levels, and its delegator."""
+    key, lower = state.keys[k], {other: row for other, row in rows.items() if row.level < rows[k].level}
+    if rows[k].level == 0:
+        return set()
+    first = next(n for n in live_users(state, key) if is_full(state, counted(state, lower, key.users[n])))
+    found = delegation(state, lower, key)
+    return {cert.issuer for _, cert in candidates(state, lower, key.users[first])} | ({found[1].issuer} if found else set())
+
+
+def direct(state, rows, k, user):
+    """The candidates on which a user ID rests: none where it is not live, or its key is ultimate itself."""
+    key = state.keys[k]
+    rests_on_nobody = not is_live(key, state.date) or not is_live(user, state.date) or (k in rows and rows[k].level == 0)
+    return set() if rests_on_nobody else {cert.issuer for _, cert in candidates(state, rows, user)}
+
+
+def explanation(state, rows, k, user):
+    """All keys on which a user ID rests."""
+    found, new = set(), direct(state, rows, k, user)
+    while new:
+        found |= new
+        new = set().union(*(introducer_rests_on(state, rows, other) for other in new)) - found
+    return found
+
+
+def cut(state, kept, k):
+    """The state with the keys of an explanation and the explained one alone, and on them the certifications by keys of the explanation."""
+    def cut_user(user):
+        return user._replace(certs=tuple(cert for cert in user.certs if cert.issuer in kept))
+    keys = {other: key._replace(users=tuple(map(cut_user, key.users))) for other, key in state.keys.items() if other in kept or other == k}
+    return state._replace(keys=keys)
+
+
+def printed_row(k, row):
+    scope, via = quoted(row.scope or b""), b"" if row.via is None else b"%016X" % row.via
+    return b"row:%016X:%d:%s:%d:%s:%s:\n" % (k, row.level, OWNER_LETTERS[row.trust].encode(), row.left, scope, via)
+
+
+def why(state, rows, fpr, place):
+    """The reply to `why` of a user ID by its place in its key's block."""
+    k = key_id(fpr)
+    key = state.keys.get(k)
+    if key is None or key.fpr != fpr:
+        return b"err no-such-key\n"
+    if place > len(key.users):
+        return b"err no-such-user\n"
+    user = key.users[place - 1]
+    certifiers, kept = sorted(direct(state, rows, k, user)), explanation(state, rows, k, user)
+    after = cut(state, kept, k)
+    count = counted(state, rows, user) if certifiers else (0, 0, 0, 0)
+    head = b"why:%s:%016X:%d:%d:%d:%d:%d:\n" % (letter(state, rows, k, user).encode(), k, place, *count)
+    by = (b"by:%016X:%s:\n" % (issuer, OWNER_LETTERS[rows[issuer].trust].encode()) for issuer in certifiers)
+    there = letter(after, rows_of(after), k, after.keys[k].users[place - 1])
+    return head + b"".join(printed_row(other, rows[other]) for other in sorted(kept)) + b"".join(by) + b"cut:%s:\nok\n" % there.encode()
+
+
 def quoted(text):
     return b"".join(b"\\x%02x" % byte if byte < 0x20 or byte in b"\x7f:\\" else bytes([byte]) for byte in text)
 
@@ -238,14 +290,15 @@ def printed_cert(cert):
     trusts = b"%d %d" % (cert.depth, cert.amount) if cert.depth or cert.amount else b""
     record = b"rev" if cert.kind == REVOCATION else b"sig"
     scope, local = quoted(cert.scope or b""), b"l" if cert.local else b"x"
-    return b"%s:!:::%016X:%d:%s:%s:%s::%02x%s:\n" % (record, cert.issuer, cert.made, expiry(cert), trusts, scope, cert.kind, local)
+    named = b":%s:" % cert.issuer_fpr.hex().upper().encode() if cert.issuer_fpr else b""
+    return b"%s:!:::%016X:%d:%s:%s:%s::%02x%s:%s\n" % (record, cert.issuer, cert.made, expiry(cert), trusts, scope, cert.kind, local, named)
 
 
 def expiry(thing):
     return b"%d" % thing.expires if thing.expires else b""
 
 
-def printed_key(state, rows, k):
+def printed_key(state, rows, k, with_certs):
     key, letters = state.keys[k], key_letter(state, rows, k).encode()
     trust, disabled = state.trusts.get(key.fpr, (UNKNOWN, False))
     caps = key.caps + (b"D" if disabled else b"")
@@ -255,14 +308,20 @@ def printed_key(state, rows, k):
     for user in key.users:
         kind = (b"uid", b"uat")[user.kind]
         yield b"%s:%s::::%d:%s:%s::%s:\n" % (kind, letter(state, rows, k, user).encode(), user.made, expiry(user), user.hash, quoted(user.text))
-        yield from map(printed_cert, user.certs)
+        yield from map(printed_cert, user.certs if with_certs else ())
+
+
+def listed(state, with_certs=False):
+    """What `list` prints of the whole keyring, before its last line."""
+    rows, options = rows_of(state), state.options
+    head = (options.pgp, state.date, next_check(state), options.marginals, options.completes, options.depth)
+    lines = (line for k in sorted(state.keys) for line in printed_key(state, rows, k, with_certs))
+    return b"tru::%d:%d:%d:%d:%d:%d\n" % head + b"".join(lines)
 
 
 def sigs(state):
-    """What `sigs` prints of the whole keyring, before its last line."""
-    rows, options = rows_of(state), state.options
-    head = (options.pgp, state.date, next_check(state), options.marginals, options.completes, options.depth)
-    return b"tru::%d:%d:%d:%d:%d:%d\n" % head + b"".join(line for k in sorted(state.keys) for line in printed_key(state, rows, k))
+    """What `sigs` prints of it."""
+    return listed(state, with_certs=True)
 
 
 def export(state):

@@ -1,7 +1,7 @@
 """A second reading of docs/FORMATS.md: what an ownertrust text gives, or its first fault with its line."""
-import listing
-from keyring import TRUST_NUMBERS
-from listing import Fault, Fields, digits
+from . import listing
+from .keyring import TRUST_NUMBERS
+from .listing import Fault, Fields, digits
 
 
 def read_line(line):

@@ -2,16 +2,17 @@
 import re
 from typing import NamedTuple
 
-import keyring
-import listing
-import store
-from program import by, fingerprint, imported, key
+from . import keyring
+from . import listing
+from . import ownertrust
+from . import store
+from .program import by, fingerprint, imported, key, key_id
 
 NAMES = "ABCDEF12"
 NEW = store.shown(b"", b"")
 TRUSTS = {"-": 0, "q": 2, "n": 3, "m": 4, "f": 5, "u": 6}
 DATES = (0, 1500, 3000, 5000, 9000)
-SCOPES = ("", "", "<[^>]+[@.]example\\x5c.org>$", "<[^>]+[@.]example\\x5c.net>$")
+SCOPES = ("", "", "<[^>]+[@.]example\\x5c.org>$", "<[^>]+[@.]example\\x5c.net>$", "@example|^F", "[A-C] <")
 
 
 class Step(NamedTuple):
@@ -75,6 +76,13 @@ def shows(state):
     return keyring.sigs(state) + b"ok\n" + keyring.export(state) + b"ok\n"
 
 
+def printed(sigs, export, date, options):
+    """The state that the replies to `sigs` and `export` print, of this date and these options."""
+    keys, _, _ = listing.read([line for line in sigs.splitlines() if line != b"ok"])
+    _, state = ownertrust.imported(keyring.opening(), [line for line in export.splitlines() if line != b"ok"])
+    return state._replace(keys=keys, date=date, options=options)
+
+
 ASKED = "sigs\nexport\n"
 
 
@@ -106,7 +114,7 @@ def sample(seed, count):
 def keys(*lines):
     """The import of some keys, as they are listed."""
     found, _, _ = listing.read("".join(lines).encode().splitlines())
-    return Step(imported(*lines), b"\1" + store.some([found[k] for k in sorted(found)], store.key_bytes))
+    return Step(imported(*lines), store.import_payload(found))
 
 
 def entries(values):
@@ -134,9 +142,11 @@ class Steps:
 
     def certification(self):
         kind, record = self.chance.choice((("13x", "sig"), ("10l", "sig"), ("11x", "sig"), ("30x", "rev")))
-        trusts = self.chance.choice(("", "1 60", "2 120"))
+        trusts = self.chance.choice(("", "1 60", "2 120", "4 120"))
         scope = self.chance.choice(SCOPES) if trusts else ""
-        return by(self.name(), self.chance.choice(DATES), self.chance.choice(("", "", 4000)), trusts, scope, kind, record)
+        name, other = self.name(), self.name()
+        named = self.chance.choice(("", "", fingerprint(name), fingerprint(other), "0" * 48 + key_id(name)))
+        return by(name, self.chance.choice(DATES), self.chance.choice(("", "", 4000)), trusts, scope, kind, record, named)
 
     def key(self, name):
         certs = [self.certification() for _ in range(self.chance.randrange(4))]

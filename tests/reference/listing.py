@@ -6,11 +6,12 @@ import calendar
 import datetime
 import re
 
-from keyring import CLASSES, KEY_CERTS, KEY_USERS, SCOPE, Cert, Key, User, key_id
+from .keyring import CLASSES, KEY_CERTS, KEY_USERS, SCOPE, Cert, Key, User, key_id
 
 ESCAPES = {b"n": b"\n", b"r": b"\r", b"t": b"\t", b"f": b"\f", b"v": b"\v", b"b": b"\b", b"0": b"\0", b"\\": b"\\"}
 ENDS = (b"sec", b"crt", b"crs")
 HEX = rb"[0-9A-Fa-f]"
+FINGERPRINT = HEX + rb"{40}|" + HEX + rb"{64}"
 # the bytes of a line without its newline
 LINE = 65536
 
@@ -44,7 +45,7 @@ class Fields:
         return int(self[place], 16)
 
     def fingerprint(self, place):
-        if not re.fullmatch(HEX + rb"{40}|" + HEX + rb"{64}", self[place]):
+        if not re.fullmatch(FINGERPRINT, self[place]):
             raise Fault("BadHex")
         return bytes.fromhex(self[place].decode())
 
@@ -146,10 +147,11 @@ class Block:
         made, expires = fields.date(6), fields.date(7)
         depth, amount = trust_field(fields[8])
         scope = unquoted(fields[9]) or None
+        named = bytes.fromhex(fields[13].decode()) if re.fullmatch(FINGERPRINT, fields[13]) else None
         if len(scope or b"") > SCOPE or self.certs == KEY_CERTS:
             raise Fault("LimitReached")
         self.certs += 1
-        self.users[-1][1].append(Cert(issuer, kind, fields[11][2:3] == b"l", made, expires, depth, amount, scope))
+        self.users[-1][1].append(Cert(issuer, kind, fields[11][2:3] == b"l", made, expires, depth, amount, scope, named))
         return True
 
     def leave_primary(self):

@@ -1,23 +1,25 @@
-#!/usr/bin/env python3
 """A second reading of docs/FORMATS.md: what a pair of store files shows, or which fault it has first; and how a side is written.
 
-It shares nothing with the program. Called as a script it tries itself on bytes that were worked out by hand.
+It shares nothing with the program. `tests/store_bytes.py` tries it on bytes that were worked out by hand.
 """
 import hashlib
 import os
-import sys
 from typing import NamedTuple
 
-import listing
-import made
-from keyring import (
+from . import listing
+from . import made
+from .keyring import (
     RECORD, SCOPE, TRUST_NUMBERS, Cert, Key, Options, Row, State, User, is_well_formed, key_id, limit_passed, opening, order, rows_of,
 )
 
 GATE, MAGIC, HEADER, PAGE, CONTENT = 0xA5, b"WOTBASE", 24, 4096, 4064
 MOST = 2**32 - 1
 NAMES = ("wot.0", "wot.1")
-FORMAT = 1
+# the format of images that is written, and the rules by which their rows are counted now
+FORMAT, RULES = 3, 2
+FORMATS = (1, 2, 3)
+# the tags of an import: certifications that may name a fingerprint have one of their own, and the other is read alone
+IMPORT, FIRST_IMPORT = 9, 1
 LAST_EPOCH = 2**64 - 1
 
 
@@ -51,10 +53,13 @@ def rise(values):
 
 
 class Bytes:
-    """Bytes that are read from the front on."""
+    """Bytes that are read from the front on; certifications in them may name fingerprints, and rows delegators, or have no room for these."""
 
-    def __init__(self, data):
+    def __init__(self, data, has_named=True, has_vias=True):
         self.data, self.at = data, 0
+        self.has_named, self.has_vias = has_named, has_vias
+        # certifications without that room, each of which is longer by one byte where it is written now
+        self.shorter = 0
 
     def take(self, size):
         need(self.at + size <= len(self.data))
@@ -95,8 +100,15 @@ class Bytes:
         need(1 <= len(text) <= SCOPE)
         return text
 
+    def named(self):
+        if self.has_named:
+            return self.fingerprint() if self.flag() else None
+        self.shorter += 1
+        return None
+
     def cert(self):
-        return Cert(self.number(8), self.number(1), self.flag(), self.number(4), self.number(4), self.number(1), self.number(1), self.scope())
+        numbers = self.number(8), self.number(1), self.flag(), *(self.number(size) for size in (4, 4, 1, 1))
+        return Cert(*numbers, self.scope(), self.named())
 
     def user(self):
         kind = int(self.flag())
@@ -128,8 +140,11 @@ class Bytes:
         need(options.completes >= 1 and options.marginals >= 2 and options.depth >= 1 and 1 <= options.level <= 3)
         return options
 
+    def via(self):
+        return self.number(8) if self.has_vias and self.flag() else None
+
     def row(self):
-        return self.number(8), Row(self.number(1), self.trust(), self.number(1), self.scope())
+        return self.number(8), Row(self.number(1), self.trust(), self.number(1), self.scope(), self.via())
 
     def rows(self):
         rows = self.list(self.row)
@@ -138,18 +153,22 @@ class Bytes:
 
 
 def read_base(contents):
-    """The state and the rows of the contents of a base: an image, and then fewer bytes 00 than a page has."""
+    """The state of the contents of a base, and its rows where they were counted by the rules of now: an image, and then fewer bytes 00 than a page has."""
     front = Bytes(contents)
     image = Bytes(front.take(front.number(8)))
     padding = contents[front.at:]
     need(len(padding) < CONTENT and not any(padding))
-    need(image.number(1) == FORMAT)
+    form = image.number(1)
+    need(form in FORMATS)
+    image.has_named, image.has_vias = form > 1, form > 2
+    rules = image.number(1) if form == FORMAT else 0
+    need(form < FORMAT or 1 <= rules <= RULES)
     date, options = image.number(4), image.options()
     trusts, keys, rows = image.entries(), image.keys(), image.rows()
     image.end()
     state = State(keys, trusts, date, options)
     need(limit_passed(state) is None)
-    return state, rows
+    return state, rows if rules == RULES else None
 
 
 def set_entry(state, fpr, trust, disabled):
@@ -176,12 +195,12 @@ def sampled(seed, count):
 
 def read_edit(payload):
     """The edit that a payload spells: from a state to the state after it, or to nothing where it is refused."""
-    data = Bytes(payload)
+    data = Bytes(payload, has_named=payload[:1] != bytes([FIRST_IMPORT]))
     tag = data.number(1)
     need(tag in EDITS)
     edit = EDITS[tag](data)
     data.end()
-    return edit
+    return edit if len(payload) + data.shorter <= RECORD else lambda state: None
 
 
 def import_of(data):
@@ -229,7 +248,7 @@ def within(state):
     return None if limit_passed(state) else state
 
 
-EDITS = {1: import_of, 2: ownertrust_of, 3: set_of, 4: flag_of, 5: delete_of, 6: date_of, 7: options_of, 8: sample_of}
+EDITS = {FIRST_IMPORT: import_of, IMPORT: import_of, 2: ownertrust_of, 3: set_of, 4: flag_of, 5: delete_of, 6: date_of, 7: options_of, 8: sample_of}
 
 
 def is_blank(side):
@@ -256,7 +275,7 @@ def page_contents(data, epoch, pages):
 
 
 def shown_base(data, epoch, pages):
-    """The state of a base, or its first fault. Its rows must be those of its introducers, counted by the rules: neither more nor fewer, nor others."""
+    """The state of a base, or its first fault. Rows that were counted by the rules of now must be those of its introducers: neither more nor fewer, nor others."""
     if base_end(pages) >= min(len(data), MOST):
         return Bad("Short")
     contents = page_contents(data, epoch, pages)
@@ -266,7 +285,7 @@ def shown_base(data, epoch, pages):
         state, rows = read_base(contents)
     except NoSpelling:
         return Bad("Spelling")
-    return state if rows == rows_of(state) else Bad("Row")
+    return state if rows is None or rows == rows_of(state) else Bad("Row")
 
 
 def replayed(data, state, at):
@@ -281,7 +300,7 @@ def replayed(data, state, at):
             edit = read_edit(payload)
         except NoSpelling:
             return Bad("BadPayload")
-        state = edit(state) if len(payload) <= RECORD else None
+        state = edit(state)
         if state is None:
             return Bad("BadEdit")
         at = end
@@ -349,27 +368,39 @@ def some(values, spell):
     return number(len(values), 4) + b"".join(map(spell, values))
 
 
-def scope_bytes(scope):
-    return b"\0" if scope is None else b"\1" + text(scope)
+def optional(value, spell):
+    """A flag, and what there is."""
+    return b"\0" if value is None else b"\1" + spell(value)
 
 
-def cert_bytes(cert):
+def cert_bytes(cert, has_named=True):
+    """A certification; the first form has no room for a fingerprint."""
     numbers = number(cert.issuer, 8) + bytes([cert.kind, cert.local]) + number(cert.made, 4) + number(cert.expires, 4)
-    return numbers + bytes([cert.depth, cert.amount]) + scope_bytes(cert.scope)
+    assert has_named or cert.issuer_fpr is None
+    return numbers + bytes([cert.depth, cert.amount]) + optional(cert.scope, text) + (optional(cert.issuer_fpr, fingerprint_bytes) if has_named else b"")
 
 
-def user_bytes(user):
+def user_bytes(user, has_named=True):
     head = bytes([user.kind]) + text(user.text) + text(user.hash) + number(user.made, 4) + number(user.expires, 4)
-    return head + bytes([user.revoked]) + some(user.certs, cert_bytes)
+    return head + bytes([user.revoked]) + some(user.certs, lambda cert: cert_bytes(cert, has_named))
 
 
 def fingerprint_bytes(fpr):
     return bytes([len(fpr)]) + fpr
 
 
-def key_bytes(key):
+def key_bytes(key, has_named=True):
     numbers = b"".join(number(value, 4) for value in (key.bits, key.algo, key.made, key.expires))
-    return fingerprint_bytes(key.fpr) + numbers + bytes([key.revoked]) + text(key.caps) + some(key.users, user_bytes)
+    return fingerprint_bytes(key.fpr) + numbers + bytes([key.revoked]) + text(key.caps) + some(key.users, lambda user: user_bytes(user, has_named))
+
+
+def keys_bytes(keys, has_named=True):
+    return some([keys[k] for k in sorted(keys)], lambda key: key_bytes(key, has_named))
+
+
+def import_payload(keys, tag=IMPORT):
+    """The payload of an import of these keys."""
+    return bytes([tag]) + keys_bytes(keys, tag == IMPORT)
 
 
 def entry_bytes(entry):
@@ -381,16 +412,17 @@ def options_bytes(options):
     return bytes([options.pgp]) + number(options.completes, 4) + number(options.marginals, 4) + bytes([options.depth, options.level])
 
 
-def row_bytes(entry):
+def row_bytes(entry, has_vias=True):
     key, row = entry
-    return number(key, 8) + bytes([row.level, row.trust, row.left]) + scope_bytes(row.scope)
+    head = number(key, 8) + bytes([row.level, row.trust, row.left]) + optional(row.scope, text)
+    return head + (optional(row.via, lambda via: number(via, 8)) if has_vias else b"")
 
 
-def image_bytes(state, rows):
-    """The image of a state with these rows."""
-    body = bytes([FORMAT]) + number(state.date, 4) + options_bytes(state.options)
+def image_bytes(state, rows, form=FORMAT, rules=RULES):
+    """The image of a state with these rows, as it is written now or was before."""
+    body = bytes([form, rules] if form == FORMAT else [form]) + number(state.date, 4) + options_bytes(state.options)
     body += some(sorted(state.trusts.items(), key=lambda entry: order(entry[0])), entry_bytes)
-    body += some([state.keys[k] for k in sorted(state.keys)], key_bytes) + some(sorted(rows.items()), row_bytes)
+    body += keys_bytes(state.keys, form > 1) + some(sorted(rows.items()), lambda entry: row_bytes(entry, form > 2))
     return number(len(body), 8) + body
 
 
@@ -414,67 +446,3 @@ def side_of(epoch, image, payloads=()):
 
 def side_for(epoch, state, payloads=()):
     return side_of(epoch, image_bytes(state, rows_of(state)), payloads)
-
-
-WORKED = (
-    ("the image of the opening state", image_bytes(opening(), {}), "000000000000001c 01 00000000 01 00000001 00000003 05 02 00000000 00000000 00000000"),
-    ("the header of a new store", side_for(1, opening())[:HEADER], "a5 574f5442415345 0000000000000001 0000000000000001"),
-    ("a record of ownertrust", record(bytes.fromhex("0314" + "00" * 19 + "aa06")), "a5 00000017 03 14 00000000000000000000000000000000000000aa 06"),
-)
-
-
-def worked():
-    """What was worked out by hand, and is something else here."""
-    for name, bytes_here, wanted in WORKED:
-        yield name, bytes_here.hex(), wanted.replace(" ", "")
-    fresh, trusted = side_for(1, opening()), side_for(1, opening(), [bytes.fromhex("0314" + "00" * 19 + "aa06")])
-    yield "the length of a new store", (len(fresh), shown(fresh, b"").end), (4121, 4120)
-    yield "the length of one with a record", (len(trusted), shown(trusted, b"").end), (4149, 4148)
-    yield "the ownertrust", shown(trusted, b"").state.trusts, {bytes(19) + b"\xaa": (6, False)}
-    dated = side_for(1, opening(), [bytes.fromhex("0600001388"), bytes.fromhex("0700000000010000000305" + "02")])
-    yield "a date and options", shown(dated, b"").state[2:], (5000, Options(False, 1, 3, 5, 2))
-    yield "two blank sides", shown(b"", bytes(100)), Shown(opening(), 0, 1, 4120)
-    for name, fault in faults(fresh):
-        yield name, fault[0], Bad(fault[1])
-    yield from moved(fresh)
-
-
-def moved(fresh):
-    """Stores that are moved to their other side, which may end in what an earlier base left there."""
-    trusted = side_for(1, opening(), [bytes.fromhex("0314" + "00" * 19 + "aa06")])
-    first = shown(trusted, b"")
-    second = compacted(first)
-    moved_once = side_for(2, first.state)
-    yield "a new side", (second, shown(trusted, moved_once)), (Shown(first.state, 1, 2, 4120),) * 2
-    third = compacted(edited(second, bytes.fromhex("0600001388")))
-    moved_twice = side_for(3, third.state) + trusted[4121:]
-    yield "the first side again", (third, shown(moved_twice, moved_once)), (Shown(first.state._replace(date=5000), 0, 3, 4120),) * 2
-    last = Shown(opening(), 0, LAST_EPOCH, 4120)
-    yield "the last epoch", (compacted(last), shown(side_for(LAST_EPOCH, opening()), fresh)), (last, last)
-
-
-def faults(fresh):
-    """Each fault of a store, made from a new one."""
-    later, image = side_for(2, opening()), image_bytes(opening(), {})
-    yield "another magic", (shown(later, fresh[:1] + b"X" + fresh[2:]), "Magic")
-    yield "equal epochs", (shown(fresh, fresh), "SameEpoch")
-    yield "no gate behind the pages", (shown(fresh[:-1], b""), "Short")
-    yield "pages that pass the side", (shown(b"", later[:23] + b"\2" + later[24:]), "Short")
-    yield "a page of another epoch", (shown(later[:15] + b"\3" + later[16:], fresh), "Seal")
-    yield "no pages", (shown(fresh[:23] + b"\0" + bytes(9), b""), "Spelling")
-    yield "a page too many", (shown(side_of(1, image + bytes(CONTENT)), b""), "Spelling")
-    yield "a byte behind the image", (shown(side_of(1, image + b"\1"), b""), "Spelling")
-    yield "another format", (shown(side_of(1, image[:8] + b"\2" + image[9:]), b""), "Spelling")
-    yield "a row of no key", (shown(side_of(1, image_bytes(opening(), {1: Row(0, 6, 0, None)})), b""), "Row")
-    yield "a row of no key, and a record that passes the side", (shown(side_of(1, image_bytes(opening(), {1: Row(0, 6, 0, None)}))[:-1] + b"\xa5", b""), "Row")
-    yield "a record that passes the side", (shown(side_for(1, opening())[:-1] + b"\xa5\0\0\0\1\6", b""), "Short")
-    yield "a payload that spells nothing", (shown(side_for(1, opening(), [b"\6\0\0\0"]), b""), "BadPayload")
-    yield "a key that is not there", (shown(side_for(1, opening(), [b"\5" + bytes(8)]), b""), "BadEdit")
-
-
-if __name__ == "__main__":
-    found = list(worked())
-    wrong = [f"{name}: {here} in place of {wanted}" for name, here, wanted in found if here != wanted]
-    if wrong:
-        sys.exit("\n".join(["store:", *wrong]))
-    print(f"store: {len(found)} worked bytes ok")

@@ -1,0 +1,382 @@
+#!/usr/bin/env python3
+"""Runs the programs of contrib/ that ask a store, and their module, where it is not plain: what is written goes into a device or a link, the
+store is of a past day, held by another run or not ours to write, a name is nobody's, a signature is not accepted.
+
+It skips, and says so, what needs gpg, chromium, a node of a device or a user without rights, where there is none.
+"""
+import contextlib
+import functools
+import html
+import os
+import pathlib
+import re
+import shutil
+import signal
+import stat
+import subprocess
+import sys
+import threading
+import time
+
+from contrib import NoGnuPG, checked, gpg, make_keyring, place, primaries, raised, session, synced, wot, wot_explain
+from reference.program import PROGRAM, by, fingerprint, folder, imported, key, key_id, run, trust
+
+NOW = str(int(time.time()))
+# root may write any file; without its capabilities it is a user as others are
+WITHOUT_RIGHTS = ["setpriv", "--bounding-set", "-all", "--inh-caps", "-all"] if os.geteuid() == 0 else []
+CHROMIUM = shutil.which("chromium")
+DEVICES = {"null": (1, 3), "full": (1, 7)}
+
+
+@contextlib.contextmanager
+def store_of(given):
+    """A place whose own folder has a store."""
+    with place() as at:
+        run(given, where=at.here)
+        at.environment["WOT_STORE"] = str(at.here)
+        yield at
+
+
+def can_make_nodes():
+    with folder() as where:
+        try:
+            os.mknod(os.path.join(where, "null"), stat.S_IFCHR | 0o666, os.makedev(*DEVICES["null"]))
+            return bool(open(os.path.join(where, "null"), "wb").close() is None)
+        except OSError:
+            return False
+
+
+def into(at, call):
+    """What stands there after each program wrote: devices, a link, a fifo, a folder; and the mode of a file."""
+    if can_make_nodes():
+        for name, number in DEVICES.items():
+            os.mknod(at.here / name, stat.S_IFCHR | 0o666, os.makedev(*number))
+        yield "a device", (call("null"), (at.here / "null").is_char_device()), (0, True)
+        yield "a device that is full", (call("full"), (at.here / "full").is_char_device()), (2, True)
+    os.mkfifo(at.here / "fifo")
+    with subprocess.Popen(["cat", at.here / "fifo"], stdout=subprocess.PIPE) as reader:
+        yield "a fifo", (call("fifo"), len(reader.communicate(timeout=60)[0]) > 7, (at.here / "fifo").is_fifo()), (0, True, True)
+    (at.here / "there").mkdir()
+    (at.here / "link").symlink_to("there/file")
+    yield "a link to nothing", (call("link"), (at.here / "link").is_symlink(), (at.here / "there" / "file").stat().st_size > 7), (0, True, True)
+    (at.here / "there" / "file").write_bytes(b"")
+    (at.here / "there" / "file").chmod(0o604)
+    yield "a link to a file", (call("link"), (at.here / "link").is_symlink(), (at.here / "there" / "file").stat().st_size > 7), (0, True, True)
+    yield "its mode", stat.S_IMODE((at.here / "there" / "file").stat().st_mode), 0o604
+    yield "a folder", call("there"), 2
+    yield "nothing else", sorted(os.listdir(at.here / "there")), ["file"]
+
+
+def outputs():
+    """What the page is written into."""
+    with store_of(session("levels")) as at:
+        yield from into(at, lambda name: at.status("wot-report", name))
+        done = at.run("sh", "-c", "echo former > all; wot-report /dev/stdout >> all; head -n 2 all")
+        yield "what is open already", done.stdout, "former\n<!DOCTYPE html>\n"
+
+
+OLD = "date 500\n" + trust("A", "u") + imported(key("A"), key("B", "A", expires=1000).replace("scSC", "scESC"))
+
+
+def stale():
+    """Past the next check, or an age, people are warned and programs get no letter."""
+    b, address = fingerprint("B"), "b@example.org"
+    for name, given, words, told in (
+        ("past the next check", OLD, (), "and the next check is at 1970-01-01 00:16:40 UTC: run wot-sync\n"),
+        ("too old", OLD.replace("expires=1000", "").replace(":1000:1000:", ":1000::"), ("--max-age", "3"), "which is more than 3 days ago: run wot-sync\n"),
+    ):
+        with store_of(given) as at:
+            for program in (("wot-list",), ("wot-why", address), ("wot-report", "page")):
+                done = at.run(program[0], *words, *program[1:])
+                yield f"{name}: {program[0]}", (done.returncode, done.stderr), (0, f"{program[0]}: the store tells of 1970-01-01 00:08:20 UTC, {told}")
+            yield f"{name}: the page", "These letters may be others now" in (at.here / "page").read_text(encoding="utf-8"), True
+            yield f"{name}: the module as a program", (at.status("wot.py", *words, address), at.run("wot.py", *words, "--stale", address).stdout), (2, f"f {b}\n")
+            with wot.Wot(at.here, PROGRAM, max_age=3) as store:
+                calls = [functools.partial(store.letter_of, b, address), *(functools.partial(call, address) for call in (store.letters, store.letter, store.encrypt_to))]
+                yield f"{name}: the module", [raised(call)[0] for call in calls], ["Stale"] * 4
+                yield f"{name}: asked all the same", [call(stale=True) for call in calls], ["f", {b: "f"}, "f", [b]]
+    with store_of(OLD + f"date {NOW}\n" + imported(key("B", "A"))) as at:
+        yield "of today", (at.run("wot-list").stderr, at.run("wot.py", "--max-age", "1", address).stdout), ("", f"f {b}\n")
+
+
+def signers():
+    """The letter of an address on the key that signed; and to which key a letter is encrypted first."""
+    texts = {"B": "Bob <bob@example.org>", "C": "Bob <bob@example.org>", "D": "Dan <bob@example.org>"}
+    with store_of(trust("A", "u") + trust("E", "m") + imported(
+        key("A"), key("E", "A"), key("B", "A", text=texts["B"]), key("C", text=texts["C"]), key("D", "A", text=texts["D"])) + f"disable {fingerprint('D')}\n") as at:
+        with wot.Wot(at.here, PROGRAM) as store:
+            yield "who signed", [store.letter_of(fingerprint(name), "BOB@example.org") for name in "BCDAF"], ["f", "-", "-", "-", "-"]
+            yield "any key", store.letter("bob@example.org"), "f"
+        asked = at.run("wot.py", "--signer", fingerprint("C"), "bob@example.org")
+        yield "as a program", (asked.stdout, asked.returncode), (f"- {fingerprint('C')}\n", 0)
+    keys = [key(name, "A", text="Bob <bob@example.org>").replace("scSC", "scESC") for name in ("11", "22", "33", "44")]
+    keys[1], keys[3] = keys[1].replace(":1000:", ":3000:", 1), keys[3].replace(by("A"), "")
+    with store_of(trust("A", "u") + trust("22", "-") + trust("44", "u") + imported(key("A"), *keys)) as at, wot.Wot(at.here, PROGRAM) as store:
+        yield "the best, then the latest, then the least", store.encrypt_to("bob@example.org"), [fingerprint(name) for name in ("44", "22", "11", "33")]
+
+
+def held():
+    """Another run holds the store: who asks by the module waits for it, and says so where that took too long."""
+    with store_of(session("levels")) as at:
+        def hold():
+            other = subprocess.Popen([PROGRAM], cwd=at.here, stdin=subprocess.PIPE, stdout=subprocess.PIPE)
+            other.stdin.write(b"export\n")
+            other.stdin.flush()
+            while not other.stdout.readline().startswith(b"ok"):
+                pass
+            return other
+        other = hold()
+        began = time.monotonic()
+        threading.Timer(0.7, lambda: other.communicate(timeout=60)).start()
+        with wot.Wot(at.here, PROGRAM, wait=60) as store:
+            yield "it waits", (store.letter("hana@example.org"), time.monotonic() - began > 0.6), ("f", True)
+        other.wait(timeout=60)
+        with hold() as other:
+            yield "it was held", raised(lambda: wot.Wot(at.here, PROGRAM, wait=0.2).letter("hana@example.org")), ("Held", "another run of wot holds the store", 5)
+            other.communicate(timeout=60)
+        yield "nothing is left", at.run("wot-why", "hana@example.org").returncode, 0
+
+
+def denied():
+    """A store that may not be written is asked as a copy, which takes no edit; and what may not be read is told as that."""
+    asks = "import sys, wot\nstore = wot.Wot('.', sys.argv[1])\nprint(store.letter('hana@example.org'))\nstore.ask('compact')"
+    with store_of(session("levels")) as at:
+        (at.here / "tmp").mkdir()
+        at.environment["TMPDIR"] = str(at.here / "tmp")
+        for path in (at.here / "wot.0", at.here / "wot.1"):
+            path.chmod(0o444)
+        before = [(at.here / name).read_bytes() for name in wot.FILES]
+        for name, mode, files in (("files", 0o755, wot.FILES), ("a folder with one", 0o555, wot.FILES[:1])):
+            for file in set(wot.FILES) - set(files):
+                (at.here / file).unlink()
+            at.here.chmod(mode)
+            done = at.run(*WITHOUT_RIGHTS, "wot-why", "hana@example.org")
+            yield f"{name}: it is asked", (done.stdout.partition(" <")[0], done.stderr, done.returncode), ("[  full  ] Hana", "", 0)
+            done = at.run(*WITHOUT_RIGHTS, sys.executable, "-c", asks, PROGRAM, PYTHONPATH=str(pathlib.Path(wot.__file__).parent))
+            yield f"{name}: it takes no edit", (done.stdout, "Denied: " in done.stderr), ("f\n", True)
+            yield f"{name}: as it was", [(at.here / name).read_bytes() for name in files], before[:len(files)]
+            yield f"{name}: no copy is left", os.listdir(at.here / "tmp"), []
+        at.here.chmod(0o755)
+        (at.here / "wot.0").chmod(0)
+        done = at.run(*WITHOUT_RIGHTS, "wot-list")
+        yield "a file that may not be read", (done.returncode, done.stderr), (2, f"wot-list: {at.here}/wot.0: permission denied\n")
+        (at.here / "inner").mkdir(mode=0)
+        done = at.run(*WITHOUT_RIGHTS, "wot-list", "--store", "inner")
+        yield "a folder that may not be entered", (done.returncode, done.stderr), (2, "wot-list: inner: permission denied\n")
+
+
+def names():
+    """What is said where nobody has a name, and what is shown of a photo, of encryption and of who is valid."""
+    photo = by("A").join([key("B", text="Bob <bob@example.org>"), "uat:-::::1000::AB::1 152:\n" + by("A")]).replace("scSC", "scESCE")
+    text = "Stra\u00dfe \u00c4rger <x@example.org>"
+    with store_of(trust("A", "u") + imported(key("A"), photo, key("C", text=text))) as at:
+        head = "as of 1970-01-01 00:00:00 UTC; nothing expires\n"
+        bob = f"\npub   ed25519 1970-01-01 [SCE]\n      {fingerprint('B')}\nuid           [  full  ] Bob <bob@example.org>\nuid           [  full  ] [photo, 152 bytes]\n"
+        yield "a photo", at.run("wot-list", "bob").stdout, head + bob
+        mine = f"\npub   ed25519 1970-01-01 [SC] [ownertrust: ultimate]\n      {fingerprint('A')}\nuid           [ultimate] A <a@example.org>\n"
+        yield "who is valid", at.run("wot-list", "--valid").stdout, head + mine + bob
+        yield "none of these", (at.run("wot-list", "--valid", "x@example.org").stdout, at.status("wot-list", "--valid", "x@example.org")), (head, 1)
+        yield "by parts in any case", [at.run("wot-list", part).stdout.count("pub") for part in ("STRASSE", "\u00e4R", "stra\u00dfe", "b <B", "x3a", key_id("B"))], [1, 1, 1, 1, 0, 1]
+        for name, wanted in (
+            (fingerprint("F"), f"no key of this fingerprint: {fingerprint('F')}; a subkey's is not kept here, gpg -k {fingerprint('F')} shows its primary key"),
+            ("0x" + key_id("F"), f"no key of this key ID: 0x{key_id('F')}; a subkey's is not kept here, gpg -k {key_id('F')} shows its primary key"),
+            ("ABCDEF01", "nobody of that name: ABCDEF01; a key ID of 8 digits is not looked for, as many keys can have it: gpg -k ABCDEF01 shows the fingerprint"),
+            ("nobody", "nobody of that name: nobody"),
+        ):
+            for program in ("wot-list", "wot-why", "wot-why-not"):
+                done = at.run(program, name)
+                yield f"{program} {name}", (done.returncode, done.stderr), (1, f"{program}: {wanted}\n")
+    with store_of(trust("A", "u") + imported(key("A"), key("B", "A", text="Bob <b@example.org>"), key("C", text="Bob <b@example.org>"), key("D", "B"))) as at:
+        yield "two of one name", [line.split()[-1] for line in at.run("wot-why", "b@example.org").stdout.splitlines() if line[0] == "["], [fingerprint("B"), fingerprint("C")]
+        yield "told apart", f"by Bob <b@example.org> ({key_id('B')}), who counts" in at.run("wot-why", "d@example.org").stdout, True
+
+
+def kept():
+    """An answer by fingerprint is kept until the store is another, and no longer."""
+    with store_of(session("levels")) as at:
+        os.environ["XDG_CACHE_HOME"] = str(at.here / "cache")
+        real, hana = wot.Wot, fingerprint("22")
+        try:
+            wot.look_up(at.here, hana, PROGRAM)
+            yield "not of a store of this moment", os.path.exists(at.here / "cache"), False
+            for name in wot.FILES:
+                os.utime(at.here / name, (1, 1))
+            first = [wot.look_up(at.here, one, PROGRAM) for one in (hana, fingerprint("EF"))]
+            wot.Wot = None
+            yield "kept", [wot.look_up(at.here, one, PROGRAM) for one in (hana, fingerprint("EF"))], first
+            yield "what", ([one.letter for one in first[0].keys], first[1].keys, first[1].marginals), (["f"], [], 3)
+            wot.Wot = real
+            run(f"delete {fingerprint('FF')}\noptions pgp 1 4 5 2\n", where=at.here)
+            yield "the store is another", [one.letter for one in wot.look_up(at.here, hana, PROGRAM).keys], ["m"]
+        finally:
+            wot.Wot = real
+            del os.environ["XDG_CACHE_HOME"]
+
+
+class Told:
+    """A store that tells one explanation."""
+
+    def __init__(self, lines):
+        self.lines = lines
+
+    def why(self, *_):
+        return wot.parsed_why(self.lines)
+
+
+def later_forms():
+    """Replies with a field more: by whose delegation an introducer introduces, and the fingerprint that a certification names."""
+    ids = {name: key_id(name) for name in "ABCDE"}
+    scopes = ["<[^>]+[@.]example\\x5c.org>$", "<[^>]+[@.]firm\\x5c.example>$"]
+    full = "::" + fingerprint("C") + ":\n"
+    lines = "tru::1:0:0:3:1:5\n" + key("A") + key("B", by("A", trusts="2 120", scope=scopes[0])) + key("C", by("B", trusts="1 120", scope=scopes[1])) + key(
+        "D", by("C")[:-1] + full[1:], by("E")[:-1] + full[1:], text="D <d@firm.example>") + key("E", "A")
+    people = wot_explain.People(wot.parsed_keyring(lines.replace("uid:-", "uid:q").splitlines()))
+    certs = people.keyring.keys[3].users[0].certifications
+    yield "a fingerprint", [cert.fingerprint for cert in certs], [fingerprint("C")] * 2
+    yield "that another key has", [people.names_another(cert) for cert in certs], [False, True]
+    told = [f"why:q:{ids['D']}:1:0:0:0:1:", f"row:{ids['A']}:0:u:0:::", f"row:{ids['B']}:1:f:1:{scopes[0]}:{ids['A']}:", f"row:{ids['C']}:2:n:0:{scopes[1]}:{ids['B']}:", f"by:{ids['C']}:n:"]
+    yield "who delegated", [row.via for row in wot.parsed_why(told).rows.values()], ["", ids["A"], ids["B"]]
+    told[1:3] = [told[1], f"row:{ids['B']}:1:f:1:{scopes[0]}:{ids['A']}:"]
+    said = wot_explain.explanation(Told(told), people, people.keyring.keys[3], 1)
+    yield "a certification that names another", said[-1].rpartition(": ")[2], f"it names another key, {fingerprint('C')}"
+    told[0], told[3:] = told[0].replace("why:q", "why:f"), [line.replace(":n:", ":f:") for line in told[3:]]
+    said = wot_explain.Explained(people, wot.parsed_why(told)).standing(ids["C"])
+    yield "the chain of scopes", said.partition(", for ")[2], "firm.example alone, delegated by B <b@example.org>, who is trusted for example.org alone"
+
+
+def interrupted():
+    """Ctrl-C ends each program with 130, and no traceback."""
+    with store_of(session("levels")) as at:
+        (at.tools / "slow").write_text(f"#!/bin/sh\necho > {at.here}/began\nexec sleep 60\n", encoding="utf-8")
+        (at.tools / "slow").chmod(0o755)
+        for words in (("wot-list",), ("wot-why", "x"), ("wot-why-not", "x"), ("wot-report", "page"), ("wot.py", "x@example.org")):
+            environment = {**at.environment, "WOT": str(at.tools / "slow")}
+            with subprocess.Popen(words, cwd=at.here, env=environment, stderr=subprocess.PIPE, start_new_session=True) as child:
+                while not (at.here / "began").exists() and child.poll() is None:
+                    time.sleep(0.02)
+                os.killpg(child.pid, signal.SIGINT)
+                yield words[0], (child.communicate(timeout=60)[1], child.returncode), (b"", 130)
+            (at.here / "began").unlink()
+
+
+MEASURE = """<iframe id="page" width="{wide}" height="900" src="page.html"></iframe><p id="told"></p><script>
+onload = () => {{
+  const page = document.getElementById("page").contentDocument, picture = page.querySelector(".picture"), drawn = page.querySelector("svg");
+  const box = (element) => element.getBoundingClientRect();
+  document.getElementById("told").textContent = [
+    page.documentElement.scrollWidth <= {wide}, picture.scrollWidth > picture.clientWidth, Math.round(box(drawn).width) == drawn.getAttribute("width"),
+    [...page.querySelectorAll("pre, table")].every((one) => one.scrollWidth <= {wide}),
+  ].join(" ");
+}};
+</script>"""
+
+
+def in_browser():
+    """The page is as wide as its window, and the pictures that are wider scroll in boxes of their own."""
+    names_of = [f"{number:02X}" for number in range(0x20, 0x25)]
+    scope = "<[^>]+[@.]a-firm-with-a-long-name\\x5c.example\\x5c.org>$"
+    keys = [key(name, by("A", trusts="1 120", scope=scope), text=f"Somebody with a long name {name} <somebody-{name}@a-long-address.example.org>") for name in names_of]
+    given = trust("A", "u") + imported(key("A"), *keys, key("C", *names_of, text="Carla <carla@a-firm-with-a-long-name.example.org>"))
+    with store_of(given) as at:
+        at.run("wot-report", "--why", "Carla", "page.html")
+        for wide in (1200, 420):
+            (at.here / "measure.html").write_text(MEASURE.format(wide=wide), encoding="utf-8")
+            done = at.run(
+                CHROMIUM, "--headless", "--no-sandbox", "--disable-gpu", "--allow-file-access-from-files", f"--user-data-dir={at.here}/profile",
+                "--virtual-time-budget=5000", "--dump-dom", f"file://{at.here}/measure.html")
+            yield f"at {wide}", re.findall('<p id="told">(.*?)</p>', html.unescape(done.stdout)), ["true true true true"]
+
+
+def verdicts():
+    """The verdict on a file has a reason; both orders of the files, and a fingerprint, are understood."""
+    _, alice, bob, carol = primaries()
+    with synced() as at:
+        (at.here / "file").write_bytes(b"content\n")
+
+        def signed(signer, name="sig", *words):
+            gpg("-u", signer, "--output", str(at.here / name), *(words or ("--detach-sign",)), str(at.here / "file"))
+
+        def said(*words):
+            done = at.run("wot-verify", *words)
+            return done.returncode, re.sub("^.* whose letter is at least .: ", "", done.stdout.splitlines()[-1]) if done.returncode == 1 else ""
+        signed(alice)
+        (at.here / "other").write_bytes(b"other\n")
+        signed(alice, "armoured", "--armor", "--detach-sign")
+        yield "both orders", [said(*words) for words in (("file", "sig"), ("sig", "file"), ("armoured", "file"), ("file", "armoured"))], [(0, "")] * 4
+        signed(alice, "file.sig")
+        yield "a signature alone", (said("file.sig")[0], at.run("wot-verify", "sig").stderr), (0, "wot-verify: sig is a signature alone: name the file too\n")
+        (at.here / "file.sig").unlink()
+        yield "bad", said("other", "sig"), (1, "the signature is bad: the file is not what was signed")
+        yield "none", said("file"), (1, "there is no signature")
+        yield "a fingerprint", [said("--by", who, "file", "sig") for who in (alice, "0x" + alice.lower(), bob)], [(0, ""), (0, ""), (1, f"the signer is {alice}")]
+        yield "neither", [said("--by", who, "file", "sig") for who in ("Bob", alice[-16:], "", "a@b <c")], [(2, "")] * 4
+        yield "another name", said("--by", "bob@example.org", "file", "sig"), (1, "the signer's key has no user ID of bob@example.org: it is full")
+        yield "no such file", at.run("wot-verify", "nofile").stderr, "wot-verify: nofile: No such file or directory\n"
+        yield "no such keyring", (at.status("wot-verify", "--keyring", "ring", "file", "sig"), (at.here / "ring").exists()), (2, False)
+        with at.failing_gpg("--verify", 'case "$*" in *--no-auto-check-trustdb*) exec REAL "$@" ;; esac; exit 9'):
+            yield "gpg's trust database is left alone", said("file", "sig"), (0, "")
+        signed(carol, "carols")
+        yield "not valid", [said(*words, "file", "carols") for words in ((), ("--by", "carol@example.org"))], [(1, "the signer's key is unknown"), (1, "the signer's user ID is unknown")]
+        (at.here / "ring").write_bytes(subprocess.run(["gpg", "--export", alice], capture_output=True, check=True).stdout)
+        yield "not on the keyring", said("--keyring", "ring", "file", "carols"), (1, f"gpg has no key {carol}")
+        signed(alice, "whole", "--sign")
+        yield "the verdict alone", said("whole"), (0, "")
+        yield from into(at, lambda name: at.status("wot-verify", "--output", name, "whole"))
+        run(f"disable {alice}\n", where=at.here / "store")
+        yield "disabled", said("file", "sig"), (1, "the signer's key is disabled")
+        run(f"delete {alice}\n", where=at.here / "store")
+        yield "not in the store", said("file", "sig"), (1, "the signer's key is not in the store")
+        yield from ended_keys(at, signed, said)
+
+
+def ended_keys(at, signed, said):
+    """A key that was revoked, and one that expired, since they signed: the store's names are shown all the same."""
+    made = {}
+    for name in ("Rita", "Ed"):
+        gpg("--quick-generate-key", f"{name} <{name.lower()}@example.org>", "ed25519", "default", "never")
+        made[name] = primaries()[-1]
+        signed(made[name], name)
+    text = (pathlib.Path(os.environ["GNUPGHOME"]) / "openpgp-revocs.d" / f"{made['Rita']}.rev").read_text(encoding="utf-8")
+    gpg("--import", given=text.replace(":-----BEGIN", "-----BEGIN"))
+    gpg("--quick-set-expire", made["Ed"], "seconds=1")
+    time.sleep(2)
+    yield "synced anew", at.status("wot-sync"), 0
+    for name, wanted in (("Rita", "revoked"), ("Ed", "expired")):
+        yield wanted, (said("file", name), f"[ {wanted}] {name} <" in at.run("wot-verify", "file", name).stdout), ((1, f"the signer's key is {wanted}"), True)
+
+
+def alone():
+    checks, left = [outputs, stale, signers, held, names, kept, later_forms, interrupted], []
+    if not WITHOUT_RIGHTS or shutil.which("setpriv"):
+        checks.append(denied)
+    else:
+        left.append("denied: no setpriv")
+    if CHROMIUM:
+        checks.append(in_browser)
+    else:
+        left.append("in_browser: no chromium")
+    if not can_make_nodes():
+        left.append("devices: no node can be made")
+    return *checked(*checks), left
+
+
+def over_gpg():
+    with folder() as home:
+        os.environ["GNUPGHOME"] = home
+        try:
+            make_keyring()
+            return *checked(verdicts), []
+        except NoGnuPG as fault:
+            return 0, [], [f"what needs a gpg keyring: {fault}"]
+        finally:
+            if shutil.which("gpgconf"):
+                subprocess.run(["gpgconf", "--kill", "all"], capture_output=True, check=False)
+
+
+if __name__ == "__main__":
+    parts = alone(), over_gpg()
+    wrong = [fault for _, faults, _ in parts for fault in faults]
+    if wrong:
+        sys.exit("\n".join(wrong))
+    skipped = [f"skipped: {part}" for _, _, left_out in parts for part in left_out]
+    print("; ".join([f"contrib_programs: {sum(done for done, _, _ in parts)} ok", *skipped]))
