@@ -1,9 +1,27 @@
-# Completion for bash: the commands of `wot` with their arguments, and the options of the programs beside it.
+# Completion for bash: the commands of `wot` with their arguments, and the options, names and letters of the programs beside it.
 # Source this file, or put it into bash-completion's folder under each of the names at its end.
 
-# the fingerprints of the store in the current folder; where there is none, none is made
-_wot_fingerprints() {
-  [ -e wot.0 ] && command "$1" list < /dev/null 2> /dev/null | awk -F: '$1 == "fpr" { print $10 }'
+# what `wot list` prints of the store that the words are about, by an awk program: of the current folder's, or of the one that wot-in goes
+# to; where there is none, none is made
+_wot_listed() {
+  local program=$1 beside=${COMP_WORDS[0]%"${COMP_WORDS[0]##*/}"} at store=()
+  case ${COMP_WORDS[0]##*/} in
+    wot) [ -e wot.0 ] || return 0; set -- "${COMP_WORDS[0]}" ;;
+    *)
+      for ((at = 1; at < COMP_CWORD - 1; at++)); do
+        # bash splits words at =
+        [ "${COMP_WORDS[at]}" != --store ] || { [ "${COMP_WORDS[at + 1]}" != = ] || at=$((at + 1)); store=(--store "${COMP_WORDS[at + 1]}"); }
+      done
+      set -- "${beside}wot-in" "${store[@]}" ;;
+  esac
+  command "$@" list < /dev/null 2> /dev/null | LC_ALL=C awk -F: "$program"
+}
+
+_wot_fingerprints() { _wot_listed '$1 == "fpr" { print $10 }'; }
+
+# the addresses of user IDs, and the names of those that have none
+_wot_names() {
+  _wot_listed '$1 == "uid" { text = $10; if (text ~ /<[^<> ]+>$/) { sub(/.*</, "", text); sub(/>$/, "", text) } if (text !~ /[ \\]/) print text }'
 }
 
 _wot_words() {
@@ -11,43 +29,65 @@ _wot_words() {
   while IFS= read -r word; do COMPREPLY+=("$word"); done < <(compgen -W "$1" -- "$current")
 }
 
+# words that may have an @, at which bash splits: it completes the part from the @ on, and what stands before is typed already
+_wot_whole_words() {
+  local part=$2 typed=${COMP_LINE:0:${COMP_POINT:-0}} at
+  typed=${typed##*[[:space:]]}
+  case $typed in *"$part") current=$typed ;; *) current=$part ;; esac
+  _wot_words "$1"
+  for at in "${!COMPREPLY[@]}"; do COMPREPLY[at]=${COMPREPLY[at]#"${current%"$part"}"}; done
+}
+
 _wot() {
   local current=${COMP_WORDS[COMP_CWORD]} command='' place=0 at word
   COMPREPLY=()
-  [ "${COMP_WORDS[COMP_CWORD - 1]}" != --workers ] || return 0
+  case ${COMP_WORDS[COMP_CWORD - 1]} in
+    --workers) return 0 ;;
+    --store) _wot_folders; return 0 ;;
+  esac
   for ((at = 1; at < COMP_CWORD; at++)); do
     word=${COMP_WORDS[at]}
     case $word in
       # bash splits words at =
-      --workers) at=$((at + 1)); [ "${COMP_WORDS[at]}" != = ] || at=$((at + 1)) ;;
-      --workers=* | --) ;;
+      --workers | --store) at=$((at + 1)); [ "${COMP_WORDS[at]}" != = ] || at=$((at + 1)) ;;
+      --workers=* | --store=* | --) ;;
       *) if [ -z "$command" ]; then command=$word; else place=$((place + 1)); fi ;;
     esac
   done
   case $command:$place in
     :*)
-      _wot_words '--workers trust disable enable delete date options import ownertrust sample list sigs export why check compact quit' ;;
+      _wot_words 'trust disable enable delete date options import ownertrust list sigs export why check compact quit'
+      case ${COMP_WORDS[0]##*/} in
+        wot-in) _wot_words '--help --store' ;;
+        # a made key may be ultimately trusted, so none is offered where a store is
+        *) _wot_words --workers; [ -e wot.0 ] || _wot_words sample ;;
+      esac ;;
     trust:0 | disable:0 | enable:0 | delete:0 | list:0 | sigs:0 | why:0)
       current=${current^^}
-      _wot_words "$(_wot_fingerprints "${COMP_WORDS[0]}")" ;;
+      _wot_words "$(_wot_fingerprints)" ;;
     trust:1) _wot_words 'o q n m f u' ;;
     options:0) _wot_words 'pgp classic' ;;
   esac
 }
 
-_wot_programs() {
-  local current=${COMP_WORDS[COMP_CWORD]} options='--help --store'
-  COMPREPLY=()
-  case ${COMP_WORDS[0]##*/} in
-    wot-nightly) options='--help --workers' ;;
-    wot-report) options="$options --since --why --min-cert-level" ;;
-    wot-sync) options='--help --keyring --ownertrust --root --options --check' ;;
-    wot-verify) options="$options --want --by --keyring --output" ;;
-    wot-why) options="$options --all --min-cert-level" ;;
-    wot-why-not) options="$options --min-cert-level" ;;
-  esac
-  case $current in -*) _wot_words "$options" ;; esac
+_wot_folders() {
+  local word
+  while IFS= read -r word; do COMPREPLY+=("$word"); done < <(compgen -d -- "$current")
 }
 
-complete -F _wot wot
-complete -o default -F _wot_programs wot-list wot-nightly wot-report wot-sync wot-verify wot-why wot-why-not
+_wot_programs() {
+  local current=${COMP_WORDS[COMP_CWORD]} before=${COMP_WORDS[COMP_CWORD - 1]}
+  COMPREPLY=()
+  [ "$before" != = ] || before=${COMP_WORDS[COMP_CWORD - 2]}
+  case ${COMP_WORDS[0]##*/}:$before:$current in
+    wot-verify:--want:*) _wot_words 'u f m q -' ;;
+    *:--min-cert-level:*) _wot_words '1 2 3' ;;
+    *:--store:*) _wot_folders ;;
+    # as the program itself tells its options
+    *:*:-*) _wot_words "$(command "${COMP_WORDS[0]}" --help 2> /dev/null | sed -n 's/^  \(-h, \)\{0,1\}\(--[a-z-]*\).*/\2/p')" ;;
+    wot-verify:--by:* | wot-report:--why:* | wot.py:* | wot-list:* | wot-why:* | wot-why-not:*) _wot_whole_words "$(_wot_names)" "${2-$current}" ;;
+  esac
+}
+
+complete -F _wot wot wot-in
+complete -o default -F _wot_programs deb wot.py wot-import wot-list wot-nightly wot-report wot-sync wot-verify wot-why wot-why-not
