@@ -1,69 +1,24 @@
 """GnuPG's own check of a keyring beside the program on what GnuPG prints of it. The keys are made here, packet by packet."""
-import hashlib
 import os
 import shutil
-import struct
 import subprocess
+import sys
 import tempfile
 
 import keyrings
-from measure import Failed, in_turn, ran, session, shown, table
+from measure import HERE, Failed, in_turn, ran, session, shown, table
 
-try:
-    from cryptography.hazmat.primitives.asymmetric.ed25519 import Ed25519PrivateKey
-    from cryptography.hazmat.primitives.serialization import Encoding, PublicFormat
-except ImportError:
-    Ed25519PrivateKey = None
+sys.path.append(os.path.join(HERE, "..", "tests", "reference"))
+import packets
 
-KEYS, CERTS, MADE = 1_000, 4, 1600000000
-ED25519 = bytes.fromhex("092b06010401da470f01")
-
-
-def packet(tag, body):
-    return bytes([0xC0 | tag, 255]) + struct.pack(">I", len(body)) + body
-
-
-def number(value):
-    """A number as packets hold it."""
-    value = value.lstrip(b"\0")
-    return struct.pack(">H", 8 * len(value) - (8 - value[0].bit_length())) + value
-
-
-def subpacket(kind, body):
-    return bytes([len(body) + 1, kind]) + body
-
-
-class Key:
-    """A key with one user ID."""
-
-    def __init__(self, place):
-        self.secret = Ed25519PrivateKey.from_private_bytes(hashlib.sha256(b"%d" % place).digest())
-        point = b"\x40" + self.secret.public_key().public_bytes(Encoding.Raw, PublicFormat.Raw)
-        self.body = struct.pack(">BIB", 4, MADE, 22) + ED25519 + number(point)
-        self.hashed = b"\x99" + struct.pack(">H", len(self.body)) + self.body
-        self.fingerprint = hashlib.sha1(self.hashed).digest()
-        self.user = keyrings.user(place).encode()
-
-    def signature(self, by, kind, made):
-        """The signature on the user ID by a key."""
-        parts = subpacket(2, struct.pack(">I", made)) + subpacket(33, b"\4" + by.fingerprint)
-        if by is self:
-            parts += subpacket(27, b"\3")
-        head = struct.pack(">BBBBH", 4, kind, 22, 8, len(parts)) + parts
-        trailer = b"\xb4" + struct.pack(">I", len(self.user)) + self.user + head + b"\4\xff" + struct.pack(">I", len(head))
-        digest = hashlib.sha256(self.hashed + trailer).digest()
-        issuer = subpacket(16, by.fingerprint[-8:])
-        signed = by.secret.sign(digest)
-        return packet(2, head + struct.pack(">H", len(issuer)) + issuer + digest[:2] + number(signed[:32]) + number(signed[32:]))
+KEYS, CERTS = 1_000, 4
 
 
 def keyring(path, keys):
     """The keys with the certifications on them, in a file."""
     with open(path, "wb") as file:
         for place, key in enumerate(keys):
-            file.write(packet(6, key.body) + packet(13, key.user) + key.signature(key, 0x13, MADE))
-            for issuer, made in keyrings.certifications(place, CERTS):
-                file.write(key.signature(keys[issuer], 0x10, made))
+            file.write(key.block(*(key.signature(keys[issuer], 0x10, made) for issuer, made in keyrings.certifications(place, CERTS))))
 
 
 def gpg(*words, told=None, given=None):
@@ -78,7 +33,7 @@ def letters(path):
 
 def prepared(bench):
     """A keyring of gpg with its ownertrust, and the listing that gpg prints of it; the seconds of printing it."""
-    keys = [Key(place) for place in range(KEYS)]
+    keys = [packets.Key(b"%d" % place, keyrings.user(place)) for place in range(KEYS)]
     keyring(bench.path("keys"), keys)
     with open(bench.path("trusts"), "w", encoding="ascii") as file:
         for place, key in enumerate(keys):
@@ -116,7 +71,7 @@ def compared(bench):
 
 def part(bench):
     """GnuPG beside the program, where there is a gpg and its keys can be signed here."""
-    if shutil.which("gpg") is None or Ed25519PrivateKey is None:
+    if shutil.which("gpg") is None or packets.Ed25519PrivateKey is None:
         print("\ngnupg: skipped: it wants gpg and Python's package cryptography")
         return
     with tempfile.TemporaryDirectory(prefix="wot", ignore_cleanup_errors=True) as home:

@@ -17,7 +17,7 @@ struct cert {
     uint64_t issuer;
     uint32_t made, expires;
     uint8_t class, depth, amount, local;
-    struct text scope;
+    struct text scope, named;
 };
 
 struct user {
@@ -83,6 +83,7 @@ static struct cert read_cert(const struct text *f) {
         .depth = (uint8_t)number((struct text){f[7].at, first}, 10),
         .amount = space ? (uint8_t)number((struct text){space + 1, f[7].length - first - 1}, 10) : 0,
         .scope = spelled(f[8], '\\'), .class = (uint8_t)number((struct text){f[10].at, 2}, 16), .local = f[10].at[2] == 'l',
+        .named = spelled(f[12], 0),
     };
 }
 
@@ -186,6 +187,11 @@ static void put_quoted(struct text text) {
     *to++ = ':';
 }
 
+static void put_fingerprint(struct text fpr) {
+    for (size_t i = 0; i < fpr.length; i++)
+        put_byte(fpr.at[i], "0123456789ABCDEF");
+}
+
 static void put_key(const struct key *key) {
     PUT("pub:"), *to++ = (unsigned char)key->letter, *to++ = ':';
     put_number(key->bits), *to++ = ':';
@@ -195,8 +201,7 @@ static void put_key(const struct key *key) {
     put_expiry(key->expires);
     PUT(":"), *to++ = (unsigned char)key->trust, PUT(":::");
     put_text(key->caps), PUT(":\nfpr:::::::::");
-    for (size_t i = 0; i < key->fpr.length; i++)
-        put_byte(key->fpr.at[i], "0123456789ABCDEF");
+    put_fingerprint(key->fpr);
     PUT(":\n");
 }
 
@@ -223,7 +228,10 @@ static void put_cert(const struct cert *cert) {
     put_quoted(cert->scope);
     *to++ = ':';
     put_byte(cert->class, "0123456789abcdef");
-    *to++ = cert->local ? 'l' : 'x', PUT(":\n");
+    *to++ = cert->local ? 'l' : 'x', *to++ = ':';
+    if (cert->named.length)
+        *to++ = ':', put_fingerprint(cert->named), *to++ = ':';
+    *to++ = '\n';
 }
 
 /* Whether there is room for one line more, whose texts are so long. */
