@@ -1,17 +1,17 @@
 //! Stored rows, each checked against the others, and rows counted by several threads.
 #![tactic(auto)]
 
-mod check; // the check of all rows
-mod counted; // the row that the others give a key
+mod all_rows; // the check of all rows
 mod fault; // what is wrong with stored rows
+mod given_row; // the row that the others give a key
 mod keys; // the keys that are checked
 mod laws; // what is true of stored rows
-mod recount; // all rows counted anew
+mod rows_anew; // all rows counted anew
 mod shared; // what threads may hand on
-mod standing; // whether a stored row is the one that the others give
+mod stands; // whether a stored row is the one that the others give
 
-pub use check::check_all;
+pub use all_rows::check_all;
 pub use fault::RowFault;
 pub use laws::{one_first_fault, standing_rows_are_the_rows};
-pub use recount::rows_by;
-pub use standing::row_stands;
+pub use rows_anew::rows_by;
+pub use stands::row_stands;

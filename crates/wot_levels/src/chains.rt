@@ -7,6 +7,7 @@ ghost use Rattle.wot_types.specs.Candidates.{chain_admits, delegator};
 ghost use Rattle.wot_types.specs.Scope.{admits};
 
 use crate::introducers::Introducers;
+use wot_regex::Asked;
 use wot_scope::{has_domain, in_scope};
 use wot_types::{KeyId, MOST_SCOPE, Options, Row, Rows, Text};
 
@@ -23,32 +24,37 @@ fn delegator<'a>(introducers: &Introducers<'a>, row: &Row) -> Option<&'a Row>
 }
 
 /// Whether a scope admits a text. One of the domain form, as nearly all are, is tested without reading it as an expression.
-fn scope_admits(scope: &Text, text: &Text) -> bool
+fn scope_admits(scope: &Text, text: &Text, asked: &mut Asked) -> bool
     ensures { result ≡ admits (Some scope.now) text.now }
 {
     if scope.as_bytes().len() <= MOST_SCOPE && has_domain(scope) {
         return in_scope(scope, text);
     }
-    wot_regex::admits(scope, text)
+    asked.admits(scope, text)
 }
 
 /// Whether an introducer's own scope admits a text.
-fn is_in_scope(row: &Row, text: &Text) -> bool
+fn is_in_scope(row: &Row, text: &Text, asked: &mut Asked) -> bool
     ensures { result ≡ admits row.now.scope text.now }
 {
     match &row.scope {
-        Some(scope) => scope_admits(scope.as_text(), text),
+        Some(scope) => scope_admits(scope.as_text(), text, asked),
         None => true,
     }
 }
 
 /// Whether each scope along an introducer's chain admits a text. Levels fall along it, so it ends.
-fn chain_admits<'a>(introducers: &Introducers<'a>, row: &'a Row, text: &Text) -> bool
+fn chain_admits<'a>(
+    introducers: &Introducers<'a>,
+    row: &'a Row,
+    text: &Text,
+    asked: &mut Asked,
+) -> bool
     ensures { result ≡ chain_admits introducers.now row.now text.now }
 {
     let mut next = Some(row);
     while let Some(link) = next {
-        if !is_in_scope(link, text) {
+        if !is_in_scope(link, text, asked) {
             return false;
         }
         next = delegator(introducers, link);
@@ -62,18 +68,19 @@ pub fn is_admitted<'a>(
     introducers: &Introducers<'a>,
     row: &'a Row,
     text: &Text,
+    asked: &mut Asked,
 ) -> bool
     ensures { result ≡ (not options.now.pgp || chain_admits introducers.now row.now text.now) }
 {
-    !options.pgp || chain_admits(introducers, row, text)
+    !options.pgp || chain_admits(introducers, row, text, asked)
 }
 
 /// Whether the introducer with this key ID may introduce a user ID with this text. The classic model knows no scopes.
-pub fn admits(options: &Options, rows: &Rows, id: KeyId, user: &Text) -> bool
+pub fn admits(options: &Options, rows: &Rows, id: KeyId, user: &Text, asked: &mut Asked) -> bool
     requires there { IsSome (map.get rows.now id) }
     ensures { IfSome (map.get rows.now id) (λ row. result ≡ (not options.now.pgp || chain_admits rows.now row user.now)) }
 {
     let introducers = Introducers::all(rows);
     let row = introducers.get(id).unwrap();
-    is_admitted(options, &introducers, row, user)
+    is_admitted(options, &introducers, row, user, asked)
 }

@@ -8,6 +8,7 @@ pub mod Stacks
 pub mod Tables
 pub mod Spreads
 pub mod Searches
+pub mod Knowns
 pub mod Takings
 pub mod Admitting
 pub mod Suffixes

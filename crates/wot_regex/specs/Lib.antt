@@ -4,3 +4,5 @@ pub mod Gathering
 pub mod Taking
 pub mod Cells
 pub mod TreeCode
+pub mod Searching
+pub mod Knowing

@@ -4,13 +4,12 @@
 //! walks over the table: from the symbols to the whole, which tells what each part reaches, and back, which tells where a match may
 //! go on, and moves the marks.
 
-ghost use Rattle.std.specs.Prelude.{◌≡◌, ◌≤◌, ◌<◌, ◌+◌, ◌↔◌, ◌∷◌, [], IsTrue, List, length};
-ghost use Rattle.wot_regex.specs.Cells.{cells_of};
+ghost use Rattle.std.specs.Prelude.{◌≡◌, ◌≤◌, ◌<◌, ◌+◌, ◌↔◌, ◌∷◌, [], Bool, IsTrue, List, length};
 ghost use Rattle.wot_types.specs.Scope.{matches_in};
 ghost use Rattle.wot_types.specs.Expression.{Tree};
-ghost use Rattle.wot_types.specs.ExpressionMarks.{unmarked};
 ghost use Rattle.wot_types.specs.Bytes.{other_case};
 ghost use Rattle.wot_types.specs.ExpressionMatch.{MatchesIn};
+ghost use Rattle.wot_regex.specs.Searching.{Searching};
 ghost use Rattle.wot_regex.specs.Table.{nodes_of};
 ghost use Rattle.wot_regex.specs.Gathering.{all_gathered, all_noted, all_spread, back_at, back_start, gathered, is_between, noted, spread_by};
 ghost use Rattle.wot_regex.specs.Reaching.{top};
@@ -29,17 +28,28 @@ pub fn matches(expr: &Expr, text: &[u8]) -> bool
 {
     let nodes = expr.nodes();
     let mut cells = [Reach::NONE; ROOM];
-    search(nodes, &mut cells[..nodes.len()], text)
+    search(nodes, &mut cells[..nodes.len()], true, text)
 }
 
-/// Whether the expression of a table without marks matches somewhere in the text.
-fn search(nodes: &[Node], cells: &mut [Reach], text: &[u8]) -> bool
+/// Whether a match ends in the rest of a text, at whose first place the table has these cells.
+pub fn search_rest(nodes: &[Node], cells: &[Reach], start: bool, rest: &[u8]) -> bool
+    requires same { length cells.now ≡ length nodes.now }
+    requires room { length nodes.now ≤ ROOM }
+    ensures { (tree : Tree) (found : Bool) → nodes.now ≡ nodes_of tree → Searching tree cells.now start rest.now found → result ≡ found }
+{
+    let mut moving = [Reach::NONE; ROOM];
+    moving[..cells.len()].copy_from_slice(cells);
+    search(nodes, &mut moving[..cells.len()], start, rest)
+}
+
+/// The same; the cells move along.
+fn search(nodes: &[Node], cells: &mut [Reach], start: bool, rest: &[u8]) -> bool
     requires same { length cells.old ≡ length nodes.now }
     requires room { length nodes.now ≤ ROOM }
-    ensures { (tree : Tree) → nodes.now ≡ nodes_of tree → cells.old ≡ cells_of tree (unmarked tree) → result ≡ matches_in tree text.now }
+    ensures { (tree : Tree) (found : Bool) → nodes.now ≡ nodes_of tree → Searching tree cells.old start rest.now found → result ≡ found }
 {
-    let mut start = true;
-    for b in text {
+    let mut start = start;
+    for b in rest {
         let reach = gather(nodes, cells, Place { start, end: false });
         if reach.exits(true) {
             return true;
@@ -51,7 +61,7 @@ fn search(nodes: &[Node], cells: &mut [Reach], text: &[u8]) -> bool
 }
 
 /// What the whole reaches at a place. Behind it the cell of each part has what the first of the parts that it is made of reaches.
-fn gather(nodes: &[Node], cells: &mut [Reach], place: Place) -> Reach
+pub fn gather(nodes: &[Node], cells: &mut [Reach], place: Place) -> Reach
     requires same { length cells.old ≡ length nodes.now }
     requires room { length nodes.now ≤ ROOM }
     ensures reached { result ≡ top (all_gathered place nodes.now cells.old []) }
@@ -105,7 +115,7 @@ fn gather_one(node: Node, cell: Reach, place: Place, stack: &mut Stack) -> Reach
 }
 
 /// Moves the marks by a byte. A match may begin at its place.
-fn spread(nodes: &[Node], cells: &mut [Reach], b: u8)
+pub fn spread(nodes: &[Node], cells: &mut [Reach], b: u8)
     requires same { length cells.old ≡ length nodes.now }
     requires room { length nodes.now ≤ ROOM }
     ensures { cells.new ≡ (all_spread b nodes.now cells.old back_start).cells }

@@ -11,7 +11,7 @@ pub struct Place {
 }
 
 /// Whether a part matches no bytes at a place, and whether a match of it that began before ends there.
-#[derive(Clone, Copy, Debug)]
+#[derive(Clone, Copy, Debug, PartialEq, Eq)]
 pub struct Reach {
     pub passes: bool,
     pub ended: bool,

@@ -1,0 +1,163 @@
+//! Scopes that are asked of many user IDs.
+
+ghost use Rattle.std.specs.Prelude.{◌≡◌, ◌↔◌, ◌≤◌, true, IsTrue, IfOk, IfSome, Some, length};
+ghost use Rattle.wot_types.specs.ExpressionMatch.{Admits};
+ghost use Rattle.wot_types.specs.Scope.{admits};
+
+use crate::expr::read;
+use crate::matcher::Matcher;
+use crate::scope::admits;
+use std::alloc::Global;
+use std::marker::Model;
+use wot_types::{Mem, Text};
+
+/// About so many bytes are kept. Where they are more, all is forgotten, and what is asked further is kept anew.
+const MOST_BYTES: usize = 32 << 20;
+
+/// A scope, and the expression that it is, if it is one. Callers see the scope alone.
+#[derive(Drop)]
+pub struct Kept {
+    scope: Vec<u8>,
+    matcher: Option<Matcher>,
+}
+
+impl Model for Kept {
+    ghost use Rattle.std.specs.Prelude.{◌≡◌, ℕ, List};
+    ghost use Rattle.wot_types.specs.ExpressionReading.{tree_of};
+
+    ghost Value = { List ℕ };
+
+    ghost view = { λ k. k.scope.items };
+
+    ghost invariant = { λ k. tree_of k.scope.items ≡ k.matcher };
+}
+
+impl Kept {
+    fn new(alloc: Global, scope: &[u8]) -> Result<Kept, Mem>
+        ensures { IfOk result (λ kept. kept ≡ scope.now) }
+    {
+        let mut bytes = Vec::new(alloc);
+        bytes.extend_from_slice(scope)?;
+        let matcher = match read(scope) {
+            Some(expr) => Some(Matcher::new(alloc, expr)?),
+            None => None,
+        };
+        Ok(Kept {
+            scope: bytes,
+            matcher,
+        })
+    }
+
+    fn is_of(&self, scope: &[u8]) -> bool
+        ensures { result ≡ true → self.now ≡ scope.now }
+    {
+        self.scope.as_slice() == scope
+    }
+
+    fn is_before(&self, scope: &[u8]) -> bool {
+        self.scope.as_slice().cmp(scope).is_lt()
+    }
+
+    /// About how many bytes it takes.
+    fn size(&self) -> usize {
+        match &self.matcher {
+            Some(matcher) => self.scope.len().saturating_add(matcher.size()),
+            None => self.scope.len(),
+        }
+    }
+
+    fn admits(&mut self, text: &[u8]) -> bool
+        ensures same { self.new ≡ self.old }
+        ensures value { result ≡ admits (Some self.old) text.now }
+    {
+        match &mut self.matcher {
+            Some(matcher) => matcher.matches(text),
+            None => false,
+        }
+    }
+}
+
+/// The scopes that were asked, each with what earlier texts came to under it. It is of one thread. What it keeps changes no answer, so callers see
+/// nothing of it.
+#[derive(Drop)]
+pub struct Asked {
+    alloc: Global,
+    /// In the order of their scopes.
+    kept: Vec<Box<Kept>>,
+    /// About how many bytes they take.
+    size: usize,
+}
+
+impl Model for Asked {
+    ghost Value = { Unit {0} };
+
+    ghost view = { λ a. tt };
+}
+
+impl Asked {
+    pub fn new(alloc: Global) -> Asked {
+        Asked {
+            alloc,
+            kept: Vec::new(alloc),
+            size: 0,
+        }
+    }
+
+    /// Whether a scope is an expression that matches somewhere in the text. One that is no expression admits none.
+    pub fn admits(&mut self, scope: &Text, text: &Text) -> bool
+        ensures value { result ≡ admits (Some scope.now) text.now }
+        ensures means { IsTrue result ↔ Admits scope.now text.now }
+    {
+        self.test(scope, text)
+    }
+
+    fn test(&mut self, scope: &Text, text: &Text) -> bool
+        ensures { result ≡ admits (Some scope.now) text.now }
+    {
+        if MOST_BYTES < self.size {
+            self.forget();
+        }
+        if let Some(found) = self.ask(scope.as_bytes(), text.as_bytes()) {
+            return found;
+        }
+        // For want of memory it is read anew for the next text.
+        self.keep(scope.as_bytes()).ok();
+        admits(scope, text)
+    }
+
+    /// Asks a scope that is kept.
+    fn ask(&mut self, scope: &[u8], text: &[u8]) -> Option<bool>
+        ensures { IfSome result (λ found. found ≡ admits (Some scope.now) text.now) }
+    {
+        let place = place_of(&self.kept, scope);
+        let kept = self.kept.get_mut(place)?;
+        if !kept.is_of(scope) {
+            return None;
+        }
+        let before = kept.size();
+        let found = kept.admits(text);
+        self.size = self.size.saturating_add(kept.size().saturating_sub(before));
+        Some(found)
+    }
+
+    fn keep(&mut self, scope: &[u8]) -> Result<(), Mem> {
+        let kept = Box::new(self.alloc, Kept::new(self.alloc, scope)?)?;
+        let size = kept.size();
+        let place = place_of(&self.kept, scope);
+        self.kept.insert(place, kept)?;
+        self.size = self.size.saturating_add(size);
+        Ok(())
+    }
+
+    fn forget(&mut self) {
+        self.kept.clear();
+        self.size = 0;
+    }
+}
+
+/// Where a scope is kept, or would be.
+fn place_of(kept: &[Box<Kept>], scope: &[u8]) -> usize
+    ensures { result ≤ length kept.now }
+{
+    kept.partition_point(|kept: &Box<Kept>| kept.is_before(scope))
+}
