@@ -51,6 +51,8 @@ pub mod Commands
 pub mod Refusals
 pub mod Store
 pub mod Compaction
+pub mod Supposing
+pub mod SupposingText
 pub mod Outcome
 pub mod Session
 pub mod Soonest

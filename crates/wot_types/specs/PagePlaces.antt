@@ -1,5 +1,6 @@
 -- Where the pages of a side stand, and how many pages an image needs.
-use Rattle.std.specs.Prelude.{ℕ, ◌+◌, ◌*◌, ◌/◌}
+use Rattle.std.specs.Prelude.{ℕ, ◌+◌, ◌*◌}
+use Rattle.std.specs.Int.{div_ceil}
 
 -- how many bytes of content a page has
 abbrev pub content_size : ℕ
@@ -19,4 +20,4 @@ page_place k = first_page + page_size * k
 
 -- the least number of pages that holds so many bytes
 abbrev pub pages_needed : ℕ → ℕ
-pages_needed n = (n + 4063) / content_size
+pages_needed n = div_ceil n content_size
