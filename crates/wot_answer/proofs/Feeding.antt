@@ -35,6 +35,8 @@ by_name (Some named.Sigs) words head opens is = cc
 by_name (Some named.Export) words head opens is = cc
 by_name (Some named.Why) words head opens is = cc
 by_name (Some named.Check) words head opens is = cc
+by_name (Some named.Suppose) words head opens is = cc
+by_name (Some named.Critical) words head opens is = cc
 by_name (Some named.Compact) words head opens is = cc
 by_name (Some named.Quit) words head opens is = cc
 

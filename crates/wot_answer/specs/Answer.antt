@@ -61,7 +61,7 @@ abbrev pub reply_of : Reply → State → List ℕ
 reply_of (told.Text text) s = text.items
 reply_of told.List s = list_text s None false ++ ok_line
 reply_of told.Sigs s = list_text s None true ++ ok_line
-reply_of told.Recount s = tally_line s (rows_of s) ++ ok_line
+reply_of told.Tally s = tally_line s (rows_of s) ++ ok_line
 
 -- the answer to a command with this outcome in this store: its reply, and the state after it; the store's change is due
 pub record Ends (answered : Answered) (s : Store) (o : Outcome) : Type 0 where

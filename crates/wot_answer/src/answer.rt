@@ -217,7 +217,7 @@ pub fn answer_words(alloc: Global, engine: Engine, end: u64, words: &Words) -> R
             let reply = EditReply::to(alloc, &edit)?;
             make_edit(alloc, engine, end, edit, reply)
         }
-        Ok(Head::Query(query)) => answer_query(alloc, engine, &query),
+        Ok(Head::Query(query)) => answer_query(alloc, engine, query),
         Ok(Head::DeleteKey(fpr)) => delete_key(alloc, engine, end, &fpr),
         Ok(Head::Import) => import_listing(alloc, engine, end, Listing::new(alloc)?),
         Ok(Head::Ownertrust) => set_entries(alloc, engine, end, OwnertrustText::new(alloc)),

@@ -9,6 +9,7 @@ mod edit; // an edit that is refused or made
 mod edit_reply; // what an accepted edit is answered with
 mod query; // what a query is answered with
 mod reply; // a reply with the engine that it leaves
+mod supposing; // what an edit would change, and on whose ownertrust a letter hangs
 mod words; // the words of a line
 
 pub use answer::{Answered, answer_end, answer_line, answer_words, begin_block};

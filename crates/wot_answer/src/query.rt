@@ -7,7 +7,7 @@ ghost use Rattle.wot_types.specs.CutState.{cut};
 ghost use Rattle.wot_types.specs.Explanation.{explained_rows, explanation};
 ghost use Rattle.wot_types.specs.Keyring.{has_fpr};
 ghost use Rattle.wot_types.specs.Letters.{letter_at};
-ghost use Rattle.wot_types.specs.Outcome.{answer_to, ok_line, query_outcome, query_refusal, user_count};
+ghost use Rattle.wot_types.specs.Outcome.{answer_to, ok_line, query_outcome, query_refusal, reply_to, unless_user, user_count};
 ghost use Rattle.wot_types.specs.WhyText.{why_text};
 ghost use Rattle.wot_types.specs.Store.{Store};
 ghost use Rattle.wot_commands.specs.Heads.{IsProperQuery};
@@ -16,32 +16,36 @@ ghost use Rattle.wot_answer.specs.declared.division.Division.TheVariants.{Betwee
 
 use crate::answer::Answered;
 use crate::reply::{Effect, Reply, answered, refuse};
+use crate::supposing::{changes_text, losses_text};
 use std::alloc::Global;
 use std::marker::Brand;
 use std::sync::ledger::{Blank, Ledger};
+use wot_commands::refusal;
 use wot_explain::{Why, cut, explain, recount};
 use wot_live::Engine;
 use wot_print::{export, list, why};
 use wot_table::LentState;
 use wot_types::{Fpr, KeyId, Letter, Mem, Query, Refusal, Steps};
 
-/// Answers a query; the engine stays.
-pub fn answer_query(alloc: Global, engine: Engine, query: &Query) -> Result<Answered, Mem>
-    requires proper { IsProperQuery query.now }
-    ensures ends { IfOk result (λ answered. (s : Store) → engine ≡ s.state → Ends answered s (query_outcome s query.now)) }
+/// Answers a query; the state stays.
+pub fn answer_query(alloc: Global, engine: Engine, query: Query) -> Result<Answered, Mem>
+    requires proper { IsProperQuery query }
+    ensures ends { IfOk result (λ answered. (s : Store) → engine ≡ s.state → Ends answered s (query_outcome s query)) }
     ensures division { IfOk result (λ answered. answered.division ≡ Between) }
 {
-    match query_refusal(&engine, query) {
+    match query_refusal(&engine, &query) {
         Some(refusal) => refuse(alloc, engine, refusal),
         None => {
-            let reply = query_reply(alloc, &engine, query)?;
-            Ok(answered(engine, reply, effect_of(query)))
+            let effect = effect_of(&query);
+            let (engine, reply) = query_reply(alloc, engine, query)?;
+            Ok(answered(engine, reply, effect))
         }
     }
 }
 
-/// Why a query has no answer: its key or its user ID isn't there.
+/// Why a query has no answer: its key or its user ID isn't there, or the edit that it supposes can't be made.
 fn query_refusal(engine: &Engine, query: &Query) -> Option<Refusal>
+    requires proper { IsProperQuery query.now }
     ensures { result ≡ query_refusal engine.now query.now }
 {
     match query {
@@ -52,17 +56,23 @@ fn query_refusal(engine: &Engine, query: &Query) -> Option<Refusal>
                 Some(Refusal::NoSuchKey)
             }
         }
-        Query::Why(fpr, place) => {
-            if !has_key(engine, fpr) {
-                Some(Refusal::NoSuchKey)
-            } else if *place > user_count(engine, fpr.key_id()) {
-                Some(Refusal::NoSuchUser)
-            } else {
-                None
-            }
-        }
+        Query::Why(fpr, place) | Query::Critical(fpr, place) => missing_user(engine, fpr, *place),
+        Query::Suppose(edit) => refusal(engine, edit),
         Query::List | Query::Sigs | Query::Export | Query::Check | Query::Compact | Query::Quit =>
             None,
+    }
+}
+
+/// Why there is no user ID at a place, counted from 1, of the key of a fingerprint.
+fn missing_user(engine: &Engine, fpr: &Fpr, place: u32) -> Option<Refusal>
+    ensures { result ≡ unless_user engine.now fpr.now place }
+{
+    if !has_key(engine, fpr) {
+        Some(Refusal::NoSuchKey)
+    } else if place > user_count(engine, fpr.key_id()) {
+        Some(Refusal::NoSuchUser)
+    } else {
+        None
     }
 }
 
@@ -96,21 +106,44 @@ fn effect_of(query: &Query) -> Effect
     }
 }
 
-/// A query's reply.
-fn query_reply(alloc: Global, engine: &Engine, query: &Query) -> Result<Reply, Mem>
+/// A query's reply. What is supposed is tried on the engine itself, which is handed back as it was.
+fn query_reply(alloc: Global, engine: Engine, query: Query) -> Result<(Engine, Reply), Mem>
+    requires proper { IsProperQuery query }
+    requires answered { query_refusal engine query ≡ None }
+    ensures engine { IfOk result (λ r. r.0 ≡ engine) }
+    ensures reply { IfOk result (λ r. reply_of r.1 engine ≡ reply_to engine query) }
+{
+    match query {
+        Query::Suppose(edit) => {
+            let (engine, text) = changes_text(alloc, engine, edit)?;
+            Ok((engine, Reply::Text(text)))
+        }
+        Query::Critical(fpr, place) => {
+            let (engine, text) = losses_text(alloc, engine, fpr.key_id(), place)?;
+            Ok((engine, Reply::Text(text)))
+        }
+        query => {
+            let reply = reply_with_ok(alloc, &engine, &query)?;
+            Ok((engine, reply))
+        }
+    }
+}
+
+/// The reply to a query whose last line is `ok`.
+fn reply_with_ok(alloc: Global, engine: &Engine, query: &Query) -> Result<Reply, Mem>
     requires proper { IsProperQuery query.now }
     requires answered { query_refusal engine.now query.now ≡ None }
     ensures { IfOk result (λ reply. reply_of reply engine.now ≡ answer_to engine.now query.now ++ ok_line) }
 {
     let mut text = match query {
-        Query::Check => return Ok(Reply::Recount),
+        Query::Check => return Ok(Reply::Tally),
         Query::List => return Ok(Reply::List),
         Query::Sigs => return Ok(Reply::Sigs),
         Query::ListOne(fpr) => list(alloc, engine, Some(fpr.key_id()), false)?,
         Query::SigsOne(fpr) => list(alloc, engine, Some(fpr.key_id()), true)?,
         Query::Export => export(alloc, engine)?,
         Query::Why(fpr, place) => explanation_text(alloc, engine, fpr.key_id(), *place)?,
-        Query::Compact | Query::Quit => Vec::new(alloc),
+        Query::Suppose(_) | Query::Critical(..) | Query::Compact | Query::Quit => Vec::new(alloc),
     };
     text.extend_from_slice(b"ok\n")?;
     Ok(Reply::Text(text))

@@ -32,7 +32,7 @@ pub enum Reply {
     /// The same with the certifications.
     Sigs,
     /// The tally of the letters by rows that are counted anew, and the last line of a reply.
-    Recount,
+    Tally,
 }
 
 /// What a command is answered with.

@@ -9,7 +9,7 @@ ghost use Rattle.wot_types.specs.Named.{named_by};
 use crate::plain_edit::plain_edit;
 use std::marker::Brand;
 use std::sync::ledger::{Blank, Ledger};
-use wot_live::{Engine, Parts};
+use wot_live::{Engine, EngineDraft};
 use wot_types::{Edit, Mem, Steps};
 
 /// Makes an edit that isn't refused, whatever it reads on the way. At Memory the engine is gone.
@@ -44,7 +44,7 @@ pub fn apply<L: Ledger>(engine: Engine, edit: Edit, steps: &mut Steps<L>) -> Res
 }
 
 /// Makes an edit that isn't refused, for several that are counted once. At Memory the parts are gone.
-pub fn edited_parts(parts: Parts, edit: Edit) -> Result<Parts, Mem>
+pub fn edited_draft(parts: EngineDraft, edit: Edit) -> Result<EngineDraft, Mem>
     requires proper { IsProper edit }
     requires allowed { refusal_of parts edit ≡ None }
     ensures { IfOk result (λ new. new ≡ state_after parts edit) }

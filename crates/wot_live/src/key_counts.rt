@@ -1,66 +1,58 @@
-//! The counts of one key's user IDs.
+//! The counts of one key as they are kept.
 
-ghost use Rattle.std.specs.Prelude.{◌≡◌, ◌≤◌, ◌+◌, ◌∷◌, [], IfOk, None, Some};
-ghost use Rattle.std.specs.FinMap as map;
-ghost use Rattle.wot_types.specs.declared.key.Key.{Key};
-ghost use Rattle.wot_types.specs.Keyring.{certs_at, key_certs};
-ghost use Rattle.wot_live.specs.Counts.{AreCountedAt, key_counts};
+ghost use Rattle.std.specs.Prelude.{◌≡◌};
 
-use crate::counts::Counts;
-use std::sync::ledger::Ledger;
-use wot_levels::verdict_in;
-use wot_table::{Keyblock, LentState};
-use wot_types::{Count, KeyId, List, Mem, Rows, Steps};
+use std::marker::Model;
+use wot_types::{Count, List};
 
-/// The candidates for each user ID of a key.
-pub fn counts_in<L: Ledger>(
-    keyblock: &Keyblock<'_>,
-    state: &LentState<'_>,
-    rows: &Rows,
-    steps: &mut Steps<L>,
-) -> Result<List<Count>, Mem>
-    ensures counts { IfOk result (λ counts. counts ≡ key_counts state.now rows.now keyblock.now.1) }
-    ensures ticks { steps.new ≤ steps.old + key_certs keyblock.now.1 }
-{
-    let users = keyblock.key().users;
-    let mut counts = List::with_capacity(state.table().alloc(), users as usize)?;
-    for user in 0..users {
-        counts.push(verdict_in(keyblock, state, rows, user, steps))?;
-    }
-    Ok(counts)
+/// That of a key with one user ID, as most keys are, stands where the key's entry does; those of any other are a list.
+#[derive(Debug, Drop)]
+pub enum OneOrMany {
+    One([Count; 1]),
+    Many(List<Count>),
 }
 
-/// The same of a key that may be there.
-pub fn counts_at<L: Ledger>(
-    state: &LentState<'_>,
-    rows: &Rows,
-    id: KeyId,
-    steps: &mut Steps<L>,
-) -> Result<List<Count>, Mem>
-    ensures counts { (key : Key) → map.get state.now.keys id ≡ Some key → IfOk result (λ counts. counts ≡ key_counts state.now rows.now key) }
-    ensures none { map.get state.now.keys id ≡ None → IfOk result (λ counts. counts ≡ []) }
-    ensures ticks { steps.new ≤ steps.old + certs_at state.now.keys id }
-{
-    let table = state.table();
-    match table.keyblock(id) {
-        Some(keyblock) => counts_in(&keyblock, state, rows, steps),
-        None => Ok(List::new(table.alloc())),
-    }
+/// The counts of a key's user IDs, in their order.
+#[derive(Debug, Drop)]
+pub struct KeyCounts {
+    counts: OneOrMany,
 }
 
-/// The counts of a key in place of those that it had.
-pub fn recount_key<L: Ledger>(
-    state: &LentState<'_>,
-    rows: &Rows,
-    counts: Counts,
-    id: KeyId,
-    steps: &mut Steps<L>,
-) -> Result<Counts, Mem>
-    ensures counts { IfOk result (AreCountedAt state.now rows.now (id ∷ []) counts) }
-    ensures ticks { steps.new ≤ steps.old + certs_at state.now.keys id }
-{
-    let mut counts = counts;
-    let list = counts_at(state, rows, id, steps)?;
-    counts.set(id, list)?;
-    Ok(counts)
+impl Model for KeyCounts {
+    ghost use Rattle.std.specs.Prelude.{List};
+    ghost use Rattle.std.specs.Coded.{coded_list};
+    ghost use Rattle.wot_types.specs.declared.count.Count.{Count};
+    ghost use Rattle.wot_types.specs.contracts.count.Count as count_struct;
+    ghost use Rattle.wot_live.specs.OneOrMany.{listed_counts};
+
+    ghost Value = { List Count };
+
+    ghost coded = { coded_list count_struct.the_row.coded };
+
+    ghost view = { λ k. listed_counts k.counts };
+}
+
+impl KeyCounts {
+    /// These counts.
+    pub fn of(counts: List<Count>) -> KeyCounts
+        ensures { result ≡ counts }
+    {
+        if counts.len() != 1 {
+            return KeyCounts {
+                counts: OneOrMany::Many(counts),
+            };
+        }
+        KeyCounts {
+            counts: OneOrMany::One([counts.as_slice()[0]]),
+        }
+    }
+
+    pub fn as_slice(&self) -> &[Count]
+        ensures { result.now ≡ self.now }
+    {
+        match &self.counts {
+            OneOrMany::One(counts) => counts.as_slice(),
+            OneOrMany::Many(counts) => counts.as_slice(),
+        }
+    }
 }

@@ -10,7 +10,7 @@ ghost use Rattle.wot_live.specs.KeyLetters.{AreOfKey};
 
 use crate::beside::Beside;
 use crate::counts::Counts;
-use crate::counts_of_key::KeyCounts;
+use crate::key_counts::KeyCounts;
 use crate::letters::Letters;
 use std::marker::Model;
 use wot_table::LentState;

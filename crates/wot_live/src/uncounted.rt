@@ -13,15 +13,16 @@ ghost use Rattle.wot_live.specs.declared.todo.Todo.TheVariants.{Named as Listed}
 ghost use Rattle.wot_live.specs.Follows.{Follows, HasIntroducers, IsDue, IsDueSince, IsListedSince, owned_state, uncounted_state, with_named};
 ghost use Rattle.wot_live.specs.PlainEdit.{IsAllowed, after_plain, named_by_plain};
 
-use crate::anew::count_anew;
-use crate::counted::Counted;
+use crate::count_anew::count_anew;
+use crate::count_listed::recount;
 use crate::engine::Engine;
 use crate::owned_state::OwnedState;
 use crate::plain_edit::PlainEdit;
-use crate::recount::recount;
-use crate::recounting::{Recount, recount_levels};
+use crate::row_changes::{Recount, recount_levels};
+use crate::rows_and_counts::RowsAndCounts;
 use crate::todo::{Named, Todo};
 use std::sync::ledger::Ledger;
+use wot_levels::Asked;
 use wot_table::LentState;
 use wot_types::{Entries, KeyId, Keys, Mem, Options, Steps};
 
@@ -161,7 +162,7 @@ fn recounted<L: Ledger>(
     state: &LentState<'_>,
     named: Named,
     steps: &mut Steps<L>,
-) -> Result<Counted, Mem>
+) -> Result<RowsAndCounts, Mem>
     requires ranges { IsInRange state.now.options }
     ensures counted { IfOk result (λ new. (s : State) (names : KeySet) → IsListedSince s names state.now named → Follows state.now new.rows new.counts) }
     ensures ticks { (s : State) (names : KeySet) → IsListedSince s names state.now named
@@ -171,9 +172,17 @@ fn recounted<L: Ledger>(
         rows: named.rows,
         todo: named.list,
     };
-    let found = recount_levels(state, found, steps)?;
-    let counts = recount(state, &found.rows, named.counts, &found.todo, steps)?;
-    Ok(Counted {
+    let mut asked = Asked::new(state.table().alloc());
+    let found = recount_levels(state, found, steps, &mut asked)?;
+    let counts = recount(
+        state,
+        &found.rows,
+        named.counts,
+        &found.todo,
+        steps,
+        &mut asked,
+    )?;
+    Ok(RowsAndCounts {
         rows: found.rows,
         counts,
     })

@@ -32,21 +32,20 @@ pub fn import_line(alloc: Global, keys: u64, kept: u64, passed: u64) -> Result<V
 pub fn keys_line(alloc: Global, keys: u32) -> Result<Vec<u8>, Mem>
     ensures { IfOk result (λ text. text.items ≡ keys_line keys) }
 {
-    count_line(alloc, b"ok keys ", u64::from(keys))
+    end_with_count(Printed::new(alloc), b"ok keys ", u64::from(keys))
 }
 
 /// `ok entries E`, after an ownertrust text.
 pub fn entries_line(alloc: Global, entries: u64) -> Result<Vec<u8>, Mem>
     ensures { IfOk result (λ text. text.items ≡ entries_line entries) }
 {
-    count_line(alloc, b"ok entries ", entries)
+    end_with_count(Printed::new(alloc), b"ok entries ", entries)
 }
 
-/// A line of words and a count.
-fn count_line(alloc: Global, words: &[u8], count: u64) -> Result<Vec<u8>, Mem>
-    ensures { IfOk result (λ text. text.items ≡ reply_line (words.now ++ decimal count)) }
+/// A text, and a line of words and a count behind it.
+pub fn end_with_count(mut text: Printed, words: &[u8], count: u64) -> Result<Vec<u8>, Mem>
+    ensures { IfOk result (λ whole. whole.items ≡ text ++ reply_line (words.now ++ decimal count)) }
 {
-    let mut text = Printed::new(alloc);
     push_count(&mut text, words, count)?;
     text.push(b'\n')?;
     text.into_vec()

@@ -17,7 +17,7 @@ use crate::fields::push_count_field;
 use std::alloc::Global;
 use std::sync::ledger::Ledger;
 use wot_fields::{Printed, Sink};
-use wot_levels::{user_in, verdict_in};
+use wot_levels::{Asked, user_in, verdict_in};
 use wot_live::{Engine, Letters, letter_by};
 use wot_table::{KeyHead, Keyblock, LentState};
 use wot_types::{Letter, Mem, Rows, Steps};
@@ -137,13 +137,14 @@ pub fn count_users<L: Ledger>(
     rows: &Rows,
     keyblock: &Keyblock<'_>,
     steps: &mut Steps<L>,
+    asked: &mut Asked,
 )
     ensures { (letters : List Letter) → counts.old ≡ counts_of letters
         → counts.new ≡ counts_of (letters ++ user_letters state.now rows.now keyblock.now.0 keyblock.now.1) }
 {
     let head = keyblock.key();
     for user in 0..head.users {
-        counts.add(letter_over(state, rows, keyblock, &head, user, steps));
+        counts.add(letter_over(state, rows, keyblock, &head, user, steps, asked));
     }
 }
 
@@ -155,13 +156,14 @@ fn letter_over<L: Ledger>(
     key: &KeyHead<'_>,
     user: u32,
     steps: &mut Steps<L>,
+    asked: &mut Asked,
 ) -> Letter
     requires there { IsSome (spot_of keyblock.now.1 user) }
     requires head { IsKeyHead keyblock.now.1 key.now }
     ensures { (spot : Spot) → spot_of keyblock.now.1 user ≡ Some spot
         → result ≡ user_letter state.now rows.now keyblock.now.0 keyblock.now.1 spot }
 {
-    let count = verdict_in(keyblock, state, rows, user, steps);
+    let count = verdict_in(keyblock, state, rows, user, steps, asked);
     let head = user_in(keyblock, user).unwrap();
     letter_by(state, rows.get(keyblock.id()), key, &head, &count)
 }

@@ -12,6 +12,7 @@ mod ownertrust; // the ownertrust export
 mod ownertrust_walk; // the ownertrust of fingerprints whose key IDs rise
 mod records; // the lines of a listing
 mod refusals; // the line of a refused command
+mod supposing; // what an edit would change, and on whose ownertrust a letter hangs
 mod workers; // the same counts by several workers
 
 pub use answers::{entries_line, import_line, keys_line, ok_line};
@@ -20,4 +21,5 @@ pub use explanation::why;
 pub use listing::{Printout, list};
 pub use ownertrust::export;
 pub use refusals::refused;
+pub use supposing::{changes, losses};
 pub use workers::tally_by;

@@ -13,6 +13,7 @@ use std::alloc::{AllocError, Global};
 use std::marker::Brand;
 use std::sync::ledger::{Blank, Ledger};
 use std::thread::{Threads, map_chunks};
+use wot_levels::Asked;
 use wot_table::LentState;
 use wot_types::{KeyId, Mem, Rows, Steps};
 use wot_workers::{Gate, Workers, piece_size};
@@ -24,11 +25,12 @@ fn count_key<L: Ledger>(
     rows: &Rows,
     id: KeyId,
     steps: &mut Steps<L>,
+    asked: &mut Asked,
 )
     ensures { (letters : List Letter) → counts.old ≡ counts_of letters → counts.new ≡ counts_of (letters ++ letters_at state.now rows.now id) }
 {
     match state.table().keyblock(id) {
-        Some(keyblock) => count_users(counts, state, rows, &keyblock, steps),
+        Some(keyblock) => count_users(counts, state, rows, &keyblock, steps, asked),
         None => (),
     }
 }
@@ -44,9 +46,10 @@ fn count_keys<L: Ledger>(
     ensures { result ≡ counts_of (letters_among state.now rows.now ids.now) }
 {
     let mut steps = Steps::<L>::open(blank);
+    let mut asked = Asked::new(state.table().alloc());
     let mut counts = LetterCounts::new();
     for id in ids {
-        count_key(&mut counts, state, rows, *id, &mut steps);
+        count_key(&mut counts, state, rows, *id, &mut steps, &mut asked);
     }
     counts
 }

@@ -14,7 +14,7 @@ use Rattle.wot_types.specs.declared.edit.Edit.TheVariants.{Import, Ownertrust, S
 use Rattle.wot_types.specs.declared.head.Head.{Head}
 use Rattle.wot_types.specs.declared.head.Head.TheVariants.{Edit as EditHead, Query as QueryHead, DeleteKey, Import as ImportHead, Ownertrust as OwnertrustHead}
 use Rattle.wot_types.specs.declared.query.Query.{Query}
-use Rattle.wot_types.specs.declared.query.Query.TheVariants.{List as ListAll, ListOne, Sigs, SigsOne, Export, Why, Check, Compact, Quit}
+use Rattle.wot_types.specs.declared.query.Query.TheVariants.{List as ListAll, ListOne, Sigs, SigsOne, Export, Why, Check, Suppose, Critical, Compact, Quit}
 use Rattle.wot_types.specs.declared.fault.ListingFault.{ListingFault}
 use Rattle.wot_types.specs.declared.fault.ListingWhat.{ListingWhat}
 use Rattle.wot_types.specs.declared.fault.ListingWhat.TheVariants.{ShortRecord, BadNumber, BadDate, BadHex, BadQuote, NoFingerprint, KeyIdDiffers, RepeatedKey, RepeatedUser, BadTrustField, LimitReached}
@@ -40,7 +40,7 @@ use Rattle.wot_types.specs.Lines.{front_of, is_newline, last_of, open_line, whol
 use Rattle.wot_types.proofs.ListEnds.{front_of_more, last_of_more}
 use Rattle.wot_types.specs.Listing.{fault_at_end, kept_certs, listed_keys, passed_certs}
 use Rattle.wot_types.specs.NextCheck.{next_check}
-use Rattle.wot_types.specs.Outcome.{Outcome, answer_to, block_outcome, edit_outcome, edit_reply, state_after, entries_outcome, has_long_line, head_outcome, is_past, listing_outcome, ok_line, outcome, query_refusal, refusal_of, refuse, sample_reply, unless_refused, unless_unanswered, words_outcome, change_by}
+use Rattle.wot_types.specs.Outcome.{Outcome, block_outcome, edit_outcome, edit_reply, state_after, entries_outcome, has_long_line, head_outcome, is_past, listing_outcome, ok_line, outcome, query_refusal, refusal_of, refuse, reply_to, sample_reply, unless_refused, unless_unanswered, words_outcome, change_by}
 use Rattle.wot_types.specs.Ownertrust.{ownertrust_of, ownertrust_line}
 use Rattle.wot_types.specs.OwnertrustText.{listed_entries, ownertrust_fault}
 use Rattle.wot_types.specs.Printing.{cert_line, key_id_text, key_lines, list_text, listed_keyblocks, user_lines}
@@ -48,13 +48,15 @@ use Rattle.wot_types.specs.Refusals.{fault_name, limit_name, ownertrust_fault_na
 use Rattle.wot_types.specs.Selection.{spots_from}
 use Rattle.wot_types.specs.Store.{Change, Store}
 use Rattle.wot_types.specs.Store.Change.{makes}
+use Rattle.wot_types.specs.Supposing.{changes, critical}
+use Rattle.wot_types.specs.SupposingText.{change_line, loss_line}
 use Rattle.wot_types.specs.Tally.{tally_line}
 use Rattle.wot_types.specs.WellFormed.{IsUser, IsWellFormed}
 use Rattle.wot_types.specs.WhyText.{by_line, letter_of, row_line, why_text}
 use Rattle.wot_types.proofs.FinMaps.{IfSome-get}
 use Rattle.wot_reply_laws.specs.Replies.{AreWellFormed, IsReply, ends_reply, is_silent, tells}
 use Rattle.wot_reply_laws.proofs.PlainTexts.{ArePlain, IsPlain, joined, plain_decimal, plain_joined, plain_key_id}
-use Rattle.wot_reply_laws.proofs.ReplyLines.{GoesOn, all_plain, both, by_goes_on, cert_goes_on, cut_goes_on, each, each_of, entry_goes_on, fpr_goes_on, nothing, pub_goes_on, row_goes_on, tally_goes_on, tru_goes_on, user_goes_on, why_goes_on}
+use Rattle.wot_reply_laws.proofs.ReplyLines.{GoesOn, all_plain, both, by_goes_on, cert_goes_on, change_goes_on, cut_goes_on, each, each_of, entry_goes_on, fpr_goes_on, loss_goes_on, nothing, pub_goes_on, row_goes_on, tally_goes_on, tru_goes_on, user_goes_on, why_goes_on}
 
 -- ---- whole lines, cut again
 
@@ -192,15 +194,15 @@ sample_replies after count =
     reply false (tally_line after (rows_of after)) (joined (codes "ok keys ") (decimal count ∷ [])) (tally_goes_on after (rows_of after))
     (ok (codes "ok keys ") (decimal count ∷ []) refl (plain_decimal count, tt) refl refl)
 
-reply_to : (s : State) (edit : Edit) → Answered false (edit_reply s edit)
-reply_to s (Import keys) = ok_alone
-reply_to s (Ownertrust entries) = ok_alone
-reply_to s (Set fpr trust) = ok_alone
-reply_to s (Flag fpr disabled) = ok_alone
-reply_to s (Delete id) = ok_alone
-reply_to s (Date date) = ok_alone
-reply_to s (Options options) = ok_alone
-reply_to s (Sample seed count) = sample_replies (state_after s (Sample seed count)) count
+edit_ends : (s : State) (edit : Edit) → Answered false (edit_reply s edit)
+edit_ends s (Import keys) = ok_alone
+edit_ends s (Ownertrust entries) = ok_alone
+edit_ends s (Set fpr trust) = ok_alone
+edit_ends s (Flag fpr disabled) = ok_alone
+edit_ends s (Delete id) = ok_alone
+edit_ends s (Date date) = ok_alone
+edit_ends s (Options options) = ok_alone
+edit_ends s (Sample seed count) = sample_replies (state_after s (Sample seed count)) count
 
 delete_replies : (s : Store) (fpr : List ℕ) (has : Bool) → Replies (if has then edit_outcome ok_line s (Delete (key_id_of fpr)) else refuse NoSuchKey)
 delete_replies s fpr true = edit_replies ok_line s (Delete (key_id_of fpr)) ok_alone
@@ -265,28 +267,41 @@ why_text_goes_on s id place =
     (each by_line by_goes_on (map.values (explained_rows s (direct s id place)))))
     (cut_goes_on (letter_of (cut s (explanation s id place) id) id place))
 
-answer_goes_on : (s : State) (query : Query) → AreWellFormed s.keys → GoesOn (answer_to s query)
-answer_goes_on s ListAll w = list_goes_on s None false w
-answer_goes_on s (ListOne fpr) w = list_goes_on s (Some (key_id_of fpr)) false w
-answer_goes_on s Sigs w = list_goes_on s None true w
-answer_goes_on s (SigsOne fpr) w = list_goes_on s (Some (key_id_of fpr)) true w
-answer_goes_on s Export w = each ownertrust_line entry_goes_on (map.entries s.trusts)
-answer_goes_on s (Why fpr place) w = why_text_goes_on s (key_id_of fpr) (place - 1)
-answer_goes_on s Check w = tally_goes_on s (rows_of s)
-answer_goes_on s Compact w = nothing
-answer_goes_on s Quit w = nothing
+-- lines that are counted in the last one
+counted : {X : Type 0} (line : X → List ℕ) → ((x : X) → GoesOn (line x)) → (words : List ℕ) → IsPlain words → ((n : ℕ) → ends_reply (words ++ decimal n) ≡ true)
+    → ((n : ℕ) → tells false (words ++ decimal n) ≡ true) → (xs : List X) → Answered false (flat_map line xs ++ reply_line (words ++ decimal (length xs)))
+counted line goes_on words plain ends told xs =
+    reply false (flat_map line xs) (words ++ decimal (length xs)) (each line goes_on xs)
+    (ok words (decimal (length xs) ∷ []) plain (plain_decimal (length xs), tt) (ends (length xs)) (told (length xs)))
 
-query_replies : (why : Option Refusal) (text : List ℕ) (change : Change) → GoesOn text → Replies (unless_unanswered why text change)
+-- the replies whose last line is `ok`
+ok_behind : (text : List ℕ) → GoesOn text → Answered false (text ++ ok_line)
+ok_behind text p = reply false text (codes "ok") p ok_ends
+
+query_ends : (s : State) (query : Query) → AreWellFormed s.keys → Answered false (reply_to s query)
+query_ends s ListAll w = ok_behind _ (list_goes_on s None false w)
+query_ends s (ListOne fpr) w = ok_behind _ (list_goes_on s (Some (key_id_of fpr)) false w)
+query_ends s Sigs w = ok_behind _ (list_goes_on s None true w)
+query_ends s (SigsOne fpr) w = ok_behind _ (list_goes_on s (Some (key_id_of fpr)) true w)
+query_ends s Export w = ok_behind _ (each ownertrust_line entry_goes_on (map.entries s.trusts))
+query_ends s (Why fpr place) w = ok_behind _ (why_text_goes_on s (key_id_of fpr) (place - 1))
+query_ends s Check w = ok_behind _ (tally_goes_on s (rows_of s))
+query_ends s (Suppose edit) w = counted change_line change_goes_on (codes "ok changes ") refl (λ n. refl) (λ n. refl) (changes s (state_after s edit))
+query_ends s (Critical fpr place) w = counted loss_line loss_goes_on (codes "ok critical ") refl (λ n. refl) (λ n. refl) (critical s (key_id_of fpr) (place - 1))
+query_ends s Compact w = ok_behind _ nothing
+query_ends s Quit w = ok_behind _ nothing
+
+query_replies : (why : Option Refusal) (text : List ℕ) (change : Change) → Answered false text → Replies (unless_unanswered why text change)
 query_replies (Some why) text change p = refused why
-query_replies None text change p = reply false text (codes "ok") p ok_ends
+query_replies None text change p = p
 
 -- ---- commands
 
 module _ (s : Store) (command : Command) (w : AreWellFormed s.state.keys) where
   head_replies : (head : Result Head Refusal) → Replies (head_outcome s command head)
   head_replies (Err why) = refused why
-  head_replies (Ok (EditHead edit)) = edit_replies (edit_reply s.state edit) s edit (reply_to s.state edit)
-  head_replies (Ok (QueryHead query)) = query_replies (query_refusal s.state query) (answer_to s.state query) (change_by query) (answer_goes_on s.state query w)
+  head_replies (Ok (EditHead edit)) = edit_replies (edit_reply s.state edit) s edit (edit_ends s.state edit)
+  head_replies (Ok (QueryHead query)) = query_replies (query_refusal s.state query) (reply_to s.state query) (change_by query) (query_ends s.state query w)
   head_replies (Ok (DeleteKey fpr)) = delete_replies s fpr (has_fpr s.state.keys fpr)
   head_replies (Ok ImportHead) =
       ended_replies (block_outcome ImportHead s (block_texts command.block)) command.ended (listing_replies (fault_at_end (block_texts command.block)) s (block_texts command.block))

@@ -9,6 +9,8 @@ use Rattle.std.proofs.lemmas.List.Elements.{All-head, All-tail}
 use Rattle.std.proofs.lemmas.List.Folds.{list_any-append}
 use Rattle.hex.specs.Hex.{encode_upper, encode_with, upper_digits}
 use Rattle.wot_types.specs.declared.cert.Cert.{Cert}
+use Rattle.wot_types.specs.declared.change.Change.{Change}
+use Rattle.wot_types.specs.declared.change.Loss.{Loss}
 use Rattle.wot_types.specs.declared.count.Count.{Count}
 use Rattle.wot_types.specs.declared.key.Key.{Key}
 use Rattle.wot_types.specs.declared.letter.Letter.{Letter}
@@ -27,6 +29,7 @@ use Rattle.wot_types.specs.Printing.{capabilities_text, cert_line, class_text, d
 use Rattle.wot_types.specs.Quotes.{printed_text}
 use Rattle.wot_types.specs.Records.{is_capability, is_hash_byte}
 use Rattle.wot_types.specs.Refusals.{reply_line}
+use Rattle.wot_types.specs.SupposingText.{change_line, loss_line}
 use Rattle.wot_types.specs.Tally.{letter_count, tally_line}
 use Rattle.wot_types.specs.Trust.{trust_text}
 use Rattle.wot_types.specs.WhyText.{by_line, count_fields, cut_line, row_line, why_line}
@@ -198,6 +201,18 @@ by_goes_on row = line_of (codes "by:") (ended_field (key_id_text row.key) ∷ en
 
 pub cut_goes_on : (letter : Letter) → GoesOn (cut_line letter)
 cut_goes_on letter = line_of (codes "cut:") (ended_field (letter_text letter) ∷ []) refl (plain_field (letter_text letter) (plain_letter letter), tt) refl
+
+-- ---- what is supposed, and what is critical
+
+pub change_goes_on : (change : Change) → GoesOn (change_line change)
+change_goes_on change =
+    line_of (codes "change:") (ended_field (key_id_text change.key) ∷ number_field (change.user + 1) ∷ ended_field (letter_text change.old) ∷ ended_field (letter_text change.new) ∷ [])
+    refl (plain_field (key_id_text change.key) (plain_key_id change.key), (plain_number (change.user + 1), (plain_field (letter_text change.old) (plain_letter change.old), (plain_field (letter_text change.new) (plain_letter change.new), tt)))) refl
+
+pub loss_goes_on : (loss : Loss) → GoesOn (loss_line loss)
+loss_goes_on loss =
+    line_of (codes "critical:") (ended_field (encode_upper loss.fpr) ∷ ended_field (letter_text loss.letter) ∷ [])
+    refl (plain_field (encode_upper loss.fpr) (plain_upper loss.fpr), (plain_field (letter_text loss.letter) (plain_letter loss.letter), tt)) refl
 
 -- ---- a tally
 

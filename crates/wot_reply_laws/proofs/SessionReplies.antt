@@ -11,7 +11,6 @@ use Rattle.wot_types.specs.Commands.{Command}
 use Rattle.wot_types.specs.Lines.{whole_lines}
 use Rattle.wot_types.specs.Outcome.{outcome}
 use Rattle.wot_types.specs.Refusals.{reply_line}
-use Rattle.wot_types.specs.Store.{Store}
 use Rattle.wot_types.specs.Session.{Progress, after_command, is_edit, replies, states}
 use Rattle.wot_types.proofs.Counting.{kept}
 use Rattle.wot_reply_laws.specs.Replies.{AreWellFormed, ends_reply, is_silent}

@@ -6,8 +6,8 @@ use Rattle.wot_types.specs.Levels.{rows_of}
 use Rattle.wot_types.specs.Selection.{spots_from}
 use Rattle.wot_table.proofs.Placement.{length_spots}
 use Rattle.wot_levels.proofs.SpotLemmas.{at_place}
+use Rattle.wot_live.proofs.KeyWalks.{letter_found}
 use Rattle.wot_print.specs.Counts.{counts_of}
-use Rattle.wot_print.proofs.Pieces.{letter_found}
 use Rattle.wot_print.proofs.counts.add_letters.Goals as goal
 
 pub loop-user-init : goal.loop-user-init

@@ -7,9 +7,8 @@ use Rattle.wot_types.specs.State.{State}
 use Rattle.wot_types.specs.Keyring.{Keyring}
 use Rattle.wot_types.specs.Letters.{user_letters}
 use Rattle.wot_types.specs.Levels.{rows_of}
+use Rattle.wot_live.proofs.KeyWalks.{IsRisingFrom, none_of_left, one_of_left, rising_entries, told_of}
 use Rattle.wot_print.specs.Counts.{counts_of}
-use Rattle.wot_print.proofs.Pieces.{none_of_left, one_of_left}
-use Rattle.wot_print.proofs.Walking.{IsRisingFrom, rising_entries, told_of}
 use Rattle.wot_print.proofs.counts.count_letters.Goals as goal
 
 abbrev IsEntryOf : Keyring → ℕ × Key → Type 0

@@ -6,8 +6,8 @@ use Rattle.wot_types.specs.declared.letter.Letter.{Letter}
 use Rattle.wot_types.specs.Letters.{user_letters}
 use Rattle.wot_types.specs.Levels.{rows_of}
 use Rattle.wot_types.specs.Tally.{all_letters}
+use Rattle.wot_live.proofs.KeyWalks.{IsRisingFrom}
 use Rattle.wot_print.specs.Counts.{counts_of}
-use Rattle.wot_print.proofs.Walking.{IsRisingFrom}
 use Rattle.wot_print.proofs.counts.count_letters.Given as goal
 
 abbrev pub invariant-loop-keyblock : goal.invariant-loop-keyblock

@@ -8,8 +8,9 @@ use Rattle.wot_types.specs.Levels.{rows_of}
 use Rattle.wot_types.specs.Ownertrust.{ownertrust_of}
 use Rattle.wot_types.specs.Printing.{key_lines, listed_keyblocks}
 use Rattle.wot_levels.proofs.HeadLemmas.{found_key}
+use Rattle.wot_live.proofs.KeyWalks.{told_of}
 use Rattle.wot_print.proofs.Room.{room_for_key}
-use Rattle.wot_print.proofs.Walking.{found_id, told_of}
+use Rattle.wot_print.proofs.Walking.{found_id}
 use Rattle.wot_print.proofs.listing.push_key.Goals as goal
 
 pub push_keyblock-requires : goal.push_keyblock-requires

@@ -9,10 +9,10 @@ use Rattle.wot_types.specs.Accepted.{IsFiled}
 use Rattle.wot_types.specs.Levels.{rows_of}
 use Rattle.wot_types.specs.Ownertrust.{ownertrust_of}
 use Rattle.wot_types.specs.Printing.{key_lines}
+use Rattle.wot_live.proofs.KeyWalks.{IsRisingFrom, none_of_left, one_of_left, rising_entries, told_of}
 use Rattle.wot_print_laws.specs.Fits.{FitsKey}
-use Rattle.wot_print.proofs.Pieces.{none_of_left, one_of_left}
 use Rattle.wot_print.proofs.Room.{room_for_each}
-use Rattle.wot_print.proofs.Walking.{IsRisingFrom, own_id, rising_entries, told_of}
+use Rattle.wot_print.proofs.Walking.{own_id}
 use Rattle.wot_print.proofs.listing.push_keys.Goals as goal
 
 abbrev IsEntryOf : Keyring → ℕ × Key → Type 0

@@ -6,8 +6,8 @@ use Rattle.wot_types.specs.Accepted.{IsFiled}
 use Rattle.wot_types.specs.Keyring.{key_certs}
 use Rattle.wot_types.specs.Levels.{rows_of}
 use Rattle.wot_types.specs.Printing.{key_lines}
+use Rattle.wot_live.proofs.KeyWalks.{IsRisingFrom}
 use Rattle.wot_print_laws.specs.Fits.{FitsKey}
-use Rattle.wot_print.proofs.Walking.{IsRisingFrom}
 use Rattle.wot_print.proofs.listing.push_keys.Given as goal
 
 -- the lines of the keys so far were added

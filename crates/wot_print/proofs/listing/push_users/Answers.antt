@@ -6,8 +6,8 @@ use Rattle.wot_types.specs.Printing.{user_lines}
 use Rattle.wot_types.specs.Selection.{Spot, spots_from}
 use Rattle.wot_table.proofs.Placement.{length_spots}
 use Rattle.wot_levels.proofs.SpotLemmas.{at_place}
+use Rattle.wot_live.proofs.KeyWalks.{none_of_left, one_of_left}
 use Rattle.wot_print_laws.specs.Fits.{FitsUser}
-use Rattle.wot_print.proofs.Pieces.{none_of_left, one_of_left}
 use Rattle.wot_print.proofs.Spots.{spots_all}
 use Rattle.wot_print.proofs.listing.push_users.Goals as goal
 

@@ -1,0 +1,11 @@
+//! What an edit would change, and on whose ownertrust a letter hangs: the engine is edited, asked, and edited back.
+#![tactic(auto)]
+
+mod changes; // the letters that differ between two states
+mod letters; // the letters of all user IDs
+mod losses; // the entries on which a letter hangs
+mod supposing; // what an edit would change
+mod trial; // edits that are taken back
+
+pub use losses::critical;
+pub use supposing::suppose;
