@@ -2,7 +2,7 @@
 
 ghost use Rattle.std.specs.Prelude.{◌≡◌, ◌<◌, ◌≤◌, ◌+◌, ◌-◌, ◌^◌, length, None, Ok, IfOk, IsSome, OnErr};
 ghost use Rattle.std.specs.Io.KnownBytes.{ReadConsumes, WriteAppends};
-ghost use Rattle.wot_site.specs.Site.{HasCause, take_faults, tell_faults, disk_faults};
+ghost use Rattle.wot_site.specs.Site.{HasCause, TakeRose, TellRose, DiskRose};
 ghost use Rattle.wot_file.specs.FileSite.{faults_of, first_reason, input_of, output_of, reason_after, reason_of};
 
 use crate::reason::{Place, Reason};
@@ -71,7 +71,7 @@ impl<F: Files<File = File>, I: Read, O: Write> FileSite<F, I, O> {
     fn count_error<T>(&mut self, answer: Result<T, Reason>) -> Result<T, Failed>
         ensures value { IfOk result (λ x. answer ≡ Ok x) }
         ensures ok { IfOk answer (λ x. result ≡ Ok x) }
-        ensures cause { HasCause disk_faults (faults_of self.old) (faults_of self.new) result }
+        ensures cause { HasCause DiskRose (faults_of self.old) (faults_of self.new) result }
         ensures input { input_of self.new ≡ input_of self.old }
         ensures output { output_of self.new ≡ output_of self.old }
         ensures first { reason_of self.new ≡ reason_after answer (reason_of self.old) }
@@ -94,7 +94,7 @@ impl<F: Files<File = File>, I: Read, O: Write> Site for FileSite<F, I, O> {
 
     fn take(&mut self, buf: &mut [u8]) -> Result<usize, Failed>
         ensures fits { IfOk result (λ n. n ≤ length buf.old) }
-        ensures cause { HasCause take_faults (faults_of self.old) (faults_of self.new) result }
+        ensures cause { HasCause TakeRose (faults_of self.old) (faults_of self.new) result }
         ensures input { ReadConsumes (I.remaining (input_of self.old)) (I.remaining (input_of self.new)) result buf.new }
         ensures output { output_of self.new ≡ output_of self.old }
         ensures quiet { IfOk result (λ _. reason_of self.new ≡ reason_of self.old) }
@@ -114,7 +114,7 @@ impl<F: Files<File = File>, I: Read, O: Write> Site for FileSite<F, I, O> {
     fn tell(&mut self, bytes: &[u8]) -> Result<usize, Failed>
         ensures fits { IfOk result (λ n. n ≤ length bytes.now) }
         ensures some { IfOk result (λ n. 0 < length bytes.now → 0 < n) }
-        ensures cause { HasCause tell_faults (faults_of self.old) (faults_of self.new) result }
+        ensures cause { HasCause TellRose (faults_of self.old) (faults_of self.new) result }
         ensures output { WriteAppends (O.contents (output_of self.old)) (O.contents (output_of self.new)) result bytes.now }
         ensures input { input_of self.new ≡ input_of self.old }
         ensures quiet { IfOk result (λ _. reason_of self.new ≡ reason_of self.old) }
@@ -131,7 +131,7 @@ impl<F: Files<File = File>, I: Read, O: Write> Site for FileSite<F, I, O> {
     }
 
     fn size(&mut self, side: Side) -> Result<u64, Failed>
-        ensures cause { HasCause disk_faults (faults_of self.old) (faults_of self.new) result }
+        ensures cause { HasCause DiskRose (faults_of self.old) (faults_of self.new) result }
         ensures input { input_of self.new ≡ input_of self.old }
         ensures output { output_of self.new ≡ output_of self.old }
         ensures quiet { IfOk result (λ _. reason_of self.new ≡ reason_of self.old) }
@@ -143,7 +143,7 @@ impl<F: Files<File = File>, I: Read, O: Write> Site for FileSite<F, I, O> {
 
     fn read(&mut self, side: Side, at: u64, buf: &mut [u8]) -> Result<usize, Failed>
         ensures fits { IfOk result (λ n. n ≤ length buf.old) }
-        ensures cause { HasCause disk_faults (faults_of self.old) (faults_of self.new) result }
+        ensures cause { HasCause DiskRose (faults_of self.old) (faults_of self.new) result }
         ensures input { input_of self.new ≡ input_of self.old }
         ensures output { output_of self.new ≡ output_of self.old }
         ensures quiet { IfOk result (λ _. reason_of self.new ≡ reason_of self.old) }
@@ -154,7 +154,7 @@ impl<F: Files<File = File>, I: Read, O: Write> Site for FileSite<F, I, O> {
     }
 
     fn write(&mut self, side: Side, at: u64, bytes: &[u8]) -> Result<(), Failed>
-        ensures cause { HasCause disk_faults (faults_of self.old) (faults_of self.new) result }
+        ensures cause { HasCause DiskRose (faults_of self.old) (faults_of self.new) result }
         ensures input { input_of self.new ≡ input_of self.old }
         ensures output { output_of self.new ≡ output_of self.old }
         ensures quiet { IfOk result (λ _. reason_of self.new ≡ reason_of self.old) }
@@ -165,7 +165,7 @@ impl<F: Files<File = File>, I: Read, O: Write> Site for FileSite<F, I, O> {
     }
 
     fn sync(&mut self, side: Side) -> Result<(), Failed>
-        ensures cause { HasCause disk_faults (faults_of self.old) (faults_of self.new) result }
+        ensures cause { HasCause DiskRose (faults_of self.old) (faults_of self.new) result }
         ensures input { input_of self.new ≡ input_of self.old }
         ensures output { output_of self.new ≡ output_of self.old }
         ensures quiet { IfOk result (λ _. reason_of self.new ≡ reason_of self.old) }

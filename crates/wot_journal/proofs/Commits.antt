@@ -2,17 +2,17 @@
 use Rattle.std.proofs.Common.{◌≡◌, ◌⊎◌, inl, inr, ℕ, ◌+◌, ◌<◌, ◌≤◌, List, [], ◌∷◌, ◌++◌, length, get_or, take, drop, sym, ◌∙◌, ap, subst, arith, append_assoc}
 use Rattle.std.specs.Int.{to_be_bytes, w32}
 use Rattle.std.proofs.lemmas.Bool.{cases_eq, cases_lt}
-use Rattle.std.proofs.lemmas.List.{length-append, take-take, get_or-take, take-append-drop, drop_more}
+use Rattle.std.proofs.lemmas.List.{length-append, take-take, get_or-take, take-append-drop, drop-drop, drop_more}
 use Rattle.wot_site.specs.Disk.{Disk, Disks, IsImage, disk_of, with_disk, after_write, after_sync, settled_disk, bytes_after_write}
 use Rattle.wot_site.specs.Seen.{Seen}
 use Rattle.wot_site.specs.Site.{on_disk}
 use Rattle.wot_site.specs.Work.{Works}
 use Rattle.wot_site.specs.declared.side.Side.{Side}
-use Rattle.wot_site.proofs.Images.{settled_image, torn_image, take_written, drop_written, length_written, length_written_end}
+use Rattle.wot_site.proofs.Images.{settled_image, torn_image, take_written, drop_written, back_written, length_written, length_written_end}
 use Rattle.wot_site.proofs.Sides.{disk_with, with_with, with_same}
 use Rattle.wot_site.proofs.Works.{works_start, works_push, works_to, works_then}
 use Rattle.wot_journal.specs.Record.{Framed, IsClosed, behind_gate, with_record, open_gate}
-use Rattle.wot_journal.specs.Commit.{Puts, PutsNot, IsEnd, Commits, IsUnchanged, IsCommitting}
+use Rattle.wot_journal.specs.Commit.{Puts, PutsNot, IsEnd, Commits, IsUnchanged, IsCommitting, behind_record}
 
 pub length_behind : (payload : List ℕ) → length (behind_gate payload) ≡ length payload + 5
 length_behind payload = simp length-append (omega arith)
@@ -111,8 +111,42 @@ module _ (bytes : List ℕ) (end : ℕ) (payload : List ℕ) (gate : IsClosed by
         | inr shut ↦ inl (record { front = torn.front ∙ front_staged; gate = record { within = tall; closed = shut } })
       ]
 
+  till : end + 1 + length (behind_gate payload) ≡ end + length payload + 6
+  till = omega (arith, length_behind payload)
+
+  -- what lies behind the record's place
+  behind_staged : drop (end + length payload + 6) staged ≡ drop (end + length payload + 6) bytes
+  behind_staged = subst (λ (n : ℕ). drop n staged ≡ drop n bytes) till (back_written bytes (end + 1) (behind_gate payload) low)
+
+  behind_gate_too : (c : List ℕ) → drop (end + 1) c ≡ drop (end + 1) staged → drop (end + length payload + 6) c ≡ drop (end + length payload + 6) bytes
+  behind_gate_too c same =
+      let further : end + 1 + (length payload + 5) ≡ end + length payload + 6 = omega arith in
+      subst (λ (n : ℕ). drop n c ≡ drop n staged) further
+      (sym (drop-drop (length payload + 5) (end + 1) c) ∙ ap (λ (l : List ℕ). drop (length payload + 5) l) same ∙ drop-drop (length payload + 5) (end + 1) staged)
+      ∙ behind_staged
+
+  pub behind_first : (c : List ℕ) → IsImage (settled_disk bytes) c → drop (end + length payload + 6) c ≡ drop (end + length payload + 6) bytes
+  behind_first c image = ap (λ (l : List ℕ). drop (end + length payload + 6) l) (settled_image bytes c image)
+
+  pub behind_while_written : (c : List ℕ) → IsImage (after_write (end + 1) (behind_gate payload) (settled_disk bytes)) c
+      → drop (end + length payload + 6) c ≡ drop (end + length payload + 6) bytes
+  behind_while_written c image = subst (λ (n : ℕ). drop n c ≡ drop n bytes) till (torn_image bytes (end + 1) (behind_gate payload) c low image).back
+
+  pub behind_once_written : (c : List ℕ) → IsImage (settled_disk staged) c → drop (end + length payload + 6) c ≡ drop (end + length payload + 6) bytes
+  behind_once_written c image = ap (λ (l : List ℕ). drop (end + length payload + 6) l) (settled_image staged c image) ∙ behind_staged
+
+  pub behind_while_opened : (c : List ℕ) → IsImage (after_write end (open_gate ∷ []) (settled_disk staged)) c
+      → drop (end + length payload + 6) c ≡ drop (end + length payload + 6) bytes
+  behind_while_opened c image = behind_gate_too c (torn_image staged end (open_gate ∷ []) c (omega (arith, gate.within, long)) image).back
+
   pub once_opened : bytes_after_write staged end (open_gate ∷ []) ≡ with_record bytes end payload
   once_opened = (λ i. front_staged i ++ (open_gate ∷ back_staged i)) ∙ opened
+
+  pub behind_once_opened : (c : List ℕ) → IsImage (settled_disk (with_record bytes end payload)) c
+      → drop (end + length payload + 6) c ≡ drop (end + length payload + 6) bytes
+  behind_once_opened c image =
+      behind_gate_too c (ap (λ (l : List ℕ). drop (end + 1) l) (settled_image (with_record bytes end payload) c image ∙ sym once_opened)
+      ∙ back_written staged end (open_gate ∷ []) (omega (arith, gate.within, long)))
 
 -- what commits, at each of its moments
 module _ (side : Side) (built : Framed) (x : Seen) (known : IsEnd built.end (disk_of side x.disks)) where
@@ -123,16 +157,20 @@ module _ (side : Side) (built : Framed) (x : Seen) (known : IsEnd built.end (dis
   P = IsCommitting side built x.disks
 
   -- where this side alone is another
-  on_side : (d : Disk) → ((c : List ℕ) → IsImage d c → IsUnchanged (disk_of side x.disks).reads built.end c ⊎ (c ≡ with_record (disk_of side x.disks).reads built.end built.payload)) → IsCommitting side built x.disks (with_disk side d x.disks)
-  on_side d images = record {
+  on_side : (d : Disk) → ((c : List ℕ) → IsImage d c → IsUnchanged (disk_of side x.disks).reads built.end c ⊎ (c ≡ with_record (disk_of side x.disks).reads built.end built.payload))
+      → ((c : List ℕ) → IsImage d c → drop (behind_record built) c ≡ drop (behind_record built) (disk_of side x.disks).reads)
+      → IsCommitting side built x.disks (with_disk side d x.disks)
+  on_side d images back = record {
     other = sym (ap (λ (e : Disk). with_disk side e x.disks) (disk_with side d x.disks));
     images = λ c image. images c (subst (λ (e : Disk). IsImage e c) (disk_with side d x.disks) image);
+    back = λ c image. back c (subst (λ (e : Disk). IsImage e c) (disk_with side d x.disks) image);
   }
 
   at_start : IsCommitting side built x.disks x.disks
   at_start = record {
     other = sym (with_same side x.disks);
     images = λ c image. inl (at_first (disk_of side x.disks).reads built.end built.payload known.gate c (subst (λ (d : Disk). IsImage d c) known.settled image));
+    back = λ c image. behind_first (disk_of side x.disks).reads built.end built.payload known.gate c (subst (λ (d : Disk). IsImage d c) known.settled image);
   }
 
   from_settled : (at : ℕ) (text : List ℕ) → after_write at text (disk_of side x.disks) ≡ after_write at text (settled_disk (disk_of side x.disks).reads)
@@ -141,10 +179,12 @@ module _ (side : Side) (built : Framed) (x : Seen) (known : IsEnd built.end (dis
   writing : IsCommitting side built x.disks (with_disk side (after_write (built.end + 1) (behind_gate built.payload) (disk_of side x.disks)) x.disks)
   writing = on_side (after_write (built.end + 1) (behind_gate built.payload) (disk_of side x.disks)) (λ c image.
       inl (while_written (disk_of side x.disks).reads built.end built.payload known.gate c (subst (λ (d : Disk). IsImage d c) (from_settled (built.end + 1) (behind_gate built.payload)) image)))
+      (λ c image. behind_while_written (disk_of side x.disks).reads built.end built.payload known.gate c (subst (λ (d : Disk). IsImage d c) (from_settled (built.end + 1) (behind_gate built.payload)) image))
 
   pub first_put : (y : Seen) → Puts side (built.end + 1) (behind_gate built.payload) x y → Works (IsCommitting side built x.disks) x y
   first_put y puts = puts_work (IsCommitting side built x.disks) side (built.end + 1) (behind_gate built.payload) x y at_start writing
-      (on_side (settled_disk (staged (disk_of side x.disks).reads built.end built.payload known.gate)) (λ c image. inl (once_written (disk_of side x.disks).reads built.end built.payload known.gate c image))) puts
+      (on_side (settled_disk (staged (disk_of side x.disks).reads built.end built.payload known.gate)) (λ c image. inl (once_written (disk_of side x.disks).reads built.end built.payload known.gate c image))
+      (behind_once_written (disk_of side x.disks).reads built.end built.payload known.gate)) puts
 
   pub first_not : (y : Seen) → PutsNot side (built.end + 1) (behind_gate built.payload) x y → Works (IsCommitting side built x.disks) x y
   first_not y puts = puts_not_work (IsCommitting side built x.disks) side (built.end + 1) (behind_gate built.payload) x y at_start writing puts
@@ -166,7 +206,8 @@ module _ (side : Side) (built : Framed) (x : Seen) (known : IsEnd built.end (dis
     opening : IsCommitting side built x.disks (with_disk side (after_write built.end (open_gate ∷ []) (disk_of side y.disks)) y.disks)
     opening = subst (IsCommitting side built x.disks) (sym (over (after_write built.end (open_gate ∷ []) (disk_of side y.disks)) ∙ ap (λ (d : Disk). with_disk side (after_write built.end (open_gate ∷ []) d) x.disks) put_disk))
         (on_side (after_write built.end (open_gate ∷ []) (settled_disk (staged (disk_of side x.disks).reads built.end built.payload known.gate)))
-        (while_opened (disk_of side x.disks).reads built.end built.payload known.gate))
+        (while_opened (disk_of side x.disks).reads built.end built.payload known.gate)
+        (behind_while_opened (disk_of side x.disks).reads built.end built.payload known.gate))
 
     has_record : bytes_after_write (disk_of side y.disks).reads built.end (open_gate ∷ []) ≡ with_record (disk_of side x.disks).reads built.end built.payload
     has_record = ap (λ (d : Disk). bytes_after_write d.reads built.end (open_gate ∷ [])) put_disk ∙ once_opened (disk_of side x.disks).reads built.end built.payload known.gate
@@ -177,7 +218,8 @@ module _ (side : Side) (built : Framed) (x : Seen) (known : IsEnd built.end (dis
     pub second_put : (z : Seen) → Puts side built.end (open_gate ∷ []) y z → Works (IsCommitting side built x.disks) x z
     second_put z puts2 = works_then (IsCommitting side built x.disks) x y z (first_put y puts)
         (puts_work (IsCommitting side built x.disks) side built.end (open_gate ∷ []) y z between opening
-        (subst (IsCommitting side built x.disks) (sym opened_disks) (on_side (settled_disk (with_record (disk_of side x.disks).reads built.end built.payload)) (λ c image. inr (settled_image _ c image)))) puts2)
+        (subst (IsCommitting side built x.disks) (sym opened_disks) (on_side (settled_disk (with_record (disk_of side x.disks).reads built.end built.payload)) (λ c image. inr (settled_image _ c image))
+        (behind_once_opened (disk_of side x.disks).reads built.end built.payload known.gate))) puts2)
 
     pub second_not : (z : Seen) → PutsNot side built.end (open_gate ∷ []) y z → Works (IsCommitting side built x.disks) x z
     second_not z puts2 = works_then (IsCommitting side built x.disks) x y z (first_put y puts)

@@ -1,5 +1,5 @@
 -- What putting a record onto the disk does.
-use Rattle.std.specs.Prelude.{ℕ, ◌≡◌, ◌⊎◌, ◌+◌, List, [], ◌∷◌, length, take}
+use Rattle.std.specs.Prelude.{ℕ, ◌≡◌, ◌⊎◌, ◌+◌, List, [], ◌∷◌, length, take, drop}
 use Rattle.wot_site.specs.Disk.{Disk, Disks, IsImage, disk_of, with_disk, after_write, after_sync, settled_disk}
 use Rattle.wot_site.specs.Seen.{Seen}
 use Rattle.wot_site.specs.Site.{on_disk}
@@ -37,8 +37,14 @@ pub record IsUnchanged (bytes : List ℕ) (end : ℕ) (c : List ℕ) : Type 0 wh
   pub front : take end c ≡ take end bytes
   pub gate : IsClosed c end
 
--- in each image the journal is as it was, or the record has come to its end; the other side is as it was
+-- the place behind a record and the closed gate behind it
+abbrev pub behind_record : Framed → ℕ
+behind_record built = built.end + length built.payload + 6
+
+-- in each image the journal is as it was, or the record has come to its end, and what lies behind that record's place is as it was;
+-- the other side is as it was
 pub record IsCommitting (side : Side) (built : Framed) (old new : Disks) : Type 0 where
   pub other : new ≡ with_disk side (disk_of side new) old
   pub images : (c : List ℕ) → IsImage (disk_of side new) c
       → IsUnchanged (disk_of side old).reads built.end c ⊎ (c ≡ with_record (disk_of side old).reads built.end built.payload)
+  pub back : (c : List ℕ) → IsImage (disk_of side new) c → drop (behind_record built) c ≡ drop (behind_record built) (disk_of side old).reads

@@ -3,7 +3,7 @@
 ghost use Rattle.std.specs.Prelude.{◌≡◌, ◌+◌, ◌-◌, ◌^◌, ◌<◌, ◌≤◌, length, IfOk, OnOk, OnErr};
 ghost use Rattle.wot_site.specs.Disk.{disk_of};
 ghost use Rattle.wot_site.specs.Seen.{Honestly, IfHonest};
-ghost use Rattle.wot_site.specs.Site.{HasCause, disk_faults};
+ghost use Rattle.wot_site.specs.Site.{HasCause, DiskRose};
 ghost use Rattle.wot_site.specs.Work.{Works};
 ghost use Rattle.wot_journal.specs.Record.{most};
 ghost use Rattle.wot_journal.specs.Commit.{MakesCalls, Puts, PutsNot, IsEnd, Commits, CommitsNot, IsCommitting};
@@ -18,7 +18,7 @@ pub fn put<S: Site>(site: &mut S, side: Side, at: u64, bytes: &[u8]) -> Result<(
     ensures ok { OnOk result (Honestly (S.seen site.old) (S.seen site.new) (Puts side at bytes.now)) }
     ensures err { OnErr result (Honestly (S.seen site.old) (S.seen site.new) (PutsNot side at bytes.now)) }
     ensures calls { OnOk result (Honestly (S.seen site.old) (S.seen site.new) (MakesCalls 2)) }
-    ensures cause { HasCause disk_faults (S.faults site.old) (S.faults site.new) result }
+    ensures cause { HasCause DiskRose (S.faults site.old) (S.faults site.new) result }
 {
     match site.write(side, at, bytes) {
         Ok(()) => {}
@@ -40,7 +40,7 @@ pub fn commit<S: Site>(site: &mut S, side: Side, built: &Built) -> Result<u64, D
     ensures failed { OnErr result (Honestly (S.seen site.old) (S.seen site.new) (CommitsNot side built.now)) }
     // At each moment of it each image has the journal as it was, or the record too.
     ensures any_moment { Honestly (S.seen site.old) (S.seen site.new) (λ old new. Works (IsCommitting side built.now old.disks) old new) }
-    ensures cause { HasCause disk_faults (S.faults site.old) (S.faults site.new) result }
+    ensures cause { HasCause DiskRose (S.faults site.old) (S.faults site.new) result }
 {
     let body = built.body();
     let end = built.end();

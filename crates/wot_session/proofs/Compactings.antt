@@ -8,7 +8,7 @@ use Rattle.wot_types.specs.Store.{Store}
 use Rattle.wot_store.specs.Base.{other_side}
 use Rattle.wot_store.specs.Compacting.{compacted_place}
 use Rattle.wot_store.specs.declared.place.Place.{Place}
-use Rattle.wot_session.specs.Here.{IsPlace}
+use Rattle.wot_session.specs.SessionState.{IsPlace}
 
 abbrev moved_place : Place → State → Place
 moved_place place s = record { side = other_side place.side; epoch = place.epoch + 1; end = base_end s; other_closed = false }
@@ -36,6 +36,9 @@ end_is s more = ap (λ b. if b then s.end else base_end s.state) more
 
 pub same_true : (m n : ℕ) → nat_eq m n ≡ true → m ≡ n
 same_true m n is = grind (arith, nat_tests)
+
+pub same_false : (m n : ℕ) → nat_eq m n ≡ false → m ≡ n → ⊥
+same_false m n is = grind (arith, nat_tests)
 
 -- the place after it is that of the store after it
 pub place_moves : (place : Place) (engine : State) (s : Store) → IsPlace place s → engine ≡ s.state → IsPlace (compacted_place place engine) (compacted_store s)

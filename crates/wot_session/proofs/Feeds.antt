@@ -17,11 +17,11 @@ use Rattle.wot_site.proofs.Honest.{honest_then, honest_weaker}
 use Rattle.wot_types.specs.Store.{Store}
 use Rattle.wot_store.specs.declared.place.Place.{Place}
 use Rattle.wot_session.specs.declared.session.Session.{Session}
-use Rattle.wot_session.specs.Fed.{more, whole_from, open_from}
-use Rattle.wot_session.specs.Here.{Holds, IsAt, IsHere, IsOver}
+use Rattle.wot_session.specs.OpenLine.{more, whole_from, open_from}
+use Rattle.wot_session.specs.SessionState.{Holds, IsAt, IsHere, IsOver}
 use Rattle.wot_session.specs.declared.stop.Stop.{Stop}
 use Rattle.wot_session.specs.declared.stop.Stop.TheVariants.{Memory}
-use Rattle.wot_session.specs.Told.{Said, SaidPrefix}
+use Rattle.wot_session.specs.Answering.{Said, SaidPrefix}
 use Rattle.wot_session.proofs.Parts.{whole_at, open_at, whole_none, open_none}
 use Rattle.wot_session.proofs.Sayings.{said_none, said_prefix, said_prefix_more, said_then, said_then_prefix}
 

@@ -1,5 +1,5 @@
 -- What an answer does to the store, and then its reply.
-use Rattle.std.proofs.Common.{◌≡◌, inl, inr, ℕ, Bool, true, false, List, [], ◌++◌, length, Option, Some, None, refl, sym, ap, ◌∙◌, subst, append_assoc, arith}
+use Rattle.std.proofs.Common.{◌≡◌, inl, inr, ℕ, ◌+◌, Bool, true, false, List, [], ◌++◌, length, Option, Some, None, refl, sym, ap, ◌∙◌, subst, append_assoc, arith}
 use Rattle.std.specs.Prelude.{nat_eq}
 use Rattle.std.proofs.lemmas.List.{append-nil}
 use Rattle.std.proofs.lemmas.Option.{same_Some}
@@ -26,15 +26,15 @@ use Rattle.wot_store.specs.Appending.{IsNext, IsRecordOf, place_after}
 use Rattle.wot_store.specs.Changing.{IsStoredAfter, ShowsEither}
 use Rattle.wot_store.specs.Compacting.{IsCompactable, compacted_place}
 use Rattle.wot_store.specs.Shows.{IsStored}
-use Rattle.wot_store.specs.Written.{Spares, WritesBehind}
+use Rattle.wot_store.specs.Written.{Spares, WritesBetween}
 use Rattle.wot_store.proofs.Written.{stored_side}
 use Rattle.wot_store.specs.declared.place.Place.{Place}
-use Rattle.wot_session.specs.Here.{Holds, IsDue, IsHere, IsPlace, Performs}
+use Rattle.wot_session.specs.SessionState.{Holds, IsDue, IsHere, IsPlace, Performs}
 use Rattle.wot_session.specs.declared.session.Session.{Session}
-use Rattle.wot_session.specs.Kept.{AllShow, AllShowEither, IsAround}
+use Rattle.wot_session.specs.CrashImages.{AllShow, AllShowEither, IsAround}
 use Rattle.wot_session.specs.Written.{IsAnswered, WritesTo}
 use Rattle.wot_tell.specs.Telling.{IsTelling, Telling, TellingPrefix}
-use Rattle.wot_session.specs.Told.{Given, GivenPrefix}
+use Rattle.wot_session.specs.Answering.{Given, GivenPrefix}
 use Rattle.wot_session.proofs.Keeping.{stored_shows}
 use Rattle.wot_session.proofs.Compactings.{epoch_moves, place_moves, same_true}
 use Rattle.wot_session.proofs.Trails.{writes_still}
@@ -70,6 +70,11 @@ leads_next place built s t (Some x) leads holds = record { shown = s; edit = lea
 pub leads_on : (built : Framed) (s t : Store) → Leads built s t → t ≡ s → ⊥
 leads_on built s t leads same = omega (arith, ap (λ (store : Store). store.end) (sym leads.after ∙ same))
 
+-- the place after it is that of the store after it
+pub appended_place : (place : Place) (built : Framed) (s t : Store) → IsPlace place s → Leads built s t → IsPlace (place_after place built) t
+appended_place place built s t at leads =
+    subst (IsPlace (place_after place built)) (sym leads.after) (record { epoch = at.epoch; end = omega (arith, leads.place, ap length leads.payload.is) })
+
 -- what leads the store from the one to the other
 abbrev pub Leading : Store → Store → Seen → Seen → Type 0
 Leading s t x y = Works (WritesTo s t x.disks) x y
@@ -78,35 +83,33 @@ pub nothing_written : (s t : Store) (seen : Option Seen) → Honestly seen seen 
 nothing_written s t None = tt
 nothing_written s t (Some x) = works_start (WritesTo s t x.disks) x (writes_still s t x.disks)
 
--- what is written behind the place at which a store is open
-writes_behind : (place : Place) (built : Framed) (s t : Store) (d e : Disks) → Leads built s t → IsStored place s d → WritesBehind place.side place.end d e → WritesTo s t d e
-writes_behind place built s t d e leads stored behind = record {
+-- what is written from the place at which a store is open to the one behind a record
+writes_between : (place : Place) (built : Framed) (s t : Store) (d e : Disks) → Leads built s t → IsStored place s d
+    → WritesBetween place.side place.end ((place_after place built).end + 1) d e → WritesTo s t d e
+writes_between place built s t d e leads stored between = record {
   still = λ same. absurd (leads_on built s t leads same);
   some = inr (inl (
     ap (λ (store : Store). store.epoch) leads.after,
     record {
       side = place.side;
       shown = stored_side place s d stored;
-      behind = subst (λ n. WritesBehind place.side n d e) stored.end behind;
+      between = subst (λ n. WritesBetween place.side n (t.end + 1) d e) stored.end
+          (subst (λ n. WritesBetween place.side place.end (n + 1) d e)
+          (appended_place place built s t (record { epoch = stored.epoch; end = stored.end }) leads).end between);
     },
   ));
 }
 
 pub record_written : (place : Place) (built : Framed) (s t : Store) (a b : Option Seen) → Leads built s t → Holds place a s
-    → Honestly a b (λ x y. Works (WritesBehind place.side place.end x.disks) x y) → Honestly a b (Leading s t)
+    → Honestly a b (λ x y. Works (WritesBetween place.side place.end ((place_after place built).end + 1) x.disks) x y) → Honestly a b (Leading s t)
 record_written place built s t a b leads holds written =
-    honest_with (λ x. IsStored place s x.disks) (λ x y. Works (WritesBehind place.side place.end x.disks) x y) (Leading s t) a b holds written
-    (λ x y stored works. works_weaker (WritesBehind place.side place.end x.disks) (WritesTo s t x.disks) x y (λ e. writes_behind place built s t x.disks e leads stored) works)
+    honest_with (λ x. IsStored place s x.disks) (λ x y. Works (WritesBetween place.side place.end ((place_after place built).end + 1) x.disks) x y) (Leading s t) a b holds written
+    (λ x y stored works. works_weaker (WritesBetween place.side place.end ((place_after place built).end + 1) x.disks) (WritesTo s t x.disks) x y (λ e. writes_between place built s t x.disks e leads stored) works)
 
 -- what is stored after it
 pub appending_is : (built : Framed) (s t : Store) (a b : Option Seen) → Leads built s t
     → ((edit : Edit) → IsRecordOf built s edit → Honestly a b (ShowsEither s (edited_store s edit))) → Honestly a b (ShowsEither s t)
 appending_is built s t a b leads all = subst (λ t. Honestly a b (ShowsEither s t)) (sym leads.after) (all leads.edit (record_of built s t leads))
-
--- and the place
-pub appended_place : (place : Place) (built : Framed) (s t : Store) → IsPlace place s → Leads built s t → IsPlace (place_after place built) t
-appended_place place built s t at leads =
-    subst (IsPlace (place_after place built)) (sym leads.after) (record { epoch = at.epoch; end = omega (arith, leads.place, ap length leads.payload.is) })
 
 held : (place : Place) (store : Store) (a b : Option Seen) → Honestly a b (IsStoredAfter place store) → Holds place b store
 held place store None None appends = tt

@@ -9,7 +9,7 @@ use Rattle.wot_types.specs.Session.{after_all, replies}
 use Rattle.wot_types.proofs.Divisions as laws
 use Rattle.wot_types.proofs.Divisions.{after_commands_append, commands_append, division_append, lines_append}
 use Rattle.wot_session.specs.AtEnd.{at_end, last_commands}
-use Rattle.wot_session.specs.Fed.{last_lines, open_from, whole_from}
+use Rattle.wot_session.specs.OpenLine.{last_lines, open_from, whole_from}
 use Rattle.wot_session.specs.Input.{commands_at, division_at, end_at, so_far_at, whole_at}
 use Rattle.wot_tell.specs.Telling.{IsPrefixOf}
 use Rattle.wot_session.specs.Turn.{commands_fed, division_fed}

@@ -11,8 +11,8 @@ use Rattle.wot_store.proofs.Unwritten.{settled_images}
 use Rattle.wot_types.specs.Commands.{Command}
 use Rattle.wot_types.specs.Session.{Progress, after_command, after_all, replies, reply_to}
 use Rattle.wot_types.proofs.Divisions.{after_commands_append, commands_append}
-use Rattle.wot_session.specs.Kept.{AllShow, IsWhole, Kept}
-use Rattle.wot_session.specs.Open.{IsOpen}
+use Rattle.wot_session.specs.CrashImages.{AllShow, IsWhole, Kept}
+use Rattle.wot_session.specs.OpenStore.{IsOpen}
 
 -- where a store is open, whatever a crash leaves shows it
 pub stored_shows : {place : Place} (store : Store) (disks : Disks) → IsStored place store disks → AllShow store disks

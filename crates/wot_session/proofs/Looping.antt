@@ -8,9 +8,9 @@ use Rattle.wot_store.specs.declared.place.Place.{Place}
 use Rattle.wot_session.specs.declared.session.Session.{Session}
 use Rattle.wot_session.specs.declared.stop.Stop.{Stop}
 use Rattle.wot_session.specs.AtEnd.{at_end, last_commands}
-use Rattle.wot_session.specs.Fed.{whole_from, open_from}
-use Rattle.wot_session.specs.Here.{Holds, IsAt, IsHere, IsOver}
-use Rattle.wot_session.specs.Told.{IsAnswering, Said, SaidPrefix}
+use Rattle.wot_session.specs.OpenLine.{whole_from, open_from}
+use Rattle.wot_session.specs.SessionState.{Holds, IsAt, IsHere, IsOver}
+use Rattle.wot_session.specs.Answering.{IsAnswering, Said, SaidPrefix}
 use Rattle.wot_session.specs.Turn.{StoppedTurn, TookAll, Turned, division_fed}
 use Rattle.wot_session.specs.Input.{SessionEnded, SessionStopped}
 use Rattle.wot_session.proofs.Feeds.{is_over, not_over, said_known}

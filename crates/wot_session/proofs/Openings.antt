@@ -24,15 +24,15 @@ use Rattle.wot_answer.specs.Answer.{IsDivision}
 use Rattle.wot_answer.specs.Block.{IsBlockOf}
 use Rattle.wot_answer.specs.declared.division.Division.TheVariants.{Within}
 use Rattle.wot_answer.specs.declared.block.Block.{Block}
-use Rattle.wot_session.specs.Here.{Holds}
+use Rattle.wot_session.specs.SessionState.{Holds}
 use Rattle.wot_session.specs.Input as input
 use Rattle.wot_session.specs.Input.{HasQuit, IsFurther, IsOnTime, IsPunctual, IsRead, commands_at}
 use Rattle.wot_tell.specs.Telling.{IsPrefixOf}
-use Rattle.wot_session.specs.Kept.{IsSafe, IsWhole, Kept}
-use Rattle.wot_session.specs.Open.{IsOpen}
+use Rattle.wot_session.specs.CrashImages.{IsSafe, IsWhole, Kept}
+use Rattle.wot_session.specs.OpenStore.{IsOpen}
 use Rattle.wot_session.specs.Run.{RunEnded, IsCrashSafe, IsUntouched, IsWritten, Ran, RunStopped, Unopened, WritesForChanges}
 use Rattle.wot_session.specs.Stop.{status_of}
-use Rattle.wot_session.specs.Told.{IsAnswering, Said, SaidPrefix}
+use Rattle.wot_session.specs.Answering.{IsAnswering, Said, SaidPrefix}
 use Rattle.wot_session.specs.Words.{IsUnread, Read, WordsEnded, WordsStopped}
 use Rattle.wot_session.specs.Written.{Trail, Written, change_count}
 use Rattle.wot_session.specs.declared.stop.Stop.{Stop}

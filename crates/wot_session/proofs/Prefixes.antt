@@ -11,7 +11,7 @@ use Rattle.wot_types.specs.Store.{Store}
 use Rattle.wot_types.specs.Session.{Progress, acknowledged_count, after_command, after_all, is_edit, replies, reply_to, states}
 use Rattle.wot_types.proofs.Counting.{first_state, kept, none_acknowledged, replied}
 use Rattle.wot_session.proofs.Keeping.{stored_shows}
-use Rattle.wot_session.specs.Kept.{IsAround, IsSafe, IsWhole, Kept, ShowsPrefix, ShowsState}
+use Rattle.wot_session.specs.CrashImages.{IsAround, IsSafe, IsWhole, Kept, ShowsPrefix, ShowsState}
 
 -- a command without a reply leaves the state
 silent : (p : Progress) (command : Command) → length (reply_to p command) ≡ 0 → (after_command p command).store.state ≡ p.store.state

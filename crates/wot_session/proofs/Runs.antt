@@ -19,11 +19,11 @@ use Rattle.wot_store.specs.Shows.{IsStored}
 use Rattle.wot_store.specs.declared.place.Place.{Place}
 use Rattle.wot_session.specs.declared.stop.Stop.{Stop}
 use Rattle.wot_session.specs.AtEnd.{at_end, last_commands}
-use Rattle.wot_session.specs.Fed.{open_from}
+use Rattle.wot_session.specs.OpenLine.{open_from}
 use Rattle.wot_tell.specs.Telling.{IsPrefixOf}
-use Rattle.wot_session.specs.Kept.{IsWhole, Kept}
-use Rattle.wot_session.specs.Open.{IsOpen}
-use Rattle.wot_session.specs.Told.{IsAnswering, Said, SaidPrefix}
+use Rattle.wot_session.specs.CrashImages.{IsWhole, Kept}
+use Rattle.wot_session.specs.OpenStore.{IsOpen}
+use Rattle.wot_session.specs.Answering.{IsAnswering, Said, SaidPrefix}
 use Rattle.wot_session.specs.Turn.{StoppedTurn, TookAll, Turned, commands_fed}
 use Rattle.wot_session.specs.Written.{Written}
 use Rattle.wot_session.specs.Input.{SessionEnded, IsFurther, IsOnTime, IsPunctual, SessionStopped, commands_at, division_at, end_at, so_far_at, whole_at}

@@ -13,10 +13,10 @@ use Rattle.wot_types.specs.Commands.Division.{between, over, within}
 use Rattle.wot_types.specs.Session.{Progress, after_command, after_all, replies, reply_to}
 use Rattle.wot_types.specs.LineByLine.{Position, after_line, after_lines, commands_in}
 use Rattle.wot_types.proofs.Divisions.{after_one, commands_append, one_line}
-use Rattle.wot_session.specs.Fed.{last_lines}
-use Rattle.wot_session.specs.Here.{Holds}
-use Rattle.wot_session.specs.Kept.{IsAround, IsWhole, Kept}
-use Rattle.wot_session.specs.Told.{Given, GivenPrefix, Said, SaidPrefix}
+use Rattle.wot_session.specs.OpenLine.{last_lines}
+use Rattle.wot_session.specs.SessionState.{Holds}
+use Rattle.wot_session.specs.CrashImages.{IsAround, IsWhole, Kept}
+use Rattle.wot_session.specs.Answering.{Given, GivenPrefix, Said, SaidPrefix}
 use Rattle.wot_session.specs.declared.stop.Stop.{Stop}
 use Rattle.wot_session.specs.declared.stop.Stop.TheVariants.{Memory}
 use Rattle.wot_session.proofs.Keeping.{kept_here, kept_more, kept_then, stored_shows, whole_here, whole_more, whole_then}

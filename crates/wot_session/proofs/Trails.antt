@@ -14,7 +14,7 @@ use Rattle.wot_site.specs.Disk.{Disks}
 use Rattle.wot_site.specs.Seen.{Moment, Seen}
 use Rattle.wot_site.specs.Work.{Quiet, Since}
 use Rattle.wot_session.specs.Written.{IsAnswered, Trail, WritesFor, WritesOther, WritesRecord, WritesTo, Written, change_count, is_change}
-use Rattle.wot_session.proofs.Compactings.{epoch_moves, store_stays}
+use Rattle.wot_session.proofs.Compactings.{epoch_moves, same_false, store_stays}
 
 -- nothing was written
 writes_none : (s : Store) (change : Change) (d e : Disks) → e ≡ d → WritesFor s change d e
@@ -27,9 +27,9 @@ writes_still s t d = record { still = λ _. refl; some = inl refl }
 
 -- what may have been written where the epoch is the same, and where it is another
 abbrev WritesByEpoch : Store → Store → Disks → Disks → Type 0
-WritesByEpoch s t d e = (e ≡ d) ⊎ (((t.epoch ≡ s.epoch) × WritesRecord s d e) ⊎ ((t.epoch ≢ s.epoch) × WritesOther d e))
+WritesByEpoch s t d e = (e ≡ d) ⊎ (((t.epoch ≡ s.epoch) × WritesRecord s t d e) ⊎ ((t.epoch ≢ s.epoch) × WritesOther d e))
 
-same_epoch : (s t : Store) (d e : Disks) → t.epoch ≡ s.epoch → WritesByEpoch s t d e → (e ≡ d) ⊎ WritesRecord s d e
+same_epoch : (s t : Store) (d e : Disks) → t.epoch ≡ s.epoch → WritesByEpoch s t d e → (e ≡ d) ⊎ WritesRecord s t d e
 same_epoch s t d e same (inl still) = inl still
 same_epoch s t d e same (inr (inl (is, writes))) = inr writes
 same_epoch s t d e same (inr (inr (other, writes))) = absurd (other same)
@@ -39,12 +39,16 @@ other_epoch s t d e other (inl still) = inl still
 other_epoch s t d e other (inr (inl (same, writes))) = absurd (other same)
 other_epoch s t d e other (inr (inr (is, writes))) = inr writes
 
-writes_compacts : (s : Store) (d e : Disks) → WritesTo s (compacted_store s) d e → (e ≡ d) ⊎ WritesOther d e
+writes_compacts : (s : Store) (d e : Disks) → WritesTo s (compacted_store s) d e → (e ≡ d) ⊎ ((s.epoch ≢ last_epoch) × WritesOther d e)
 writes_compacts s d e writes = by_epoch (nat_eq s.epoch last_epoch) refl
   where
-    by_epoch : (last : Bool) → nat_eq s.epoch last_epoch ≡ last → (e ≡ d) ⊎ WritesOther d e
+    before_the_last : s.epoch ≢ last_epoch → (e ≡ d) ⊎ WritesOther d e → (e ≡ d) ⊎ ((s.epoch ≢ last_epoch) × WritesOther d e)
+    before_the_last before (inl still) = inl still
+    before_the_last before (inr writes) = inr (before, writes)
+
+    by_epoch : (last : Bool) → nat_eq s.epoch last_epoch ≡ last → (e ≡ d) ⊎ ((s.epoch ≢ last_epoch) × WritesOther d e)
     by_epoch true is = inl (writes.still (store_stays s is))
-    by_epoch false is = other_epoch s (compacted_store s) d e (epoch_moves s is) writes.some
+    by_epoch false is = before_the_last (same_false s.epoch last_epoch is) (other_epoch s (compacted_store s) d e (epoch_moves s is) writes.some)
 
 -- what leads to the store after a change is what that change may write
 writes_change : (s : Store) (change : Change) (d e : Disks) → WritesTo s (store_after change s) d e → WritesFor s change d e

@@ -18,10 +18,10 @@ use Rattle.std.proofs.lemmas.List.Elements.{All-nil}
 use Rattle.wot_session.specs.declared.stop.Stop.{Stop}
 use Rattle.wot_session.specs.declared.stop.Stop.TheVariants.{ReadFault, Memory, TooLong}
 use Rattle.wot_session.specs.declared.session.Session.{Session}
-use Rattle.wot_session.specs.Here.{Holds, IsHere}
-use Rattle.wot_session.specs.Kept.{IsWhole, Kept}
+use Rattle.wot_session.specs.SessionState.{Holds, IsHere}
+use Rattle.wot_session.specs.CrashImages.{IsWhole, Kept}
 use Rattle.wot_session.specs.Written.{Written}
-use Rattle.wot_session.specs.Told.{IsAnswering, Said, SaidPrefix}
+use Rattle.wot_session.specs.Answering.{IsAnswering, Said, SaidPrefix}
 use Rattle.wot_session.specs.Turn.{IsBetween, StoppedTurn, TookAll, Turned, commands_fed, division_fed}
 use Rattle.wot_session.proofs.Keeping.{kept_here, stored_shows, whole_all, whole_here, whole_kept}
 use Rattle.wot_session.proofs.Trails.{written_later, written_still}

@@ -3,7 +3,7 @@ use Rattle.std.specs.Prelude.{ℕ, List, ◌++◌, Option}
 use Rattle.wot_types.specs.Commands.{Command, unfinished_commands}
 use Rattle.wot_types.specs.Commands.Division.{over}
 use Rattle.wot_types.specs.LineByLine.{Position, after_closing, after_lines, commands_in}
-use Rattle.wot_session.specs.Fed.{last_lines}
+use Rattle.wot_session.specs.OpenLine.{last_lines}
 
 -- the commands at the end, where this line is open
 abbrev pub last_commands : Position → Option (List ℕ) → List Command

@@ -9,8 +9,8 @@ use Rattle.wot_site.specs.Seen.{Seen}
 use Rattle.wot_site.specs.Work.{Since, moment_of}
 use Rattle.wot_site.specs.declared.asked.Asked.{Asked}
 use Rattle.wot_tell.specs.Telling.{IsPrefixOf}
-use Rattle.wot_session.specs.Kept.{IsWhole, Kept}
-use Rattle.wot_session.specs.Open.{IsOpen}
+use Rattle.wot_session.specs.CrashImages.{IsWhole, Kept}
+use Rattle.wot_session.specs.OpenStore.{IsOpen}
 use Rattle.wot_session.specs.Written.{Written}
 use Rattle.wot_session.specs.Turn.{IsBetween}
 use Rattle.wot_session.specs.declared.stop.Stop.{Stop}

@@ -6,16 +6,15 @@ use Rattle.wot_types.specs.Commands.Division.{over}
 use Rattle.wot_types.specs.LineByLine.{at_first}
 use Rattle.wot_types.specs.Session.{acknowledged_count, at_start, commands_of, end_of, output_of}
 use Rattle.wot_site.specs.Disk.{Disks, Leaves, reads_of}
-use Rattle.wot_site.specs.Seen.{Faults, Moment, Seen}
-use Rattle.wot_site.specs.Site.{NoneFell, Stays}
+use Rattle.wot_site.specs.Seen.{Moment, Seen}
+use Rattle.wot_site.specs.Site.{Stays}
 use Rattle.wot_site.specs.Work.{Quiet, Since, Works, moment_of}
 use Rattle.wot_store.specs.Opening.{AreBlank, AreUnwritten, FindsBad, IsSettled, Opening, WritesOnlyBlank}
 use Rattle.wot_store.specs.Shows.{Shows, all_settled}
 use Rattle.wot_session.specs.Input.{IsPunctual, division_at, so_far_at}
 use Rattle.wot_tell.specs.Telling.{IsPrefixOf}
-use Rattle.wot_session.specs.Kept.{IsSafe, ShowsState}
-use Rattle.wot_session.specs.Open.{IsOpen}
-use Rattle.wot_session.specs.Stop.{Causes}
+use Rattle.wot_session.specs.CrashImages.{IsSafe, ShowsState}
+use Rattle.wot_session.specs.OpenStore.{IsOpen}
 use Rattle.wot_session.specs.Turn.{IsBetween}
 use Rattle.wot_session.specs.Words.{IsUnread, Read}
 use Rattle.wot_session.specs.Written.{Trail, change_count}
@@ -121,8 +120,3 @@ Ran words most status.DiskFault = λ old new. Unopened words old new ⊎ RunStop
 Ran words most (status.BadStore bad) = λ old new. Unopened words old new × FindsBad bad old new
 Ran words most status.Memory = λ old new. Stays old new ⊎ (Unopened words old new × IsSettled old new) ⊎ RunStopped words most Memory old new
 Ran words most status.TooLong = RunStopped words most TooLong
-
--- no count fell, and the status has its cause
-pub record HasCauses (old new : Faults) (status : Status) : Type 0 where
-  pub counts : NoneFell old new
-  pub cause : Causes status old new

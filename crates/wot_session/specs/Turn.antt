@@ -7,9 +7,9 @@ use Rattle.wot_types.specs.Session.{replies}
 use Rattle.wot_site.specs.Seen.{Seen}
 use Rattle.wot_site.specs.Site.{asked_at}
 use Rattle.wot_site.specs.Work.{Since, moment_of}
-use Rattle.wot_session.specs.Fed.{whole_from}
+use Rattle.wot_session.specs.OpenLine.{whole_from}
 use Rattle.wot_tell.specs.Telling.{IsPrefixOf}
-use Rattle.wot_session.specs.Kept.{IsWhole, Kept}
+use Rattle.wot_session.specs.CrashImages.{IsWhole, Kept}
 use Rattle.wot_session.specs.Written.{Written}
 use Rattle.wot_session.specs.declared.stop.Stop.{Stop}
 use Rattle.wot_session.specs.declared.stop.Stop.TheVariants.{Memory, ReadFault, TooLong}

@@ -1,7 +1,8 @@
 -- What the commands of a run write to the sides.
 use Rattle.std.specs.Prelude.{ℕ, ◌≡◌, ◌≢◌, ◌⊎◌, ◌+◌, Bool, true, false, List, [], ◌∷◌, ◌++◌, All, if◌then◌else◌}
 use Rattle.wot_types.specs.Commands.{Command}
-use Rattle.wot_types.specs.Outcome.{outcome}
+use Rattle.wot_types.specs.Compaction.{last_epoch}
+use Rattle.wot_types.specs.Outcome.{edited_store, outcome}
 use Rattle.wot_types.specs.Session.{Progress, after_command, reply_to}
 use Rattle.wot_types.specs.Store.{Change, Store}
 use Rattle.wot_types.specs.Store.Change.{keeps, makes, compacts}
@@ -9,14 +10,14 @@ use Rattle.wot_site.specs.Disk.{Disks}
 use Rattle.wot_site.specs.Seen.{Moment, Seen}
 use Rattle.wot_site.specs.Work.{Quiet}
 use Rattle.wot_site.specs.declared.side.Side.{Side}
-use Rattle.wot_store.specs.Written.{IsShownSide, Spares, WritesBehind}
+use Rattle.wot_store.specs.Written.{IsShownSide, Spares, WritesBetween}
 use Rattle.wot_tell.specs.Telling.{IsPrefixOf}
 
--- of these sides the shown one alone was written, and behind the end of this store's journal alone
-pub record WritesRecord (s : Store) (d e : Disks) : Type 0 where
+-- of these sides the shown one alone was written, and from the end of the one store's journal to the end of the other's alone, with its closed gate
+pub record WritesRecord (s t : Store) (d e : Disks) : Type 0 where
   pub side : Side
   pub shown : IsShownSide side d
-  pub behind : WritesBehind side s.end d e
+  pub between : WritesBetween side s.end (t.end + 1) d e
 
 -- of these sides the one that isn't shown was written, and the shown one was not
 pub record WritesOther (d e : Disks) : Type 0 where
@@ -24,17 +25,18 @@ pub record WritesOther (d e : Disks) : Type 0 where
   pub shown : IsShownSide side d
   pub spared : Spares side d e
 
--- what a command with this change may have written by some moment: an accepted edit its record, and `compact` the other side
+-- what a command with this change may have written by some moment: an accepted edit its record with the closed gate behind it, and `compact`
+-- the other side, but in the last epoch nothing
 abbrev pub WritesFor : Store → Change → Disks → Disks → Type 0
 WritesFor s keeps d e = e ≡ d
-WritesFor s (makes edit) d e = (e ≡ d) ⊎ WritesRecord s d e
-WritesFor s compacts d e = (e ≡ d) ⊎ WritesOther d e
+WritesFor s (makes edit) d e = (e ≡ d) ⊎ WritesRecord s (edited_store s edit) d e
+WritesFor s compacts d e = (e ≡ d) ⊎ ((s.epoch ≢ last_epoch) × WritesOther d e)
 
 -- what may have been written on the way from the one store to the other: nothing where they are the same, the other side where the epoch
 -- is another, and else a record
 pub record WritesTo (s t : Store) (d e : Disks) : Type 0 where
   pub still : t ≡ s → e ≡ d
-  pub some : (e ≡ d) ⊎ (((t.epoch ≡ s.epoch) × WritesRecord s d e) ⊎ ((t.epoch ≢ s.epoch) × WritesOther d e))
+  pub some : (e ≡ d) ⊎ (((t.epoch ≡ s.epoch) × WritesRecord s t d e) ⊎ ((t.epoch ≢ s.epoch) × WritesOther d e))
 
 -- a moment of a command's answer, where this text was told before it: up to the first byte of its reply the sides are such,
 -- and from that byte on they are the ones that it leaves

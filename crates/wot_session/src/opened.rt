@@ -4,8 +4,8 @@ ghost use Rattle.std.specs.Prelude.{◌≡◌, ◌<◌, ◌≤◌, ℕ, true, fa
 ghost use Rattle.wot_types.specs.Grammar.{has_block};
 ghost use Rattle.wot_types.specs.Store.{Store};
 ghost use Rattle.wot_site.specs.Seen.{Honestly};
-ghost use Rattle.wot_session.specs.Here.{Holds, IsOpened};
-ghost use Rattle.wot_session.specs.Told.{HasStopCause};
+ghost use Rattle.wot_session.specs.SessionState.{Holds, IsOpened};
+ghost use Rattle.wot_session.specs.Answering.{HasStopCause};
 ghost use Rattle.wot_session.specs.Words.{WordsEnded, WordsStopped};
 
 use crate::running::run_session;

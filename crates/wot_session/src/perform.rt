@@ -6,8 +6,8 @@ ghost use Rattle.wot_site.specs.Seen.{Honestly};
 ghost use Rattle.wot_site.specs.Site.{Stays};
 ghost use Rattle.wot_site.specs.Work.{Works};
 ghost use Rattle.wot_store.specs.Changing.{ShowsEither};
-ghost use Rattle.wot_session.specs.Here.{Holds, IsPlace, IsReadyFor, Performs};
-ghost use Rattle.wot_session.specs.Told.{StopsTelling};
+ghost use Rattle.wot_session.specs.SessionState.{Holds, IsPlace, IsReadyFor, Performs};
+ghost use Rattle.wot_session.specs.Answering.{StopsTelling};
 ghost use Rattle.wot_session.specs.Written.{WritesTo};
 
 use crate::stop::Stop;

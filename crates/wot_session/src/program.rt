@@ -3,7 +3,8 @@
 ghost use Rattle.std.specs.Prelude.{◌≡◌, ◌⊎◌, ◌≤◌, ℕ, List, Some, None, map, string_bytes};
 ghost use Rattle.wot_site.specs.Seen.{Honestly};
 ghost use Rattle.wot_words.specs.ProgramWords.{command_words};
-ghost use Rattle.wot_session.specs.Run.{HasCauses, Ran, longest_input};
+ghost use Rattle.wot_session.specs.Run.{Ran, longest_input};
+ghost use Rattle.wot_session.specs.Stop.{Causes};
 
 use crate::opened::run_opened;
 use crate::status::Status;
@@ -34,7 +35,7 @@ pub fn run<R: Threads + Sync, S: Site, G: Gate + Sync>(
     ensures untouched { command_words (map string_bytes words.now) ≡ None → site.new ≡ site.old }
     ensures ran { (command : List (List ℕ)) → command_words (map string_bytes words.now) ≡ Some command
         → Honestly (S.seen site.old) (S.seen site.new) (Ran command longest_input result) }
-    ensures causes { HasCauses (S.faults site.old) (S.faults site.new) result }
+    ensures causes { Causes result (S.faults site.old) (S.faults site.new) }
 {
     run_within(rt, alloc, words, site, gate, LONGEST_INPUT)
 }
@@ -58,7 +59,7 @@ pub fn run_within<R: Threads + Sync, S: Site, G: Gate + Sync>(
         → Honestly (S.seen site.old) (S.seen site.new) (Ran command most result) }
 
     // On every site.
-    ensures causes { HasCauses (S.faults site.old) (S.faults site.new) result }
+    ensures causes { Causes result (S.faults site.old) (S.faults site.new) }
 {
     match program_words(alloc, words) {
         Ok(asked) => {
@@ -84,7 +85,7 @@ fn run_words<R: Threads + Sync, S: Site, G: Gate + Sync>(
 ) -> Status
     ensures usage { result ≡ Status.Usage → ⊥ }
     ensures ran { Honestly (S.seen site.old) (S.seen site.new) (Ran words.now most result) }
-    ensures causes { HasCauses (S.faults site.old) (S.faults site.new) result }
+    ensures causes { Causes result (S.faults site.old) (S.faults site.new) }
 {
     let opened = match open_store(workers, alloc, site) {
         Ok(opened) => opened,

@@ -39,7 +39,7 @@ pub fn make_ready<'a, R: Threads + Sync, G: Gate + Sync>(
         Reply::Text(text) => Ok(Ready::Text(text)),
         Reply::List => listing_of(alloc, engine, false),
         Reply::Sigs => listing_of(alloc, engine, true),
-        Reply::Recount => {
+        Reply::Tally => {
             let text = recounted_tally(workers, alloc, &engine.lent())?;
             Ok(Ready::Text(text))
         }
@@ -61,7 +61,7 @@ fn recounted_tally<R: Threads + Sync, G: Gate + Sync>(
     state: &LentState<'_>,
 ) -> Result<Vec<u8>, Mem>
     requires ranges { IsInRange state.now.options }
-    ensures { IfOk result (λ text. text.items ≡ reply_of Reply.Recount state.now) }
+    ensures { IfOk result (λ text. text.items ≡ reply_of Reply.Tally state.now) }
 {
     let rows = rows_by(workers, alloc, state)?;
     let mut text = tally_by(workers, alloc, state, &rows)?;

@@ -3,9 +3,9 @@
 ghost use Rattle.std.specs.Prelude.{◌≡◌, [], Some, IfOk, IfErr};
 ghost use Rattle.wot_site.specs.Seen.{Honestly};
 ghost use Rattle.wot_types.specs.LineByLine.{Position};
-ghost use Rattle.wot_session.specs.Here.{IsHere, IsOver, IsSomewhere};
+ghost use Rattle.wot_session.specs.SessionState.{IsHere, IsOver, IsSomewhere};
 ghost use Rattle.wot_session.specs.Input.{SessionEnded, SessionStopped};
-ghost use Rattle.wot_session.specs.Told.{HasStopCause};
+ghost use Rattle.wot_session.specs.Answering.{HasStopCause};
 
 use crate::session::Session;
 use crate::stop::Stop;

@@ -12,9 +12,9 @@ ghost use Rattle.wot_answer.specs.Answer.{IsDivision, reads_on, reply_of};
 ghost use Rattle.wot_site.specs.Site.{Stays};
 ghost use Rattle.wot_site.specs.Seen.{Honestly, IfHonest};
 ghost use Rattle.wot_session.specs.AtEnd.{at_end, closed_at, last_commands};
-ghost use Rattle.wot_session.specs.Fed.{more, whole_from, open_from, last_lines};
-ghost use Rattle.wot_session.specs.Here.{CanGive, Holds, IsAt, IsDue, IsHere, IsOver, IsPlace, IsSomewhere};
-ghost use Rattle.wot_session.specs.Told.{Given, GivenPrefix, HasStopCause, Said, SaidPrefix, StopsTelling};
+ghost use Rattle.wot_session.specs.OpenLine.{more, whole_from, open_from, last_lines};
+ghost use Rattle.wot_session.specs.SessionState.{CanGive, Holds, IsAt, IsDue, IsHere, IsOver, IsPlace, IsSomewhere};
+ghost use Rattle.wot_session.specs.Answering.{Given, GivenPrefix, HasStopCause, Said, SaidPrefix, StopsTelling};
 ghost use Rattle.wot_session.specs.Turn.{Turned, StoppedTurn};
 
 use crate::lines::split_line;

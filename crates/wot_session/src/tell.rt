@@ -3,7 +3,7 @@
 ghost use Rattle.std.specs.Prelude.{◌≡◌, ◌++◌, OnOk, OnErr, IsOk};
 ghost use Rattle.wot_types.specs.Outcome.{ok_line};
 ghost use Rattle.wot_site.specs.Seen.{Honestly};
-ghost use Rattle.wot_site.specs.Site.{HasCause, tell_faults};
+ghost use Rattle.wot_site.specs.Site.{HasCause, TellRose};
 ghost use Rattle.wot_tell.specs.Telling.{Telling, TellingPrefix};
 ghost use Rattle.wot_session.specs.Ready.{text_of};
 
@@ -18,7 +18,7 @@ use wot_tell::{Teller, tell_all};
 pub fn tell_ready<S: Site>(site: &mut S, ready: Ready<'_>) -> Result<(), Failed>
     ensures told { OnOk result (Honestly (S.seen site.old) (S.seen site.new) (Telling (text_of ready.entry))) }
     ensures prefix { OnErr result (Honestly (S.seen site.old) (S.seen site.new) (TellingPrefix (text_of ready.entry))) }
-    ensures cause { HasCause tell_faults (S.faults site.old) (S.faults site.new) result }
+    ensures cause { HasCause TellRose (S.faults site.old) (S.faults site.new) result }
 {
     match ready {
         Ready::Text(text) => tell_all(site, &text),
@@ -30,7 +30,7 @@ pub fn tell_ready<S: Site>(site: &mut S, ready: Ready<'_>) -> Result<(), Failed>
 fn tell_printout<S: Site>(site: &mut S, printout: Printout<'_>) -> Result<(), Failed>
     ensures told { OnOk result (Honestly (S.seen site.old) (S.seen site.new) (Telling (printout.entry ++ ok_line))) }
     ensures prefix { OnErr result (Honestly (S.seen site.old) (S.seen site.new) (TellingPrefix (printout.entry ++ ok_line))) }
-    ensures cause { HasCause tell_faults (S.faults site.old) (S.faults site.new) result }
+    ensures cause { HasCause TellRose (S.faults site.old) (S.faults site.new) result }
 {
     let mut teller = Teller::new(site);
     taken(printout.print(&mut teller));

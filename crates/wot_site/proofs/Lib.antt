@@ -1,6 +1,7 @@
 pub mod Calls
 pub mod Honest
 pub mod Images
+pub mod Noting
 pub mod Outcome
 pub mod Pending
 pub mod Plans

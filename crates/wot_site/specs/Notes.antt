@@ -1,5 +1,4 @@
 -- What the notes of a site in memory tell: its record of calls, read from the start.
-use Rattle.std.proofs.Common.{refl}
 use Rattle.std.specs.Prelude.{ℕ, ◌≡◌, Bool, if◌then◌else◌, List, [], ◌∷◌, ◌++◌}
 use Rattle.wot_site.specs.MemorySide.{Bytes, Both, at_rest, after_writing, synced_now, bytes_of, with_bytes, disks_of}
 use Rattle.wot_site.specs.Seen.{Moment}
@@ -33,10 +32,6 @@ past_after p (Synced side) = with_sides (with_bytes side (synced_now (bytes_of s
 abbrev pub replay : Past → List Noted → Past
 replay p [] = p
 replay p (noted ∷ notes) = replay (past_after (past_at_run noted.first p) noted.note) notes
-
-pub replay_push : (p : Past) (notes : List Noted) (noted : Noted) → replay p (notes ++ noted ∷ []) ≡ past_after (past_at_run noted.first (replay p notes)) noted.note
-replay_push p [] noted = refl
-replay_push p (first ∷ notes) noted = replay_push (past_after (past_at_run first.first p) first.note) notes noted
 
 -- after these notes, where a run begins behind them or not
 abbrev pub past_now : Past → List Noted → Bool → Past

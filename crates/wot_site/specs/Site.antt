@@ -78,30 +78,32 @@ WritesOrNot side at bytes old new = (new ≡ on_disk side (after_write at bytes)
 abbrev pub Syncs : Side → Seen → Seen → Type 0
 Syncs side old new = new ≡ on_disk side after_sync old
 
--- no count fell
-pub record NoneFell (old new : Faults) : Type 0 where
-  pub take : old.take ≤ new.take
-  pub tell : old.tell ≤ new.tell
-  pub disk : old.disk ≤ new.disk
-
 -- a count rose; one at 2^64 - 1 stays there
 abbrev pub Rose : ℕ → ℕ → Type 0
 Rose old new = old < 2 ^ 64 - 1 → old < new
 
--- no count fell, a call fails only where its count rose, and one that succeeds leaves every count
-pub record HasCause {T E : Type 0} (count : Faults → ℕ) (old new : Faults) (result : Result T E) : Type 0 where
-  pub counts : NoneFell old new
-  pub failed : IsErr result → Rose (count old) (count new)
+-- the count of the calls of `take` that failed rose, and the others are as they were
+pub record TakeRose (old new : Faults) : Type 0 where
+  pub rose : Rose old.take new.take
+  pub no_less : old.take ≤ new.take
+  pub tell : new.tell ≡ old.tell
+  pub disk : new.disk ≡ old.disk
+
+-- the count of the calls of `tell` that failed rose, and the others are as they were
+pub record TellRose (old new : Faults) : Type 0 where
+  pub rose : Rose old.tell new.tell
+  pub no_less : old.tell ≤ new.tell
+  pub take : new.take ≡ old.take
+  pub disk : new.disk ≡ old.disk
+
+-- the count of the disk's calls that failed rose, and the others are as they were
+pub record DiskRose (old new : Faults) : Type 0 where
+  pub rose : Rose old.disk new.disk
+  pub no_less : old.disk ≤ new.disk
+  pub take : new.take ≡ old.take
+  pub tell : new.tell ≡ old.tell
+
+-- a call fails only where its count rose and no other, and one that succeeds leaves every count
+pub record HasCause {T E : Type 0} (Raised : Faults → Faults → Type 0) (old new : Faults) (result : Result T E) : Type 0 where
+  pub failed : IsErr result → Raised old new
   pub quiet : OnOk result (new ≡ old)
-
--- the count of the calls of `take` that failed
-abbrev pub take_faults : Faults → ℕ
-take_faults faults = faults.take
-
--- the count of the calls of `tell` that failed
-abbrev pub tell_faults : Faults → ℕ
-tell_faults faults = faults.tell
-
--- the count of the disk's calls that failed
-abbrev pub disk_faults : Faults → ℕ
-disk_faults faults = faults.disk

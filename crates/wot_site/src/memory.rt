@@ -229,7 +229,7 @@ impl Site for MemorySite {
     ghost use Rattle.std.specs.Prelude.{◌^◌, ◌-◌};
     ghost use Rattle.wot_site.specs.Disk.{disk_of};
     ghost use Rattle.wot_site.specs.CallBytes.{bytes_per_call};
-    ghost use Rattle.wot_site.specs.Site.{after_asking, Takes, TakesNothing, Tells, Stays, Sizes, Reads, Writes, WritesOrNot, Syncs, HasCause, Rose, take_faults, tell_faults, disk_faults};
+    ghost use Rattle.wot_site.specs.Site.{after_asking, Takes, TakesNothing, Tells, Stays, Sizes, Reads, Writes, WritesOrNot, Syncs, HasCause, Rose, TakeRose, TellRose, DiskRose};
     ghost use Rattle.wot_site.specs.MemorySite.{seen_of, faults_of, starved_of, cut_of, IsPlanned, IsDue, with_fault, OneCall};
     ghost use Rattle.wot_site.specs.Calls.{one_more};
     ghost use Rattle.wot_site.specs.declared.memory.plan.CallKind.TheVariants.{Take, Tell, Size, Read, Write, Sync};
@@ -243,7 +243,7 @@ impl Site for MemorySite {
         ensures fits { IfOk result (λ n. n ≤ length buf.old) }
         ensures ok { IfOk result (λ n. Takes n buf.new (seen_of self.old) (seen_of self.new)) }
         ensures err { OnErr result (TakesNothing (seen_of self.old) (seen_of self.new)) }
-        ensures cause { HasCause take_faults (faults_of self.old) (faults_of self.new) result }
+        ensures cause { HasCause TakeRose (faults_of self.old) (faults_of self.new) result }
         ensures moved { IfOk result (λ n. n ≡ bytes_per_call (cut_of self.old) (min (length buf.old) (length (seen_of self.old).left))) }
         ensures noted { OnErr result ((seen_of self.new ≡ after_asking (seen_of self.old)) ⊎ Rose (starved_of self.old) (starved_of self.new)) }
         ensures planned { IsPlanned Take self.old → IsErr result }
@@ -273,7 +273,7 @@ impl Site for MemorySite {
         ensures some { IfOk result (λ n. 0 < length bytes.now → 0 < n) }
         ensures ok { IfOk result (λ n. Tells n bytes.now (seen_of self.old) (seen_of self.new)) }
         ensures err { OnErr result (Stays (seen_of self.old) (seen_of self.new)) }
-        ensures cause { HasCause tell_faults (faults_of self.old) (faults_of self.new) result }
+        ensures cause { HasCause TellRose (faults_of self.old) (faults_of self.new) result }
         ensures moved { IfOk result (λ n. n ≡ bytes_per_call (cut_of self.old) (length bytes.now)) }
         ensures planned { IsPlanned Tell self.old → IsErr result }
         ensures starves { starved_of self.old < starved_of self.new → IsErr result }
@@ -301,7 +301,7 @@ impl Site for MemorySite {
     fn size(&mut self, side: Side) -> Result<u64, Failed>
         ensures ok { IfOk result (λ n. Sizes side n (seen_of self.old) (seen_of self.new)) }
         ensures err { OnErr result (Stays (seen_of self.old) (seen_of self.new)) }
-        ensures cause { HasCause disk_faults (faults_of self.old) (faults_of self.new) result }
+        ensures cause { HasCause DiskRose (faults_of self.old) (faults_of self.new) result }
         ensures planned { IsDue Size self.old → IsErr result }
         ensures failed { IsErr result → IsDue Size self.old }
         ensures faults_rise { OnErr result (faults_of self.new ≡ with_fault Size (faults_of self.old)) }
@@ -324,7 +324,7 @@ impl Site for MemorySite {
         ensures fits { IfOk result (λ n. n ≤ length buf.old) }
         ensures ok { IfOk result (λ n. Reads side at n buf.new (seen_of self.old) (seen_of self.new)) }
         ensures err { OnErr result (Stays (seen_of self.old) (seen_of self.new)) }
-        ensures cause { HasCause disk_faults (faults_of self.old) (faults_of self.new) result }
+        ensures cause { HasCause DiskRose (faults_of self.old) (faults_of self.new) result }
         ensures planned { IsDue Read self.old → IsErr result }
         ensures failed { IsErr result → IsDue Read self.old }
         ensures faults_rise { OnErr result (faults_of self.new ≡ with_fault Read (faults_of self.old)) }
@@ -349,7 +349,7 @@ impl Site for MemorySite {
         requires within { at ≤ length (disk_of side (seen_of self.old).disks).reads }
         ensures ok { OnOk result (Writes side at bytes.now (seen_of self.old) (seen_of self.new)) }
         ensures err { OnErr result (WritesOrNot side at bytes.now (seen_of self.old) (seen_of self.new)) }
-        ensures cause { HasCause disk_faults (faults_of self.old) (faults_of self.new) result }
+        ensures cause { HasCause DiskRose (faults_of self.old) (faults_of self.new) result }
         ensures noted { Writes side at bytes.now (seen_of self.old) (seen_of self.new) ⊎ Rose (starved_of self.old) (starved_of self.new) }
         ensures planned { IsDue Write self.old → IsErr result }
         ensures starves { starved_of self.old < starved_of self.new → IsErr result × (seen_of self.new ≡ seen_of self.old) }
@@ -376,7 +376,7 @@ impl Site for MemorySite {
     fn sync(&mut self, side: Side) -> Result<(), Failed>
         ensures ok { OnOk result (Syncs side (seen_of self.old) (seen_of self.new)) }
         ensures err { OnErr result (Stays (seen_of self.old) (seen_of self.new)) }
-        ensures cause { HasCause disk_faults (faults_of self.old) (faults_of self.new) result }
+        ensures cause { HasCause DiskRose (faults_of self.old) (faults_of self.new) result }
         ensures planned { IsDue Sync self.old → IsErr result }
         ensures starves { starved_of self.old < starved_of self.new → IsErr result }
         ensures fed { IsDue Sync self.old → starved_of self.new ≡ starved_of self.old }

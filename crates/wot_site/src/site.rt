@@ -3,7 +3,7 @@
 ghost use Rattle.std.specs.Prelude.{◌≡◌, ◌+◌, ◌-◌, ◌^◌, ◌<◌, ◌≤◌, Option, length, IfOk, OnOk, OnErr};
 ghost use Rattle.wot_site.specs.Seen.{Seen, Faults, Honestly, IfHonest};
 ghost use Rattle.wot_site.specs.Disk.{disk_of};
-ghost use Rattle.wot_site.specs.Site.{Takes, TakesNothing, Tells, Stays, Sizes, Reads, Writes, WritesOrNot, Syncs, HasCause, take_faults, tell_faults, disk_faults};
+ghost use Rattle.wot_site.specs.Site.{Takes, TakesNothing, Tells, Stays, Sizes, Reads, Writes, WritesOrNot, Syncs, HasCause, TakeRose, TellRose, DiskRose};
 
 use crate::failed::Failed;
 use crate::side::Side;
@@ -23,7 +23,7 @@ pub trait Site {
         ensures fits { IfOk result (λ n. n ≤ length buf.old) }
         ensures ok { IfOk result (λ n. Honestly (seen self.old) (seen self.new) (Takes n buf.new)) }
         ensures err { OnErr result (Honestly (seen self.old) (seen self.new) TakesNothing) }
-        ensures cause { HasCause take_faults (faults self.old) (faults self.new) result };
+        ensures cause { HasCause TakeRose (faults self.old) (faults self.new) result };
 
     /// Appends a front of the bytes to what was told and answers its length, at least 1 where there are bytes.
     fn tell(&mut self, bytes: &[u8]) -> Result<usize, Failed>
@@ -31,13 +31,13 @@ pub trait Site {
         ensures some { IfOk result (λ n. 0 < length bytes.now → 0 < n) }
         ensures ok { IfOk result (λ n. Honestly (seen self.old) (seen self.new) (Tells n bytes.now)) }
         ensures err { OnErr result (Honestly (seen self.old) (seen self.new) Stays) }
-        ensures cause { HasCause tell_faults (faults self.old) (faults self.new) result };
+        ensures cause { HasCause TellRose (faults self.old) (faults self.new) result };
 
     /// How many bytes a side has.
     fn size(&mut self, side: Side) -> Result<u64, Failed>
         ensures ok { IfOk result (λ n. Honestly (seen self.old) (seen self.new) (Sizes side n)) }
         ensures err { OnErr result (Honestly (seen self.old) (seen self.new) Stays) }
-        ensures cause { HasCause disk_faults (faults self.old) (faults self.new) result };
+        ensures cause { HasCause DiskRose (faults self.old) (faults self.new) result };
 
     /// Reads the bytes of a side from a place on into the front of the buffer and answers how many: 0 only at or
     /// past the end or for an empty buffer.
@@ -45,7 +45,7 @@ pub trait Site {
         ensures fits { IfOk result (λ n. n ≤ length buf.old) }
         ensures ok { IfOk result (λ n. Honestly (seen self.old) (seen self.new) (Reads side at n buf.new)) }
         ensures err { OnErr result (Honestly (seen self.old) (seen self.new) Stays) }
-        ensures cause { HasCause disk_faults (faults self.old) (faults self.new) result };
+        ensures cause { HasCause DiskRose (faults self.old) (faults self.new) result };
 
     /// Writes over what is there, and past the end. Until the next sync of that side a crash may leave any bytes in the range.
     fn write(&mut self, side: Side, at: u64, bytes: &[u8]) -> Result<(), Failed>
@@ -53,11 +53,11 @@ pub trait Site {
         requires within { IfHonest (seen self.old) (λ s. at ≤ length (disk_of side s.disks).reads) }
         ensures ok { OnOk result (Honestly (seen self.old) (seen self.new) (Writes side at bytes.now)) }
         ensures err { OnErr result (Honestly (seen self.old) (seen self.new) (WritesOrNot side at bytes.now)) }
-        ensures cause { HasCause disk_faults (faults self.old) (faults self.new) result };
+        ensures cause { HasCause DiskRose (faults self.old) (faults self.new) result };
 
     /// After it a crash leaves of that side what a read gives.
     fn sync(&mut self, side: Side) -> Result<(), Failed>
         ensures ok { OnOk result (Honestly (seen self.old) (seen self.new) (Syncs side)) }
         ensures err { OnErr result (Honestly (seen self.old) (seen self.new) Stays) }
-        ensures cause { HasCause disk_faults (faults self.old) (faults self.new) result };
+        ensures cause { HasCause DiskRose (faults self.old) (faults self.new) result };
 }

@@ -3,7 +3,7 @@
 ghost use Rattle.std.specs.Prelude.{◌≡◌, ◌<◌, ◌≤◌, length, min, nat_lt, if◌then◌else◌, Some, None, IfOk, OnErr, IsErrOf};
 ghost use Rattle.wot_site.specs.Disk.{disk_of};
 ghost use Rattle.wot_site.specs.Seen.{Honestly, IfHonest};
-ghost use Rattle.wot_site.specs.Site.{Stays, Rose, NoneFell};
+ghost use Rattle.wot_site.specs.Site.{Stays, DiskRose};
 ghost use Rattle.wot_site.specs.Gate.{most};
 ghost use Rattle.wot_types.specs.WellFormedState.{IsWellFormedState};
 ghost use Rattle.wot_types.specs.PagePlaces.{page_place};
@@ -18,7 +18,7 @@ use crate::rows::take_rows;
 use std::alloc::Global;
 use std::thread::Threads;
 use wot_image::read_base;
-use wot_live::{Engine, Parts};
+use wot_live::{Engine, EngineDraft};
 use wot_pages::{CONTENT, FIRST, PAGE, PagesError, read_pages};
 use wot_site::{MOST, Side, Site};
 use wot_types::Mem;
@@ -51,7 +51,7 @@ fn take_base<R: Threads + Sync, G: Gate + Sync>(
     workers: &Workers<'_, R, G>,
     alloc: Global,
     contents: Vec<u8>,
-) -> Result<Parts, StoreError>
+) -> Result<EngineDraft, StoreError>
     ensures sound { IfOk result (λ parts. IsWellFormedState parts) }
     ensures base { IfOk result (λ parts. IsBaseOf contents.items parts) }
     ensures bad { (b : _) → IsErrOf result (StoreError.Bad b) → IsNoBase contents.items b }
@@ -74,15 +74,14 @@ fn load_base<R: Threads + Sync, S: Site, G: Gate + Sync>(
     side: Side,
     header: Header,
     size: u64,
-) -> Result<(Parts, u64), StoreError>
+) -> Result<(EngineDraft, u64), StoreError>
     requires size { IfHonest (S.seen site.old) (λ s. size ≡ length (disk_of side s.disks).reads) }
     ensures sound { IfOk result (λ r. IsWellFormedState r.0) }
     ensures base { IfOk result (λ r. Honestly (S.seen site.old) (S.seen site.new) (ReadsBase side header r.0)) }
     ensures start { IfOk result (λ r. (r.1 ≡ page_place header.pages) × (r.1 < size) × (r.1 < most)) }
     ensures stays { OnErr result (Honestly (S.seen site.old) (S.seen site.new) Stays) }
     ensures bad { (b : _) → IsErrOf result (StoreError.Bad b) → Honestly (S.seen site.old) (S.seen site.new) (LacksBase side header b) }
-    ensures cause { IsErrOf result StoreError.DiskFault → Rose (S.faults site.old).disk (S.faults site.new).disk }
-    ensures counts { NoneFell (S.faults site.old) (S.faults site.new) }
+    ensures cause { IsErrOf result StoreError.DiskFault → DiskRose (S.faults site.old) (S.faults site.new) }
     ensures quiet { (IsErrOf result StoreError.DiskFault → ⊥) → S.faults site.new ≡ S.faults site.old }
 {
     let start = match journal_start(header.pages, size) {
@@ -114,8 +113,7 @@ pub fn resume<R: Threads + Sync, S: Site, G: Gate + Sync>(
     ensures resumed { IfOk result (λ r. Honestly (S.seen site.old) (S.seen site.new) (Resumes side header r.0 r.1)) }
     ensures stays { OnErr result (Honestly (S.seen site.old) (S.seen site.new) Stays) }
     ensures bad { (b : _) → IsErrOf result (StoreError.Bad b) → Honestly (S.seen site.old) (S.seen site.new) (FailsBy side header b) }
-    ensures cause { IsErrOf result StoreError.DiskFault → Rose (S.faults site.old).disk (S.faults site.new).disk }
-    ensures counts { NoneFell (S.faults site.old) (S.faults site.new) }
+    ensures cause { IsErrOf result StoreError.DiskFault → DiskRose (S.faults site.old) (S.faults site.new) }
     ensures quiet { (IsErrOf result StoreError.DiskFault → ⊥) → S.faults site.new ≡ S.faults site.old }
 {
     let (base, start) = match load_base(workers, alloc, site, side, header, size) {

@@ -14,7 +14,7 @@ use std::alloc::Global;
 use std::thread::Threads;
 use wot_check::{check_all, rows_by};
 use wot_image::Image;
-use wot_live::{Engine, Parts};
+use wot_live::{Engine, EngineDraft};
 use wot_table::LentState;
 use wot_types::{Mem, Rows};
 use wot_workers::{Gate, Workers};
@@ -24,7 +24,7 @@ pub fn take_rows<R: Threads + Sync, G: Gate + Sync>(
     workers: &Workers<'_, R, G>,
     alloc: Global,
     image: Image,
-) -> Result<Parts, StoreError>
+) -> Result<EngineDraft, StoreError>
     requires ranges { IsInRange image.options }
     ensures parts { IfOk result (λ parts. parts ≡ image_state image) }
     ensures stand { IfOk result (λ parts. AreRowsOf (image_state image) image.rows) }
@@ -44,7 +44,7 @@ pub fn take_rows<R: Threads + Sync, G: Gate + Sync>(
         Err(e) => return Err(e),
     };
     match Engine::from_parts_by(workers, table, trusts, date, options, rows) {
-        Ok(engine) => Ok(engine.into_parts()),
+        Ok(engine) => Ok(engine.into_draft()),
         Err(Mem::Memory) => Err(StoreError::Memory),
     }
 }

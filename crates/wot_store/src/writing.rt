@@ -3,7 +3,7 @@
 ghost use Rattle.std.specs.Prelude.{◌≡◌, ◌^◌, ◌<◌, length, IfOk, OnOk};
 ghost use Rattle.wot_site.specs.Disk.{disk_of};
 ghost use Rattle.wot_site.specs.Seen.{Honestly, IfHonest};
-ghost use Rattle.wot_site.specs.Site.{HasCause, disk_faults};
+ghost use Rattle.wot_site.specs.Site.{HasCause, DiskRose};
 ghost use Rattle.wot_journal.specs.Commit.{IsEnd, MakesCalls};
 ghost use Rattle.wot_site.specs.Gate.{most};
 ghost use Rattle.wot_types.specs.PagePlaces.{page_place, pages_needed};
@@ -36,7 +36,7 @@ fn close_side<S: Site>(site: &mut S, side: Side, is_closed: bool) -> Result<(), 
     ensures closed { OnOk result (Honestly (S.seen site.old) (S.seen site.new) (Becomes side (closed_bytes is_closed))) }
     ensures any_moment { Honestly (S.seen site.old) (S.seen site.new) (ClosingGate side) }
     ensures calls { OnOk result (Honestly (S.seen site.old) (S.seen site.new) (MakesCalls (closing_calls is_closed))) }
-    ensures cause { HasCause disk_faults (S.faults site.old) (S.faults site.new) result }
+    ensures cause { HasCause DiskRose (S.faults site.old) (S.faults site.new) result }
 {
     if is_closed {
         return Ok(());
@@ -52,7 +52,7 @@ fn fill_side<S: Site>(site: &mut S, side: Side, epoch: u64, image: &[u8]) -> Res
     ensures filled { OnOk result (Honestly (S.seen site.old) (S.seen site.new) (Becomes side (with_base epoch image.now))) }
     ensures any_moment { Honestly (S.seen site.old) (S.seen site.new) (Filling side) }
     ensures calls { OnOk result (Honestly (S.seen site.old) (S.seen site.new) (MakesCalls (filling_calls (pages_needed (length image.now))))) }
-    ensures cause { HasCause disk_faults (S.faults site.old) (S.faults site.new) result }
+    ensures cause { HasCause DiskRose (S.faults site.old) (S.faults site.new) result }
 {
     match site.write(side, 1, &tail(epoch, pages_needed(image.len()))) {
         Ok(()) => {}
@@ -78,7 +78,7 @@ fn open_side<S: Site>(site: &mut S, side: Side) -> Result<(), DiskFault>
     ensures opened { OnOk result (Honestly (S.seen site.old) (S.seen site.new) (Becomes side with_open_gate)) }
     ensures any_moment { Honestly (S.seen site.old) (S.seen site.new) (OpeningGate side) }
     ensures calls { OnOk result (Honestly (S.seen site.old) (S.seen site.new) (MakesCalls 2)) }
-    ensures cause { HasCause disk_faults (S.faults site.old) (S.faults site.new) result }
+    ensures cause { HasCause DiskRose (S.faults site.old) (S.faults site.new) result }
 {
     put(site, side, 0, &[OPEN])
 }
@@ -99,7 +99,7 @@ pub fn write_side<S: Site>(
     ensures written { OnOk result (Honestly (S.seen site.old) (S.seen site.new) (Becomes side (base_bytes epoch image.now))) }
     ensures any_moment { Honestly (S.seen site.old) (S.seen site.new) (Writing side epoch image.now) }
     ensures calls { OnOk result (Honestly (S.seen site.old) (S.seen site.new) (MakesCalls (calls_for is_closed (pages_needed (length image.now))))) }
-    ensures cause { HasCause disk_faults (S.faults site.old) (S.faults site.new) result }
+    ensures cause { HasCause DiskRose (S.faults site.old) (S.faults site.new) result }
 {
     match close_side(site, side, is_closed) {
         Ok(()) => {}

@@ -1,7 +1,7 @@
 -- What a teller has taken since it began, and how much of it is told.
 use Rattle.std.specs.Prelude.{ℕ, ◌≡◌, Bool, true, false, List, ◌++◌, Option}
 use Rattle.wot_site.specs.Seen.{Faults, Honestly, Seen}
-use Rattle.wot_site.specs.Site.{NoneFell, Rose}
+use Rattle.wot_site.specs.Site.{TellRose}
 use Rattle.wot_tell.specs.Telling.{Telling, TellingPrefix}
 
 -- a site: what it tells of itself, and how often its calls have failed
@@ -29,8 +29,7 @@ pub record HasTaken (began : Reached) (stand : Stand) (text : List ℕ) : Type 0
   pub going : stand.failed ≡ false → Honestly began.seen stand.site.seen (IsToldBut stand.held text)
   pub quiet : stand.failed ≡ false → stand.site.faults ≡ began.faults
   pub stopped : stand.failed ≡ true → Honestly began.seen stand.site.seen (TellingPrefix text)
-  pub counts : stand.failed ≡ true → NoneFell began.faults stand.site.faults
-  pub cause : stand.failed ≡ true → Rose began.faults.tell stand.site.faults.tell
+  pub cause : stand.failed ≡ true → TellRose began.faults stand.site.faults
 
 -- these bytes were taken, whatever was taken before
 abbrev pub Takes : Stand → List ℕ → Stand → Type 0

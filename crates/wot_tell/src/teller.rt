@@ -2,7 +2,7 @@
 
 ghost use Rattle.std.specs.Prelude.{◌≡◌, ◌≤◌, ◌++◌, ℕ, false, List, [], OnOk, OnErr, take};
 ghost use Rattle.wot_site.specs.Seen.{Honestly};
-ghost use Rattle.wot_site.specs.Site.{HasCause, tell_faults};
+ghost use Rattle.wot_site.specs.Site.{HasCause, TellRose};
 ghost use Rattle.wot_tell.specs.Telling.{Telling, TellingPrefix};
 ghost use Rattle.wot_tell.specs.Teller.{HasTaken, Reached, Takes, stand};
 ghost use Rattle.std.proofs.Common.{append_assoc, append-nil, subst, sym};
@@ -108,7 +108,7 @@ impl<'a, S: Site> Teller<'a, S> {
             → OnErr result (Honestly began.seen (S.seen self.exit.0.now) (TellingPrefix text)) }
         ensures cause { (began : Reached) (text : List ℕ)
             → HasTaken began (stand (S.seen self.entry.site.now) (S.faults self.entry.site.now) self.entry.failed self.entry.held) text
-            → HasCause tell_faults began.faults (S.faults self.exit.0.now) result }
+            → HasCause TellRose began.faults (S.faults self.exit.0.now) result }
     {
         let Teller { site, held, failed } = self;
         if tell_unless(failed, site, held.as_slice()) {

@@ -45,7 +45,7 @@ impl MemorySite {
     }
 
     // Writes, and notes it; want of memory leaves all as it was.
-    #[tactic(auto, using(crate::specs::Notes::replay_push))]
+    #[tactic(auto, using(crate::proofs::Noting::replay_push))]
     pub(super) fn note_write(&mut self, side: Side, at: u64, bytes: &[u8]) -> Result<(), Mem>
         requires { at ≤ length (disk_of side (seen_of self.old).disks).reads }
         ensures ok { OnOk result (seen_of self.new ≡ on_disk side (after_write at bytes.now) (seen_of self.old)) }
@@ -71,7 +71,7 @@ impl MemorySite {
     }
 
     // Tells, and notes it; want of memory leaves all as it was.
-    #[tactic(auto, using(crate::specs::Notes::replay_push))]
+    #[tactic(auto, using(crate::proofs::Noting::replay_push))]
     pub(super) fn note_told(&mut self, bytes: &[u8]) -> Result<(), Mem>
         ensures ok { OnOk result (seen_of self.new ≡ after_tell bytes.now (seen_of self.old)) }
         ensures err { OnErr result (seen_of self.new ≡ seen_of self.old) }
@@ -92,7 +92,7 @@ impl MemorySite {
     }
 
     // Syncs, and notes it; want of memory leaves all as it was.
-    #[tactic(auto, using(crate::specs::Notes::replay_push))]
+    #[tactic(auto, using(crate::proofs::Noting::replay_push))]
     pub(super) fn note_sync(&mut self, side: Side) -> Result<(), Mem>
         ensures ok { OnOk result (seen_of self.new ≡ on_disk side after_sync (seen_of self.old)) }
         ensures err { OnErr result (seen_of self.new ≡ seen_of self.old) }

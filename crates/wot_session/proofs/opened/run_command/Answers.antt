@@ -3,7 +3,7 @@ use Rattle.wot_site.proofs.Honest.{honest_weaker}
 use Rattle.wot_types.specs.Commands.Division.{between}
 use Rattle.wot_types.specs.LineByLine.{Position}
 use Rattle.wot_types.specs.Session.{at_start}
-use Rattle.wot_session.specs.Here.{IsHere}
+use Rattle.wot_session.specs.SessionState.{IsHere}
 use Rattle.wot_session.proofs.Feeds.{here_at, said_known}
 use Rattle.wot_session.proofs.Openings.{one_ended, one_stopped}
 use Rattle.wot_session.proofs.opened.run_command.Goals as goal

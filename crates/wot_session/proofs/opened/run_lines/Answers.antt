@@ -2,7 +2,7 @@ use Rattle.std.proofs.Common.{◌∙◌, [], refl, rules, sym, subst}
 use Rattle.std.proofs.lemmas.Result.{IfOk-weaker}
 use Rattle.wot_site.proofs.Honest.{honest_weaker}
 use Rattle.wot_types.specs.LineByLine.{at_first}
-use Rattle.wot_session.specs.Here.{IsPlace}
+use Rattle.wot_session.specs.SessionState.{IsPlace}
 use Rattle.wot_session.proofs.Feeds.{here_at}
 use Rattle.wot_session.proofs.Outcomes.{if_err_weaker}
 use Rattle.wot_session.proofs.Openings.{input_ended, input_stopped, words_nothing}

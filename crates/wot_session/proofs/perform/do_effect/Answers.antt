@@ -1,5 +1,5 @@
 use Rattle.std.proofs.Common.{subst, sym}
-use Rattle.wot_session.specs.Here.{Holds, IsPlace}
+use Rattle.wot_session.specs.SessionState.{Holds, IsPlace}
 use Rattle.wot_session.proofs.Givings.{appended_is, appended_place, appending_is, compact_sound, compactable, compacted_at, compacted_is, compacting_is, done_by, leads_next, nothing_written, performs_as, record_written, side_written, undone}
 use Rattle.wot_session.proofs.perform.do_effect.Goals as goal
 

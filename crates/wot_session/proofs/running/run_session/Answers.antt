@@ -1,6 +1,6 @@
 use Rattle.std.proofs.Common.{◌∙◌, ap, refl, arith, rules, take}
 use Rattle.std.proofs.lemmas.List.{length-take-le}
-use Rattle.wot_session.specs.Here.{IsOver}
+use Rattle.wot_session.specs.SessionState.{IsOver}
 use Rattle.wot_session.proofs.Looping.{ending_ok, ending_stop, running_end, running_more, running_over, running_start, running_stop}
 use Rattle.wot_session.proofs.running.run_session.Goals as goal
 

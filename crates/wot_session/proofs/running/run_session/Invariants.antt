@@ -1,6 +1,6 @@
 use Rattle.std.proofs.Common.{◌≡◌}
 use Rattle.wot_types.specs.LineByLine.{Position}
-use Rattle.wot_session.specs.Here.{IsHere}
+use Rattle.wot_session.specs.SessionState.{IsHere}
 use Rattle.wot_session.proofs.Looping.{Running}
 use Rattle.wot_session.proofs.running.run_session.Given as goal
 

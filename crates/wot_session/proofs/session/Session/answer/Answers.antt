@@ -4,8 +4,8 @@ use Rattle.wot_site.proofs.Honest.{honest_weaker}
 use Rattle.wot_types.specs.LineByLine.{Position, after_line, reply_to_line}
 use Rattle.wot_answer.specs.declared.reply.Answer.{Answer}
 use Rattle.wot_session.specs.declared.session.Session.{Session}
-use Rattle.wot_session.specs.Here.{IsAt, IsDue}
-use Rattle.wot_session.specs.Told.{Said}
+use Rattle.wot_session.specs.SessionState.{IsAt, IsDue}
+use Rattle.wot_session.specs.Answering.{Said}
 use Rattle.wot_session.proofs.Feeds.{holds_at, start_said}
 use Rattle.wot_session.proofs.Outcomes.{if_err_memory}
 use Rattle.wot_session.proofs.Sayings.{one_made, given_said, giving_said, no_memory}

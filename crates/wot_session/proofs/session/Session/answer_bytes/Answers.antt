@@ -1,5 +1,5 @@
 use Rattle.std.proofs.Common.{◌∙◌, refl, rules}
-use Rattle.wot_session.specs.Here.{IsOver}
+use Rattle.wot_session.specs.SessionState.{IsOver}
 use Rattle.wot_session.proofs.Feeds.{fed_at, feeding_broken, feeding_more, feeding_start, feeding_stop, over_at, over_said}
 use Rattle.wot_session.proofs.session.Session.answer_bytes.Goals as goal
 

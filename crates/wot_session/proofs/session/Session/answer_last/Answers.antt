@@ -1,8 +1,8 @@
 use Rattle.std.proofs.Common.{◌≡◌, [], Some, rules, subst, sym}
 use Rattle.std.proofs.lemmas.Result.{on_ok_weaker}
 use Rattle.wot_site.proofs.Honest.{honest_weaker}
-use Rattle.wot_session.specs.Here.{IsHere}
-use Rattle.wot_session.specs.Told.{Said, SaidPrefix}
+use Rattle.wot_session.specs.SessionState.{IsHere}
+use Rattle.wot_session.specs.Answering.{Said, SaidPrefix}
 use Rattle.wot_session.proofs.Feeds.{start_said}
 use Rattle.wot_session.proofs.Outcomes.{if_err_weaker}
 use Rattle.wot_session.proofs.Sayings.{last_after, last_made, last_none}

@@ -2,7 +2,7 @@ use Rattle.std.proofs.Common.{rules}
 use Rattle.std.proofs.lemmas.Result.{on_ok_weaker}
 use Rattle.wot_types.specs.Commands.{unfinished_commands}
 use Rattle.wot_types.specs.LineByLine.{after_lines, commands_in}
-use Rattle.wot_session.specs.Fed.{last_lines}
+use Rattle.wot_session.specs.OpenLine.{last_lines}
 use Rattle.wot_site.proofs.Honest.{honest_then, honest_weaker}
 use Rattle.wot_session.proofs.Outcomes.{if_err_weaker}
 use Rattle.wot_session.proofs.Sayings.{said_prefix_more, said_then, said_then_prefix}

@@ -13,7 +13,7 @@ use Rattle.wot_answer.specs.declared.reply.Answer.{Answer}
 use Rattle.wot_store.specs.declared.place.Place.{Place}
 use Rattle.wot_session.specs.declared.session.Session.{Session}
 use Rattle.wot_session.specs.AtEnd.{closed_at}
-use Rattle.wot_session.specs.Here.{IsAt, IsDue}
+use Rattle.wot_session.specs.SessionState.{IsAt, IsDue}
 use Rattle.wot_session.proofs.session.Session.close.Goals as goal
 
 -- where a command was unfinished, and it was answered by a session that is over

@@ -5,9 +5,9 @@ use Rattle.wot_site.proofs.Honest.{honest_weaker}
 use Rattle.wot_types.specs.Commands.{made_by}
 use Rattle.wot_types.specs.LineByLine.{Position, after_line}
 use Rattle.wot_session.specs.declared.session.Session.{Session}
-use Rattle.wot_session.specs.Fed.{more}
-use Rattle.wot_session.specs.Here.{IsAt, IsHere}
-use Rattle.wot_session.specs.Told.{Said, SaidPrefix}
+use Rattle.wot_session.specs.OpenLine.{more}
+use Rattle.wot_session.specs.SessionState.{IsAt, IsHere}
+use Rattle.wot_session.specs.Answering.{Said, SaidPrefix}
 use Rattle.wot_session.proofs.Feeds.{here_at, start_said}
 use Rattle.wot_session.proofs.Outcomes.{if_err_weaker}
 use Rattle.wot_session.proofs.Sayings.{no_memory}

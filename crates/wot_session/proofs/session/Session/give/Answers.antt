@@ -1,7 +1,6 @@
 use Rattle.std.proofs.Common.{◌∙◌, inl, refl, subst}
 use Rattle.wot_site.proofs.Honest.{honest_and, honest_weaker}
-use Rattle.wot_site.specs.Seen.{Faults}
-use Rattle.wot_site.specs.Site.{NoneFell, Rose}
+use Rattle.wot_site.specs.Site.{TellRose}
 use Rattle.wot_session.specs.Ready.{text_of}
 use Rattle.wot_session.proofs.Givings.{due_performs, due_text, given_here, given_none, giving_all, giving_prefix, nothing_written, still_holds, undone}
 use Rattle.wot_session.proofs.session.Session.give.Goals as goal
@@ -50,21 +49,20 @@ returns-clause-prefix g c s after reply due holds =
 pub returns-in-Err-clause-cause : goal.returns-in-Err-clause-cause
 returns-in-Err-clause-cause g c =
     let stops = c.in-Err.ensures.cause in
-    record { why = record { counts = stops.why.counts; quiet = tt; cause = stops.why.cause }; kinds = stops.kinds }
+    record { why = record { quiet = tt; cause = stops.why.cause }; kinds = stops.kinds }
 
 pub returns-in-Ok-tell_ready-clause-cause : goal.returns-in-Ok-tell_ready-clause-cause
 returns-in-Ok-tell_ready-clause-cause g c =
     let quiet = c.in-Ok-do_effect.ensures.cause.why.quiet in
-    record { why = record { counts = subst (λ faults. NoneFell faults (g.S.Site.faults c.tell_ready.new.site)) quiet c.tell_ready.ensures.cause.counts; quiet = c.in-Ok-tell_ready.ensures.cause.quiet ∙ quiet; cause = tt }; kinds = tt }
+    record { why = record { quiet = c.in-Ok-tell_ready.ensures.cause.quiet ∙ quiet; cause = tt }; kinds = tt }
 
 pub returns-clause-cause : goal.returns-clause-cause
 returns-clause-cause g c =
     let quiet = c.in-Ok-do_effect.ensures.cause.why.quiet in
     record {
       why = record {
-        counts = subst (λ faults. NoneFell faults (g.S.Site.faults c.tell_ready.new.site)) quiet c.tell_ready.ensures.cause.counts;
         quiet = tt;
-        cause = subst (λ (faults : Faults). Rose faults.tell (g.S.Site.faults c.tell_ready.new.site).tell) quiet (c.in-Err-tell_ready.ensures.cause.failed refl);
+        cause = subst (λ faults. TellRose faults (g.S.Site.faults c.tell_ready.new.site)) quiet (c.in-Err-tell_ready.ensures.cause.failed refl);
       };
       kinds = inl refl;
     }

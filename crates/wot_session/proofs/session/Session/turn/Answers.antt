@@ -1,6 +1,6 @@
 use Rattle.std.proofs.Common.{inl, inr, subst, arith, rules}
 use Rattle.wot_site.proofs.Honest.{honest_then, honest_with}
-use Rattle.wot_session.specs.Here.{IsOver}
+use Rattle.wot_session.specs.SessionState.{IsOver}
 use Rattle.wot_session.specs.Turn.{StoppedTurn}
 use Rattle.wot_session.specs.declared.stop.Stop.TheVariants.{TooLong}
 use Rattle.wot_session.proofs.Feeds.{is_over, not_over, said_known}

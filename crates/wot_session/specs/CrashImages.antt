@@ -7,7 +7,7 @@ use Rattle.wot_site.specs.Disk.{Disks, Image, Leaves}
 use Rattle.wot_site.specs.Seen.{Moment, Seen}
 use Rattle.wot_store.specs.Shows.{Shows}
 use Rattle.wot_tell.specs.Telling.{IsPrefixOf}
-use Rattle.wot_session.specs.Open.{IsOpen}
+use Rattle.wot_session.specs.OpenStore.{IsOpen}
 
 -- whatever a crash leaves of the sides shows this store
 abbrev pub AllShow : Store → Disks → Type 0

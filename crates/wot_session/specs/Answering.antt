@@ -4,10 +4,9 @@ use Rattle.wot_types.specs.Store.{Store}
 use Rattle.wot_types.specs.Commands.{Command}
 use Rattle.wot_types.specs.Session.{Progress, replies}
 use Rattle.wot_site.specs.Seen.{Faults, Seen}
-use Rattle.wot_site.specs.Site.{NoneFell}
 use Rattle.wot_site.specs.Work.{Since, moment_of}
 use Rattle.wot_tell.specs.Telling.{Told, ToldPrefix}
-use Rattle.wot_session.specs.Kept.{IsAround, IsWhole, Kept}
+use Rattle.wot_session.specs.CrashImages.{IsAround, IsWhole, Kept}
 use Rattle.wot_session.specs.Written.{IsAnswered, WritesTo, Written}
 use Rattle.wot_session.specs.Stop.{StopCauses}
 use Rattle.wot_session.specs.declared.stop.Stop.{Stop}
@@ -44,7 +43,6 @@ pub record SaidPrefix (p : Progress) (commands : List Command) (stop : Stop) (ol
 
 -- an answer that succeeds leaves every count of faults, and one that stops says why
 pub record HasStopCause {T : Type 0} (old new : Faults) (result : Result T Stop) : Type 0 where
-  pub counts : NoneFell old new
   pub quiet : OnOk result (new ≡ old)
   pub cause : IfErr result (λ stop. StopCauses stop old new)
 
