@@ -2,6 +2,7 @@
 
 ghost use Rattle.std.specs.Prelude.{◌<◌};
 
+use crate::runs::IMPORT;
 use std::alloc::Global;
 use std::sync::atomic::{AtomicBool, AtomicU64, Ordering};
 use std::test::Fail;
@@ -11,19 +12,6 @@ use wot_workers::{Gate, NoGate};
 
 /// How often a worker looks for the other.
 const TURNS: u32 = 100_000_000;
-
-/// A is trusted ultimately, and certified B.
-const IMPORT: &[u8] = b"trust 00000000000000000000000000000000000000AA u
-import
-pub:-:255:22:00000000000000AA:1000:::-:::scSC:
-fpr:::::::::00000000000000000000000000000000000000AA:
-uid:-::::1000::::A <a@example.org>:
-pub:-:255:22:00000000000000BB:1000:::-:::scSC:
-fpr:::::::::00000000000000000000000000000000000000BB:
-uid:-::::1000::::B <b@example.org>:
-sig:!:::00000000000000AA:2000:::::13x:
-.
-";
 
 /// Of two pieces, which were entered, and which saw the other at its first entry.
 #[derive(Drop)]

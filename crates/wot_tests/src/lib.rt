@@ -2,6 +2,8 @@
 #![tactic(auto)]
 
 #[cfg(test)]
+mod bounds; // runs whose input is bounded
+#[cfg(test)]
 mod compactions; // a sample that is compacted, stopped at each call of the disk
 #[cfg(test)]
 mod faults; // no call after one that failed
@@ -9,6 +11,8 @@ mod faults; // no call after one that failed
 mod files; // runs over real files
 #[cfg(test)]
 mod gates; // runs over several workers
+#[cfg(test)]
+mod listing; // the whole keyring in memory, beside what is told
 #[cfg(test)]
 mod memory; // runs that may be short of memory
 #[cfg(test)]

@@ -17,7 +17,27 @@ struct Session {
     told: &'static [u8],
 }
 
-const SESSIONS: [Session; 3] = [
+// A certifies B, and B, whose ownertrust is marginal, certifies C.
+const CHAIN: &[&[u8]] = &[
+    b"trust 00000000000000000000000000000000000000AA u\n",
+    b"trust 00000000000000000000000000000000000000BB m\n",
+    b"import
+pub:-:255:22:00000000000000AA:1000:::-:::scSC:
+fpr:::::::::00000000000000000000000000000000000000AA:
+uid:-::::1000::::A <a@example.org>:
+pub:-:255:22:00000000000000BB:1000:::-:::scSC:
+fpr:::::::::00000000000000000000000000000000000000BB:
+uid:-::::1000::::B <b@example.org>:
+sig:!:::00000000000000AA:2000:::::13x:
+pub:-:255:22:00000000000000CC:1000:::-:::scSC:
+fpr:::::::::00000000000000000000000000000000000000CC:
+uid:-::::1000::::C <c@example.org>:
+sig:!:::00000000000000BB:2000:::::13x:
+.
+",
+];
+
+const SESSIONS: [Session; 5] = [
     Session {
         edits: &[
             b"trust 00000000000000000000000000000000000000AA u\n",
@@ -89,6 +109,27 @@ ok
         ],
         last: b"compact\n",
         told: b"ok\nok\nok\n",
+    },
+    Session {
+        edits: CHAIN,
+        last: b"suppose trust 00000000000000000000000000000000000000BB f\n",
+        told: b"ok
+ok
+ok keys 3 kept 2 passed 0
+change:00000000000000CC:1:m:f:
+ok changes 1
+",
+    },
+    Session {
+        edits: CHAIN,
+        last: b"critical 00000000000000000000000000000000000000CC 1\n",
+        told: b"ok
+ok
+ok keys 3 kept 2 passed 0
+critical:00000000000000000000000000000000000000AA:-:
+critical:00000000000000000000000000000000000000BB:q:
+ok critical 2
+",
     },
 ];
 

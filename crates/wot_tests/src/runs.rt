@@ -7,6 +7,19 @@ use wot_session::{Status, run};
 use wot_site::{MemorySite, Pick};
 use wot_workers::NoGate;
 
+/// A is trusted ultimately, and certified B.
+pub const IMPORT: &[u8] = b"trust 00000000000000000000000000000000000000AA u
+import
+pub:-:255:22:00000000000000AA:1000:::-:::scSC:
+fpr:::::::::00000000000000000000000000000000000000AA:
+uid:-::::1000::::A <a@example.org>:
+pub:-:255:22:00000000000000BB:1000:::-:::scSC:
+fpr:::::::::00000000000000000000000000000000000000BB:
+uid:-::::1000::::B <b@example.org>:
+sig:!:::00000000000000AA:2000:::::13x:
+.
+";
+
 /// The images that are looked at: no pending write was made, or all, or each range holds the byte of an open gate.
 pub const PICKS: [Pick; 3] = [Pick::Nothing, Pick::All, Pick::Fill(0xa5)];
 
