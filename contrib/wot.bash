@@ -51,22 +51,29 @@ _wot() {
       # bash splits words at =
       --workers | --store) at=$((at + 1)); [ "${COMP_WORDS[at]}" != = ] || at=$((at + 1)) ;;
       --workers=* | --store=* | --) ;;
-      *) if [ -z "$command" ]; then command=$word; else place=$((place + 1)); fi ;;
+      *)
+        case $command in
+          '') command=$word ;;
+          # an edit with its words stands behind it
+          suppose) command="suppose $word" ;;
+          *) place=$((place + 1)) ;;
+        esac ;;
     esac
   done
   case $command:$place in
     :*)
-      _wot_words 'trust disable enable delete date options import ownertrust list sigs export why check compact quit'
+      _wot_words 'trust disable enable delete date options import ownertrust list sigs export why suppose critical check compact quit'
       case ${COMP_WORDS[0]##*/} in
         wot-in) _wot_words '--help --store' ;;
         # a made key may be ultimately trusted, so none is offered where a store is
         *) _wot_words --workers; [ -e wot.0 ] || _wot_words sample ;;
       esac ;;
-    trust:0 | disable:0 | enable:0 | delete:0 | list:0 | sigs:0 | why:0)
+    suppose:0) _wot_words 'trust date options' ;;
+    trust:0 | 'suppose trust:0' | disable:0 | enable:0 | delete:0 | list:0 | sigs:0 | why:0 | critical:0)
       current=${current^^}
       _wot_words "$(_wot_fingerprints)" ;;
-    trust:1) _wot_words 'o q n m f u' ;;
-    options:0) _wot_words 'pgp classic' ;;
+    trust:1 | 'suppose trust:1') _wot_words 'o q n m f u' ;;
+    options:0 | 'suppose options:0') _wot_words 'pgp classic' ;;
   esac
 }
 
@@ -85,9 +92,11 @@ _wot_programs() {
     *:--store:*) _wot_folders ;;
     # as the program itself tells its options
     *:*:-*) _wot_words "$(command "${COMP_WORDS[0]}" --help 2> /dev/null | sed -n 's/^  \(-h, \)\{0,1\}\(--[a-z-]*\).*/\2/p')" ;;
-    wot-verify:--by:* | wot-report:--why:* | wot.py:* | wot-list:* | wot-why:* | wot-why-not:*) _wot_whole_words "$(_wot_names)" "${2-$current}" ;;
+    wot-suppose:--date:*) _wot_words next ;;
+    wot-suppose:*) _wot_whole_words "$(_wot_names) ultimate full marginal never none" "${2-$current}" ;;
+    wot-verify:--by:* | wot-report:--why:* | wot.py:* | wot-critical:* | wot-list:* | wot-why:* | wot-why-not:*) _wot_whole_words "$(_wot_names)" "${2-$current}" ;;
   esac
 }
 
 complete -F _wot wot wot-in
-complete -o default -F _wot_programs deb wot.py wot-import wot-list wot-nightly wot-report wot-sync wot-verify wot-why wot-why-not
+complete -o default -F _wot_programs deb wot.py wot-critical wot-import wot-list wot-nightly wot-report wot-suppose wot-sync wot-verify wot-why wot-why-not

@@ -230,6 +230,22 @@ class Why(NamedTuple):
     by: dict  # by key ID: the trust of those that certify the user ID itself
 
 
+class Change(NamedTuple):
+    """A user ID whose letter an edit would change."""
+
+    key_id: str
+    place: int
+    old: str
+    new: str
+
+
+class Loss(NamedTuple):
+    """A fingerprint without whose ownertrust a letter would be further back, and that letter."""
+
+    fingerprint: str
+    letter: str
+
+
 class Listing:
     """The reply to `list` as it came, of which a key becomes a value where it is asked for: all of many keys take much more time and memory."""
 
@@ -404,6 +420,14 @@ class Wot:
 
     def why(self, fingerprint, place=1):
         return parsed_why(self.ask(f"why {fingerprint} {place}"))
+
+    def suppose(self, edit):
+        """The letters that an edit would change, in rising order of key ID and place: `trust`, `date` or `options` with their words. It isn't made."""
+        return [Change(key_id, int(place), old, new) for _, key_id, place, old, new, _ in (line.split(":") for line in self.ask(f"suppose {edit}"))]
+
+    def critical(self, fingerprint, place=1):
+        """On whose ownertrust the letter of a user ID hangs: each without whom it would be further back."""
+        return [Loss(*line.split(":")[1:3]) for line in self.ask(f"critical {fingerprint} {place}")]
 
     def ask(self, command, block=None):
         """The lines of the reply before its last one; `block` has the lines of a block, for `import` and `ownertrust`."""

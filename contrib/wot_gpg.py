@@ -8,7 +8,6 @@ import time
 from typing import NamedTuple
 
 import wot
-import wot_explain
 
 STATUS = b"[GNUPG:] "
 TRUST = {"u": b"TRUST_ULTIMATE", "f": b"TRUST_FULLY", "m": b"TRUST_MARGINAL"}
@@ -209,7 +208,7 @@ class Letters:
         self.head = ":".join(fields)
         if now < date or 0 < next_check <= now:
             self.head = ":".join([fields[0], "o", *fields[2:]])
-            raise wot.WotError(f"the store tells of {wot_explain.moment(date)}, and the next check is at {wot_explain.moment(next_check)}: run wot-sync")
+            raise wot.WotError(f"the store tells of {wot.moment(date)}, and the next check is at {wot.moment(next_check)}: run wot-sync")
 
     def missing(self, fingerprint):
         """Whether the store was asked and does not have this key."""
