@@ -1,8 +1,8 @@
 #!/usr/bin/env python3
 """Moves stores of the built program to their other side, and compares both files byte for byte with those that a second writer of the formats makes.
 
-Sessions at random are run whole, and with the store opened anew for each command; bases of all sizes about the ends of pages; over whatever an
-earlier base or a stop has left on the other side; and in the last epoch, which no other follows.
+Sessions at random are run whole, with the store opened anew for each command, and with questions between the commands; bases of all sizes about the
+ends of pages; over whatever an earlier base or a stop has left on the other side; and in the last epoch, which no other follows.
 """
 import random
 import sys
@@ -10,7 +10,7 @@ import sys
 from reference import histories, keyring, store
 from reference.histories import ASKED, COMPACT, Steps
 from reference.keyring import rows_of
-from reference.program import folder, key, run
+from reference.program import fingerprint, folder, key, run
 
 
 def end(done):
@@ -86,6 +86,28 @@ def last_epochs():
             yield from moved(sides, [COMPACT, histories.date(5), COMPACT, COMPACT, histories.trust("A", "m")])
 
 
+def supposed():
+    """A hundred questions what edits would change, and on whom letters hang, before each step: the files are those that the steps make without them."""
+    chance = random.Random(19)
+    steps, _ = Steps(chance, made=8, compactions=0.2).some(histories.NEW, 20)
+    with folder() as where:
+        given = "".join(asked(chance, 100) + step.given for step in steps) + asked(chance, 100)
+        done, due = run(given, where=where), histories.files((b"", b""), steps)[-1]
+        yield "the run", (done.returncode in (0, 1), done.stderr), (True, b"")
+        yield "every one is answered", len([line for line in done.stdout.splitlines() if line.startswith((b"ok", b"err"))]), 100 * (len(steps) + 1) + len(steps)
+        yield "the files", store.read_sides(where), due
+        run(asked(chance, 100), where=where)
+        yield "the files after a run of questions alone", store.read_sides(where), due
+
+
+def asked(chance, count):
+    """So many questions, of which some are refused."""
+    edits = [f"trust {fingerprint(name)} {letter}" for name in histories.NAMES for letter in "o-mfun"] + [f"date {date}" for date in (*histories.DATES, "x")]
+    edits += ["options classic 1 3 5 2", "options pgp 2 2 1 1", "options pgp 1 2 40 3", f"delete {fingerprint('A')}"]
+    users = [f"critical {fingerprint(name)} {place}" for name in histories.NAMES for place in (1, 1, 2)]
+    return "".join(f"{chance.choice((f'suppose {chance.choice(edits)}', chance.choice(users)))}\n" for _ in range(count))
+
+
 def refused():
     """A command that is refused, and a query, leave both files."""
     with folder() as where:
@@ -97,7 +119,7 @@ def refused():
 
 
 done = 0
-for check in (at_random, sizes, left_behind, last_epochs, refused):
+for check in (at_random, sizes, left_behind, last_epochs, supposed, refused):
     for name, found, wanted in check():
         if found != wanted:
             sys.exit(f"compaction: {check.__name__}: {name}: {found!r} in place of {wanted!r}"[:4000])

@@ -18,7 +18,8 @@ from reference.program import PROGRAM, by, fingerprint, folder, imported, key, r
 TOP = pathlib.Path(__file__).resolve().parent.parent
 CONTRIB = TOP / "contrib"
 PROGRAMS = (
-    "deb", "git-gpg-wot", "gpg-wot", "wot-import", "wot-in", "wot-list", "wot-nightly", "wot-report", "wot-sync", "wot-verify", "wot-why", "wot-why-not", "wot.py",
+    "deb", "git-gpg-wot", "gpg-wot", "wot-critical", "wot-import", "wot-in", "wot-list", "wot-nightly", "wot-report", "wot-suppose", "wot-sync", "wot-verify", "wot-why",
+    "wot-why-not", "wot.py",
 )
 sys.path.insert(0, str(CONTRIB))
 sys.dont_write_bytecode = True

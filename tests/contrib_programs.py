@@ -86,7 +86,7 @@ def stale():
         ("too old", OLD.replace("expires=1000", "").replace(":1000:1000:", ":1000::"), ("--max-age", "3"), "which is more than 3 days ago: run wot-sync\n"),
     ):
         with store_of(given) as at:
-            for program in (("wot-list",), ("wot-why", address), ("wot-report", "page")):
+            for program in (("wot-list",), ("wot-why", address), ("wot-critical", address), ("wot-suppose", address, "full"), ("wot-report", "page")):
                 done = at.run(program[0], *words, *program[1:])
                 yield f"{name}: {program[0]}", (done.returncode, done.stderr), (0, f"{program[0]}: the store tells of 1970-01-01 00:08:20 UTC, {told}")
             yield f"{name}: the page", "These letters may be others now" in (at.here / "page").read_text(encoding="utf-8"), True
@@ -183,12 +183,74 @@ def names():
             ("ABCDEF01", "nobody of that name: ABCDEF01; a key ID of 8 digits is not looked for, as many keys can have it: gpg -k ABCDEF01 shows the fingerprint"),
             ("nobody", "nobody of that name: nobody"),
         ):
-            for program in ("wot-list", "wot-why", "wot-why-not"):
-                done = at.run(program, name)
+            for program, *more in (("wot-list",), ("wot-why",), ("wot-why-not",), ("wot-critical",), ("wot-suppose", "full")):
+                done = at.run(program, name, *more)
                 yield f"{program} {name}", (done.returncode, done.stderr), (1, f"{program}: {wanted}\n")
     with store_of(trust("A", "u") + imported(key("A"), key("B", "A", text="Bob <b@example.org>"), key("C", text="Bob <b@example.org>"), key("D", "B"))) as at:
         yield "two of one name", [line.split()[-1] for line in at.run("wot-why", "b@example.org").stdout.splitlines() if line[0] == "["], [fingerprint("B"), fingerprint("C")]
         yield "told apart", f"by Bob <b@example.org> ({key_id('B')}), who counts" in at.run("wot-why", "d@example.org").stdout, True
+
+
+LEVELS = f"""\
+[  full  ] Hana <hana@example.org> {fingerprint("22")}
+  [ unknown] without the ownertrust of Ada <ada@example.org>, ultimately trusted
+  [marginal] without the ownertrust of Cleo <cleo@example.org>, marginally trusted
+  [marginal] without the ownertrust of Dan <dan@example.org>, marginally trusted
+  [marginal] without the ownertrust of Eve <eve@example.org>, marginally trusted
+  [marginal] without the ownertrust of Finn <finn@example.org>, fully trusted
+"""
+WITHOUT_CLEO = f"""\
+if the ownertrust of Cleo <cleo@example.org>, now marginal, were none:
+[  full  ] -> [marginal] Hana <hana@example.org> {fingerprint("22")}
+[  full  ] -> [marginal] Finn <finn@example.org> {fingerprint("FF")}
+2 letters would change
+"""
+BY_OPTIONS = f"""\
+by the options classic 1 3 5 2:
+[  full  ] -> [  undef ] Gus <gus@example.org> {fingerprint("11")}
+1 letter would change
+"""
+
+
+def supposing():
+    """What another ownertrust, other options or a date would change, and on whom a letter hangs; the store stays as it is."""
+    with store_of(session("levels")) as at:
+        before = [(at.here / name).read_bytes() for name in wot.FILES]
+        yield "on whom", at.run("wot-critical", "hana@example.org").stdout, LEVELS
+        yield "on the user's own key alone", at.run("wot-critical", "Gus").stdout.splitlines()[1:], ["  [ unknown] without the ownertrust of Ada <ada@example.org>, ultimately trusted"]
+        yield "another ownertrust", at.run("wot-suppose", key_id("CC"), "none").stdout, WITHOUT_CLEO
+        yield "one that changes nothing", at.run("wot-suppose", "dan@example.org", "full").stdout.splitlines(), [
+            "if the ownertrust of Dan <dan@example.org>, now marginal, were full:", "no letter would change"]
+        yield "other options", at.run("wot-suppose", "--options", "classic 1 3 5 2").stdout, BY_OPTIONS
+        yield "options out of their range", at.run("wot-suppose", "--options", "pgp 1 1 5 2").stderr, (
+            "wot-suppose: options pgp 1 1 5 2: word 4 is none of its kind, or out of its range\n")
+        done = at.run("wot-suppose", "example.org", "full")
+        listed = ", ".join(fingerprint(name) for name in ("11", "22", "AA", "BB", "CC"))
+        yield "a name of several", (done.returncode, done.stderr), (1, f"wot-suppose: more than one key has the name example.org: {listed} and 3 more\n")
+        yield "nothing expires", (at.status("wot-suppose", "--date", "next"), at.run("wot-suppose", "--date", "next").stderr), (1, "wot-suppose: nothing expires\n")
+        yield "no day", at.run("wot-suppose", "--date", "20261231").stderr, "wot-suppose: 20261231: no day of the form 2026-12-31\n"
+        for words in ((), ("Hana",), ("Hana", "f"), ("Hana", "full", "--date", "next"), ("--date", "next", "--options", "pgp 1 3 5 2"), ("Hana", "--date", "next")):
+            yield f"no usage: {words}", at.status("wot-suppose", *words), 2
+        yield "as it was", [(at.here / name).read_bytes() for name in wot.FILES], before
+        with wot.Wot(at.here, PROGRAM) as store:
+            cleo, hana = fingerprint("CC"), fingerprint("22")
+            yield "the module: what would change", store.suppose(f"trust {cleo} o"), [wot.Change(key_id("22"), 1, "f", "m"), wot.Change(key_id("FF"), 1, "f", "m")]
+            yield "the module: on whom", store.critical(hana)[:2], [wot.Loss(fingerprint("AA"), "-"), wot.Loss(cleo, "m")]
+            yield "the module: refusals", [raised(call)[1] for call in (lambda: store.suppose(f"delete {cleo}"), lambda: store.critical(hana, 2), lambda: store.critical(fingerprint("EF")))], [
+                "bad-argument 1", "no-such-user", "no-such-key"]
+    with store_of(session("expiring-certification")) as at:
+        run("date 3999\n", where=at.here)
+        told = at.run("wot-suppose", "--date", "next").stdout
+        yield "the next date", told.splitlines(), [
+            "at 1970-01-01 01:06:40 UTC:", f"[  full  ] -> [ unknown] B <b@example.org> {fingerprint('B')}", "1 letter would change"]
+        yield "the end of a day", at.run("wot-suppose", "--date", "1970-01-01").stdout, told.replace("01:06:40", "23:59:59")
+    revoked, nobody = key("C", "A").replace("pub:-", "pub:r"), key("D")
+    with store_of(trust("A", "u") + trust("B", "u") + imported(key("A"), key("B"), revoked, nobody, key("E", "A", "B")) + f"disable {fingerprint('E')}\n") as at:
+        yield "letters that hang on nobody", [line for name in "CDE" for line in at.run("wot-critical", f"{name} <").stdout.splitlines()], [
+            f"[ revoked] C <c@example.org> {fingerprint('C')}", "  whoever is trusted",
+            f"[ unknown] D <d@example.org> {fingerprint('D')}", "  no letter is further back",
+            f"[  full  ] E <e@example.org> {fingerprint('E')} [disabled]", "  hangs on the ownertrust of nobody alone",
+        ]
 
 
 def kept():
@@ -249,7 +311,7 @@ def interrupted():
     with store_of(session("levels")) as at:
         (at.tools / "slow").write_text(f"#!/bin/sh\necho > {at.here}/began\nexec sleep 60\n", encoding="utf-8")
         (at.tools / "slow").chmod(0o755)
-        for words in (("wot-list",), ("wot-why", "x"), ("wot-why-not", "x"), ("wot-report", "page"), ("wot.py", "x@example.org")):
+        for words in (("wot-list",), ("wot-why", "x"), ("wot-why-not", "x"), ("wot-critical", "x"), ("wot-suppose", "x", "full"), ("wot-report", "page"), ("wot.py", "x@example.org")):
             environment = {**at.environment, "WOT": str(at.tools / "slow")}
             with subprocess.Popen(words, cwd=at.here, env=environment, stderr=subprocess.PIPE, start_new_session=True) as child:
                 while not (at.here / "began").exists() and child.poll() is None:
@@ -346,7 +408,7 @@ def ended_keys(at, signed, said):
 
 
 def alone():
-    checks, left = [outputs, stale, signers, held, names, kept, later_forms, interrupted], []
+    checks, left = [outputs, stale, signers, held, names, supposing, kept, later_forms, interrupted], []
     if not WITHOUT_RIGHTS or shutil.which("setpriv"):
         checks.append(denied)
     else:

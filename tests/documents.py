@@ -1,8 +1,8 @@
 #!/usr/bin/env python3
 """Looks at the documents: links lead somewhere, a block of shell that an output follows prints it, the man page names what the manual does and
 has the number of the newest change, the picture and the table of the rooms are those of crates.txt, no room stands on a higher one, the list of
-definitions is the one that docs/definitions.py makes, each script of the tests is run and told of, and the definitions and files that are named stand
-where it is said.
+definitions is the one that docs/definitions.py makes, each script of the tests is run and told of, the definitions and files that are named stand
+where it is said, and each promise names calls, clauses and tests that are there.
 
 The man pages are also read by mandoc or by man, where there is one.
 """
@@ -136,6 +136,81 @@ def places():
                 wrong += [f"CONTRIBUTING.md: no {word} in {file}" for word in re.findall(r"`([\w-]+)`", words) if not any(word in text for text in texts)]
     return f"{count} places", wrong
 
+FUNCTION = re.compile(r"^( *)(?:pub(?:\(\w+\))? )?(?:const )?fn (\w+)")
+OWNER = re.compile(r"^(?:pub )?(?:impl|trait)\b(?:<.*?>+(?= ))? (?:.* for )?(\w+)")
+
+
+def declared(crate):
+    """What a crate declares: its clauses by the name of each function, or by that of its type before it; which of these have no body, or are tests."""
+    clauses, laws, tests = {}, set(), set()
+    for path in crate.glob("src/*.rt"):
+        owner, name, before = "", None, ""
+        for line in path.read_text(encoding="utf-8").splitlines():
+            owner = "" if line.startswith("}") else found[1] + "::" if (found := OWNER.match(line)) else owner
+            if found := FUNCTION.match(line):
+                name = (owner if found[1] else "") + found[2]
+                clauses.setdefault(name, set())
+                tests |= {name} if before == "#[test]" else set()
+            elif found := re.match(r" *ensures (\w+) \{", line):
+                clauses[name].add(found[1])
+            elif found := re.match(r"(?:pub )?(?:struct|enum|trait) (\w+)", line):
+                clauses.setdefault(found[1], set())
+            laws |= {name} if line.strip() == "{}" else set()
+            before = line.strip() or before
+    return clauses, laws, tests
+
+
+def words_of(path):
+    """The definitions of a file, and the parts of its records, each behind its record's name."""
+    found, record = set(), None
+    for line in path.read_text(encoding="utf-8").splitlines() if path.exists() else []:
+        if match := re.match(r"(?:abbrev |unfoldable )?pub (record |data )?(\w+) ", line):
+            record = match[2]
+            found.add(record)
+        elif match := re.match(r"  pub (\w+) :", line):
+            found.add(f"{record}.{match[1]}")
+    return found
+
+
+def carriers(cell, crates, parts):
+    """The kinds of what a cell of the page of promises names, and what of it isn't there."""
+    kinds, missing = set(), [name for said in re.findall(r"\(([^()]*)\)", cell) for name in re.findall(r"`(\w+\.\w+)`", said) if name not in parts]
+    for part in re.sub(r" ?\([^()]*\)", "", cell).split("; "):
+        path, *names = re.findall(r"`([^`]+)`", part)
+        if match := re.fullmatch(r"`(\w+\.antt)`(?: of `(wot_\w+)`)?: (?:`\w+`(?:, )?)+", part):
+            words = words_of(TOP / "crates" / (match[2] or "wot_types") / "specs" / match[1])
+            missing += [f"{name} in {match[1]}" for name in names[1 if match[2] else 0:] if name not in words]
+        elif match := re.fullmatch(r"`([\w:]+)` of `(wot\w*)`(?:: (?:`\w+`(?:, )?)+)?", part):
+            clauses, laws, tests = crates.get(match[2], ({}, set(), set()))
+            missing += [part] if path not in clauses else [f"{name} of {path}" for name in names[1:] if name not in clauses[path]]
+            kinds |= {"law"} if path in laws else {"test"} if path in tests else {"clause", "type"}
+        else:
+            missing += [] if part == f"`{path}`" and (TOP / path).exists() else [part]
+            kinds |= {"test"} if "/" in path else {"type"}
+    return kinds, missing
+
+
+def uncarried(cell):
+    """The files that are named where nothing carries a promise, and aren't there."""
+    named = [*re.findall(r"`(tests/\w+\.py)`", cell), *(f"crates/{crate}/src/{file}" for file, crate in re.findall(r"`(\w+\.rt)` of `(wot_\w+)`", cell))]
+    return [name for name in named if not (TOP / name).exists()]
+
+
+def promises():
+    """Each row of the page of promises names what is there, of the kinds that it tells, and what nothing carries names no call."""
+    crates = {crate.name: declared(crate) for crate in TOP.glob("crates/*")}
+    parts = set().union(*map(words_of, TOP.glob("crates/*/specs/*.antt")))
+    count, wrong = 0, []
+    for line in re.findall(r"^\| (?!Promise \|)(.*)$", (TOP / "docs" / "SPECIFICATION.md").read_text(encoding="utf-8"), re.M):
+        promise, cell, told, *more = [part.strip() for part in line.split("|")]
+        count, said = count + 1, set(told.split(", "))
+        kinds, missing = (said, uncarried(cell)) if told in ("neither", "not yet") else carriers(cell, crates, parts)
+        faults = [f"no {name}" for name in missing]
+        if more != [""] or not said <= kinds or (kinds - said) & {"law", "test"}:
+            faults.append(f"{told!r} is told, and named are {sorted(kinds)}")
+        wrong += [f"docs/SPECIFICATION.md: {promise[:60]}: {fault}" for fault in faults]
+    return f"{count} promises", wrong
+
 
 def scripts():
     """The gate runs each script of the tests, and their table has a row for each; so has that of the libraries."""
@@ -168,7 +243,7 @@ def man_is_read():
 
 if __name__ == "__main__":
     found = [check() for check in (
-        dead_links, sessions, first_session, crates, definitions, index, places, scripts, man_page, number, man_is_read,
+        dead_links, sessions, first_session, crates, definitions, index, places, promises, scripts, man_page, number, man_is_read,
     )]
     wrong = [line for _, lines in found for line in lines]
     if wrong:

@@ -3,8 +3,8 @@
 
 edits.py PROGRAM [--time SECONDS] [--edits NUMBER] [--seed NUMBER]: sessions are made until the time is over or there were so many edits. After
 each edit, and each `compact` between them, the state, as `sigs` and `export` print it, is given to another process with an empty store and to a second
-reading of the rules, and what `list`, `sigs`, `export`, `check` and some `why` tell is compared with both. A session's store is reopened too. The first
-difference ends the check and leaves the session's commands in a file.
+reading of the rules, and what `list`, `sigs`, `export`, `check` and some `why`, `suppose` and `critical` tell is compared with both. A session's store is
+reopened too. The first difference ends the check and leaves the session's commands in a file.
 """
 import argparse
 import os
@@ -14,7 +14,7 @@ import tempfile
 import time
 from concurrent.futures import ThreadPoolExecutor
 
-from reference import histories, keyring
+from reference import histories, keyring, supposing
 from reference.program import folder, run
 
 # no store here has to outlive a stop of the machine; a session that is left may
@@ -97,22 +97,41 @@ class Edits:
         if kind < 0.32:
             return self.owned()
         if kind < 0.58:
-            return f"trust {fpr} {self.chance.choice('uuuf' if name < 3 else '-qnmmmfffu')}\n"
+            return self.trusted(name, fpr)
         if kind < 0.62:
             return f"{self.chance.choice(('disable', 'enable'))} {fpr}\n"
         if kind < 0.68:
             return f"delete {fpr}\n"
         if kind < 0.90:
-            self.date = self.chance.choice((0, *DATES * 2, 2**32 - 1))
+            self.date = self.any_date()
             return f"date {self.date}\n"
         if kind < 0.97:
-            ranges = ((True, True, False), (1, 1, 2), (2, 3), (1, 2, 3, 5, 5, 7, 7, 255), (1, 2, 3))
-            self.options = keyring.Options(*map(self.chance.choice, ranges))
+            self.options = self.any_options()
             return histories.options(self.options).given
         return f"sample {self.chance.choice((7, 8))} {self.chance.randrange(1, 13)}\n"
 
+    def trusted(self, name, fpr):
+        return f"trust {fpr} {self.chance.choice('uuuf' if name < 3 else '-qnmmmfffu')}\n"
+
+    def any_date(self):
+        return self.chance.choice((0, *DATES * 2, 2**32 - 1))
+
+    def any_options(self):
+        ranges = ((True, True, False), (1, 1, 2), (2, 3), (1, 2, 3, 5, 5, 7, 7, 255), (1, 2, 3))
+        return keyring.Options(*map(self.chance.choice, ranges))
+
+    def supposed(self):
+        """An edit that may be supposed."""
+        name = self.name()
+        edit = self.trusted(name, fingerprint(name, self.chance.random() < 0.05))
+        return self.chance.choice((edit, edit, f"date {self.any_date()}\n", histories.options(self.any_options()).given))
+
     def questions(self):
-        return "".join(f"why {fingerprint(name)} {self.chance.choice((1, 1, 2))}\n" for name in range(1, NAMES + 1)) + "check\nlist\n"
+        """Explanations first; what is told after all of them shows that none changed anything."""
+        asked = [f"why {fingerprint(name)} {self.chance.choice((1, 1, 2))}\n" for name in range(1, NAMES + 1)]
+        asked += [f"suppose {self.supposed()}" for _ in range(3)]
+        asked += [f"critical {fingerprint(self.name())} {self.chance.choice((1, 1, 1, 2))}\n" for _ in range(2)]
+        return "".join(asked) + "check\nlist\nexport\n"
 
 
 def replies(told):
@@ -140,13 +159,17 @@ def read_again(date, options, sigs, export, questions):
     for command, *words in map(str.split, questions.splitlines()):
         if command == "why":
             found.append(keyring.why(state, rows, bytes.fromhex(words[0]), int(words[1])))
+        elif command == "critical":
+            found.append(supposing.critical(state, bytes.fromhex(words[0]), int(words[1])))
+        elif command == "suppose":
+            found.append(supposing.suppose(state, words))
         else:
-            found.append((keyring.tally(state) if command == "check" else keyring.listed(state)) + b"ok\n")
+            found.append({"check": keyring.tally, "list": keyring.listed, "export": keyring.export}[command](state) + b"ok\n")
     return [reply.decode() for reply in found]
 
 
 def session(seed, pool):
-    """One session; its commands, how many edits were refused, how many explanations have an introducer, and what differs."""
+    """One session; its commands, how many edits were refused, explanations that have an introducer and supposed edits that change a letter, and what differs."""
     edits = Edits(random.Random(seed))
     commands, states = [], []
     begun = edits.begun()
@@ -157,9 +180,9 @@ def session(seed, pool):
     with folder() as store:
         told = replies(run("".join(commands), where=store).stdout)
         again = replies(run("sigs\nexport\n" + states[-1][2], where=store).stdout)
-    count = NAMES + 5
+    count = 3 + states[0][2].count("\n")
     if len(told) != EDITS * count:
-        return commands, 0, 0, [("the session", [f"{len(told)} replies\n"], [f"{EDITS * count} replies\n"])]
+        return commands, 0, 0, 0, [("the session", [f"{len(told)} replies\n"], [f"{EDITS * count} replies\n"])]
     groups = [told[i * count : (i + 1) * count] for i in range(EDITS)]
     counted = pool.map(lambda both: recounted(*both[0][:2], both[1][1], both[1][2], both[0][2]), zip(states, groups))
     wrong = [(f"after edit {i + 1}", group[1:], wanted) for i, (group, wanted) in enumerate(zip(groups, counted)) if group[1:] != wanted]
@@ -169,8 +192,8 @@ def session(seed, pool):
     if again != groups[-1][1:]:
         wrong.append(("reopened", again, groups[-1][1:]))
     refused = sum(group[0].startswith("err") for group in groups)
-    reasons = sum("\nrow:" in reply for group in groups for reply in group)
-    return commands, refused, reasons, wrong
+    reasons, changes = (sum(line in reply for group in groups for reply in group) for line in ("\nrow:", "change:"))
+    return commands, refused, reasons, changes, wrong
 
 
 def first_difference(told, wanted):
@@ -184,21 +207,22 @@ def main():
     parser.add_argument("--edits", type=int, default=10**9)
     parser.add_argument("--seed", type=int, default=1)
     asked = parser.parse_args()
-    begun, sessions, refusals, explained, compactions = time.monotonic(), 0, 0, 0, 0
+    begun, sessions, refusals, explained, changing, compactions = time.monotonic(), 0, 0, 0, 0, 0
     with ThreadPoolExecutor(2) as pool:
         while sessions == 0 or (time.monotonic() - begun < asked.time and sessions * EDITS < asked.edits):
             seed = asked.seed * 1_000_000 + sessions
-            commands, refused, reasons, wrong = session(seed, pool)
+            commands, refused, reasons, changes, wrong = session(seed, pool)
             if wrong:
                 with tempfile.NamedTemporaryFile("w", dir=KEPT, prefix="edits", suffix=".session", delete=False) as kept:
                     kept.write("".join(commands))
                 place, told, wanted = wrong[0]
                 sys.exit(f"edits: session {seed}, {place}: {first_difference(told, wanted)}its commands are in {kept.name}")
-            sessions, refusals, explained = sessions + 1, refusals + refused, explained + reasons
+            sessions, refusals, explained, changing = sessions + 1, refusals + refused, explained + reasons, changing + changes
             compactions += sum(command.startswith("compact\n") for command in commands)
     print(
         f"edits: {sessions * EDITS} edits at random in {sessions} sessions from seed {asked.seed}, {compactions} of them compactions and {refusals} refused: "
-        f"each state has the letters that it has when counted from nothing and by a second reading, and {explained} explanations the same introducers and counts"
+        f"each state has the letters that it has when counted from nothing and by a second reading, {explained} explanations the same introducers and counts, "
+        f"and {changing} supposed edits the same changes"
     )
 
 

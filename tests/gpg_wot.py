@@ -27,8 +27,8 @@ from reference.program import PROGRAM, folder, run
 REAL = shutil.which("gpg")
 TRUST = {"u": "TRUST_ULTIMATE", "f": "TRUST_FULLY", "m": "TRUST_MARGINAL", "-": "TRUST_UNDEFINED"}
 STORES = ("store", "none", "stale", "held")
-# what a client is asked with: a store and none, and a gpg that is killed when it has said that a signature is good
-ASKED = ("store", "none", "killed")
+# what a client is asked with: each of these, and a gpg that is killed when it has said that a signature is good
+ASKED = (*STORES, "killed")
 # of a listing of so many keys the store's letters may take half a second more
 MANY, ALLOWED = 1178, 0.5
 

@@ -162,6 +162,8 @@ def trusts():
     session.want(f"ok entries {TRUSTS}", entries(TRUSTS))
     session.want("err full trusts", trust("f", TRUSTS))
     session.want("err full trusts", [f"disable {TRUSTS:040X}\n"])
+    session.want("err full trusts", [f"suppose trust {TRUSTS:040X} f\n"])
+    session.want("ok changes 0", [f"suppose trust {0:040X} m\n"])
     session.want("ok", trust("m", 0))
     session.want("ok", trust("-", TRUSTS))
     session.want("ok", trust("-", 0))

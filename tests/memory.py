@@ -44,10 +44,14 @@ void *malloc(size_t size) { return fails() ? NULL : __libc_malloc(size); }
 void *realloc(void *old, size_t size) { return fails() ? NULL : __libc_realloc(old, size); }
 """
 TWO_USERS = key("B", by("A", trusts="1 120")) + "uid:-::::1000::::B2 <b2@example.org>:\n" + by("F", 3000, trusts="1 60")
-# the edits of a session, and its last command
+# the edits of a session, and its last commands
 SESSIONS = {
     "a listing": ([trust("A", "u"), imported(key("A"), key("B", "A"))], "list\n"),
     "why": ([trust("A", "u"), trust("F", "u"), imported(key("A"), TWO_USERS, key("C", by("B", 4000)), key("F"))], f"why {fingerprint('C')} 1\n"),
+    "what is supposed": (
+        [trust("A", "u"), trust("B", "m"), imported(key("A"), key("B", "A"), key("C", "B"))],
+        f"suppose trust {fingerprint('B')} f\ncritical {fingerprint('C')} 1\nsuppose options classic 1 3 1 2\nsuppose date 5000\n",
+    ),
     "a compaction": ([trust("A", "u"), trust("B", "f")], "compact\n"),
 }
 

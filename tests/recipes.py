@@ -56,7 +56,19 @@ SHOWN = {
     "One key's letter, for a mail program": [r"\Af [0-9A-F]{40}\n\Z", r"\Af\n\Z", r"\A[0-9A-F]{40}\n\Z"],
     "Asked by a program": [r"\Agreen\nno mark\n\['[0-9A-F]{40}'\]\nno-such-key\n\Z"],
     "A keyring file, as Debian ships them": [r"^uid +\[ultimate\] Debian Archive Automatic Signing Key \(11/bullseye\)"],
-    "What changes on a date": [r"^> e [0-9A-F]{40} Bob <bob@example.org>$", r"\A[1-9][0-9]*\n\Z"],
+    "What if I trusted Bob?": [
+        r"\Aif the ownertrust of Bob <bob@example.org>, now undefined, were full:\nno letter would change\n"
+        r"if the ownertrust of Alice <alice@example.org>, now full, were none:\n\[  full  \] -> \[  undef \] Bob <bob@example.org> [0-9A-F]{40}\n1 letter would change\n"
+        r"by the options pgp 1 3 1 2:\n\[  full  \] -> \[ unknown\] Bob <bob@example.org> [0-9A-F]{40}\n1 letter would change\n\Z"
+    ],
+    "Whom must I watch?": [
+        r"\A\[  full  \] Bob <bob@example.org> [0-9A-F]{40}\n(  \[ unknown\] without the ownertrust of Me <me@example.org>, ultimately trusted\n"
+        r"|  \[  undef \] without the ownertrust of Alice <alice@example.org>, fully trusted\n){2}\Z"
+    ],
+    "What expires next, and what falls with it": [
+        r"\A(at .* UTC:\n\[  full  \] -> \[ expired\] Bob <bob@example.org> [0-9A-F]{40}\n1 letter would change\n){2}\Z",
+        r"\A[1-9][0-9]*\nchange:[0-9A-F]{16}:1:f:e:\nok changes 1\n\Z",
+    ],
     "Two keyrings compared": [r"^< f [0-9A-F]{40} Bob <bob@example.org>$"],
     "A new store from an old one": [r"\Aok entries \d+\nok keys 4 .*\nok\n\Z"],
     "Completion, and a Debian package": [r"\Awot_1.0_\w+.deb\n(.* ./usr/bin/.*\n)*.* ./usr/bin/wot-sync -> ../share/wot/wot-sync\n"],

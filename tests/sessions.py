@@ -20,11 +20,16 @@ def lines(name, validity, owner, caps="scSC"):
     )
 
 
+def change(name, old, new):
+    """The line of a letter that would be another, on the first user ID of a key."""
+    return f"change:{key_id(name)}:1:{old}:{new}:\n"
+
+
 def listed(*keys, tru=TRU):
     return tru + "".join(lines(*k) for k in keys) + "ok\n"
 
 
-A, B, C, D = map(fingerprint, "ABCD")
+A, B, C, D, E, F = map(fingerprint, "ABCDEF")
 # of another key with A's key ID
 ANOTHER = "11" + "0" * 36 + "AA"
 NO_FINGERPRINTS = (ANOTHER[1:], ANOTHER + "0", "G" * 40, ANOTHER[:39] + " ", "0" * 63)
@@ -34,6 +39,20 @@ TWO_KEYS = trust("A", "u") + imported(key("A"), key("B", "A"))
 TWO_TOLD = "ok\nok keys 2 kept 1 passed 0\n"
 TWO_LISTED = listed(("A", "u", "u"), ("B", "f", "-"))
 OTHER_A = f"pub:-:255:22:00000000000000AA:1000:::-:::scSC:\nfpr:::::::::{ANOTHER}:\n"
+# B is valid and marginally trusted, and certifies C
+MARGINAL = TWO_KEYS + trust("B", "m") + imported(key("C", "B"))
+MARGINAL_TOLD = TWO_TOLD + "ok\nok keys 1 kept 1 passed 0\n"
+# four who are valid and marginally trusted
+FOUR = trust("A", "u") + "".join(trust(name, "m") for name in "BCDE") + imported(key("A"), *(key(name, "A") for name in "BCDE"))
+FOUR_TOLD = "ok\n" * 5 + "ok keys 5 kept 4 passed 0\n"
+LONG_FPR = "00000000000000AB" + "0" * 48
+LONG_KEY = key("AB").replace(fingerprint("AB"), LONG_FPR)
+# an edit, and the place of its first bad word in `suppose`
+WRONGLY_SUPPOSED = (
+    ("trust", 2), ("trust AA f", 2), (f"trust {A}", 3), (f"trust {A} x", 3), (f"trust {A} F", 3), (f"trust {A} f f", 4), ("date", 2), ("date x", 2), ("date 4294967296", 2), ("date 5 5", 3),
+    ("options", 2), ("options tofu 1 3 5 2", 2), ("options pgp 0 3 5 2", 3), ("options pgp 1 1 5 2", 4), ("options pgp 1 3 0 2", 5), ("options pgp 1 3 256 2", 5), ("options pgp 1 3 5 4", 6),
+    ("options pgp 1 3 5", 6), ("options pgp 1 3 5 2 1", 7),
+)
 QUOTED = "a\\x3ab\\\\c\\n".encode() + bytes([0xC3, 0xA9])
 EXAMPLES = pathlib.Path(__file__).resolve().parent.parent / "examples"
 
@@ -173,6 +192,86 @@ SESSIONS = {
         "ok\n" + TWO_TOLD + "ok\n" + TWO_LISTED + "ok\nok\nok\nok\n" + listed(("A", "u", "u"), ("B", "f", "m")) + "tally:2:1:1:0:0:0:0:0:\nok\n",
         0,
     ),
+    "what another ownertrust would change": (
+        MARGINAL + f"export\nsuppose trust {B} f\nexport\nlist {C}\nsuppose trust {B} m\nsuppose trust {D} f\nsuppose trust {A} o\nsuppose trust {B} u\n",
+        MARGINAL_TOLD + f"{A}:6:\n{B}:4:\nok\n" + "change:00000000000000CC:1:m:f:\nok changes 1\n" + f"{A}:6:\n{B}:4:\nok\n" + listed(("C", "m", "-"))
+        + "ok changes 0\nok changes 0\n" + change("A", "u", "-") + change("B", "f", "-") + change("C", "m", "-") + "ok changes 3\n"
+        + change("B", "f", "u") + change("C", "m", "f") + "ok changes 2\n",
+        0,
+    ),
+    "what other options would change": (
+        MARGINAL + "suppose options classic 1 3 1 2\nsuppose options pgp 1 3 5 2\nlist\n",
+        MARGINAL_TOLD + change("C", "m", "-") + "ok changes 1\nok changes 0\n" + listed(("A", "u", "u"), ("B", "f", "m"), ("C", "m", "-")),
+        0,
+    ),
+    "what a date would change": (
+        trust("A", "u") + imported(key("A"), key("B", "A", expires=5000)) + "date 4999\nsuppose date 5000\nsuppose date 19700101T012319\nlist\n",
+        TWO_TOLD + "ok\n" + change("B", "f", "e") + "ok changes 1\nok changes 0\n"
+        + listed(("A", "u", "u"), ("B", "f", "-"), tru="tru::1:4999:5000:3:1:5\n").replace(":22:00000000000000BB:1000::", ":22:00000000000000BB:1000:5000:"),
+        0,
+    ),
+    "what would change on a second user ID, and of a disabled key": (
+        TWO_KEYS + imported(key("C", text="C <c@example.org>") + "uid:-::::1000::::C <c@example.net>:\n" + by("B")) + trust("B", "f") + f"disable {B}\nsuppose trust {B} n\nexport\n",
+        TWO_TOLD + "ok keys 1 kept 1 passed 0\nok\nok\n" + "change:00000000000000CC:2:f:q:\nok changes 1\n" + f"{A}:6:\n{B}:133:\nok\n",
+        0,
+    ),
+    "on whose ownertrust a letter hangs": (
+        MARGINAL + f"disable {B}\ndisable {D}\ncritical {C} 1\ncritical {B} 1\ncritical {A} 1\nexport\n",
+        MARGINAL_TOLD + "ok\nok\n" + f"critical:{A}:-:\ncritical:{B}:q:\nok critical 2\n" + f"critical:{A}:-:\nok critical 1\n" * 2 + f"{A}:6:\n{B}:132:\n{D}:128:\nok\n",
+        0,
+    ),
+    "one more than are needed": (
+        FOUR + imported(key("F", *"BCD")) + f"critical {F} 1\n" + imported(key("F", *"BCDE")) + f"critical {F} 1\n",
+        FOUR_TOLD + "ok keys 1 kept 3 passed 0\n" + f"critical:{A}:-:\n" + "".join(f"critical:{one}:m:\n" for one in (B, C, D)) + "ok critical 4\n"
+        + "ok keys 1 kept 4 passed 0\n" + f"critical:{A}:-:\nok critical 1\n",
+        0,
+    ),
+    "letters that hang on nobody": (
+        trust("A", "u") + trust("D", "f") + imported(key("A"), key("B", "A", expires=1500), key("C").replace("pub:-", "pub:r"), key("D")) + "date 1500\n"
+        + "".join(f"critical {one} 1\n" for one in (B, C, D)),
+        "ok\nok\nok keys 4 kept 1 passed 0\nok\n" + "ok critical 0\n" * 3,
+        0,
+    ),
+    # without E the scope of F is wide, so that F makes D an introducer a level earlier, whom F trusts for nothing
+    "a letter that hangs on somebody who is not in its explanation": (
+        trust("A", "u") + trust("E", "u") + imported(
+            key("A"), key("E"), key("F", by("A", trusts="3 120"), by("E", 3000, trusts="3 120", scope=NET)), key("B", by("A", trusts="4 120")), key("C", by("B", trusts="3 120")),
+            key("D", by("F", 3500, trusts="1 30"), by("C", 4000, trusts="1 120")), key("11", "D"))
+        + f"why {fingerprint('11')} 1\ncritical {fingerprint('11')} 1\n",
+        "ok\nok\nok keys 7 kept 7 passed 0\nwhy:f:0000000000000011:1:0:1:0:0:\nrow:00000000000000AA:0:u:0:::\nrow:00000000000000BB:1:f:3::00000000000000AA:\n"
+        "row:00000000000000CC:2:f:2::00000000000000BB:\nrow:00000000000000DD:3:f:0::00000000000000CC:\nby:00000000000000DD:f:\ncut:f:\nok\n"
+        f"critical:{A}:-:\ncritical:{E}:q:\nok critical 2\n",
+        0,
+    ),
+    # without E the scope of B is wide, and the letter a better one
+    "an entry without which a letter is better": (
+        trust("A", "u") + trust("E", "u") + trust("11", "m") + imported(
+            key("A"), key("E"), key("B", by("A", trusts="1 120"), by("E", 3000, trusts="1 120", scope=NET)), key("11", "A", "E"), key("C", "B", "11"))
+        + f"list {C}\ncritical {C} 1\nsuppose trust {E} o\n",
+        "ok\nok\nok\nok keys 5 kept 6 passed 0\n" + listed(("C", "m", "-")) + f"critical:{fingerprint('11')}:q:\nok critical 1\n"
+        + change("C", "m", "f") + change("E", "u", "-") + "ok changes 2\n",
+        0,
+    ),
+    "fingerprints of 64 digits come last": (
+        f"trust {LONG_FPR} u\ntrust {ANOTHER} f\n" + imported(LONG_KEY, OTHER_A + "uid:-::::1000::::A <a@example.org>:\n" + by("AB"), key("B", "A")) + f"critical {B} 1\n",
+        f"ok\nok\nok keys 3 kept 2 passed 0\ncritical:{ANOTHER}:q:\ncritical:{LONG_FPR}:-:\nok critical 2\n",
+        0,
+    ),
+    "what can't be supposed": (
+        "".join(f"suppose{edit}\n" for edit in ("", f" delete {A}", f" disable {A}", " import", " ownertrust", " sample 1 1", " compact", " list", " suppose date 5", " Date 5")) + "list\n",
+        "err bad-argument 1\n" * 10 + listed(),
+        1,
+    ),
+    "bad words of what is supposed": (
+        "".join(f"suppose {edit}\n" for edit, _ in WRONGLY_SUPPOSED) + "list\n",
+        "".join(f"err bad-argument {place}\n" for _, place in WRONGLY_SUPPOSED) + listed(),
+        1,
+    ),
+    "bad words of critical": (
+        TWO_KEYS + "".join(f"critical {words}\n" for words in ("", "AA", f"{A}", f"{A} 0", f"{A} x", f"{A} 4294967296", f"{A} 1 1", f"{C} 1", f"{ANOTHER} 1", f"{A} 2", f"{A} 4294967295")),
+        TWO_TOLD + "".join(f"err {reason}\n" for reason in ("bad-argument 1",) * 2 + ("bad-argument 2",) * 4 + ("bad-argument 3",) + ("no-such-key",) * 2 + ("no-such-user",) * 2),
+        1,
+    ),
     "compact and check take no word": ("compact now\ncheck 1\nlist\n", "err bad-argument 1\nerr bad-argument 1\n" + listed(), 1),
     "nothing after quit": ("list\nquit\nlist\nfrob\n", listed() + "ok\n", 0),
     "quit with an argument ends nothing": ("quit now\nlist\n", "err bad-argument 1\n" + listed(), 1),
@@ -293,6 +392,9 @@ WORDS = {
     "workers between words": (["list", "--workers=64"], "", listed(), "", 0),
     "compact": (["compact"], "frob\n", "ok\n", "", 0),
     "check": (["--workers", "4", "check"], "frob\n", "tally:0:0:0:0:0:0:0:0:\nok\n", "", 0),
+    "what an edit would change": (["suppose", "trust", A, "o"], "frob\n", "ok changes 0\n", "", 0),
+    "on whom a letter hangs": (["--workers", "2", "critical", A, "1"], "", "err no-such-key\n", "", 1),
+    "a dash as a letter": (["suppose", "trust", A, "-"], "", "", USAGE, 2),
     "check with a word": (["check", A], "", "err bad-argument 1\n", "", 1),
     "a dash word after --": (["--", "-x"], "", "err unknown-command\n", "", 1),
     "no workers": (["--workers", "0"], "", "", USAGE, 2),

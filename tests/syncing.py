@@ -335,6 +335,10 @@ def completed():
         yield "for the module's program", offered("wot.py", "a"), ["a@example.org"]
         yield "of a signer", offered("wot-verify", "--by", "a"), ["a@example.org"]
         yield "letters", offered("wot-verify", "--want", ""), list("ufmq-")
+        yield "what is supposed of whom", [offered("wot-suppose", *words) for words in (("b",), ("b@example.org", "n"), ("--date", ""))], [["b@example.org"], ["never", "none"], ["next"]]
+        yield "an edit that is supposed", [offered("wot-in", "suppose", *words) for words in (("",), ("trust", "0" * 38 + "b"), ("trust", fingerprint("B"), "f"), ("options", "c"), ("date", ""))], [
+            ["trust", "date", "options"], [fingerprint("B")], ["f"], ["classic"], []]
+        yield "on whom a letter hangs", (offered("wot-critical", "Ca"), offered("wot-in", "critical", "0" * 38 + "b")), (["Carol"], [fingerprint("B")])
         yield "options", [offered(name, "--sto") for name in ("wot-nightly", "wot-sync", "wot-import", "wot.py")], [["--store"]] * 4
         yield "of the package", offered("deb", "--"), ["--version", "--help"]
         yield "a command there", offered("wot-in", "ex"), ["export"]
@@ -392,7 +396,7 @@ def removed(at, name):
     dpkg = ["dpkg", f"--root={other}", "--force-script-chrootless", "--force-depends", "--log=/dev/null"]
     yield "it is installed", at.status(*dpkg, "--install", name), 0
     at.run(sys.executable, "-m", "compileall", "-q", str(other / "usr/lib/python3/dist-packages"), str(other / "usr/share/wot"), PYTHONDONTWRITEBYTECODE="")
-    yield "modules are compiled", len(list(other.rglob("*.pyc"))), 4
+    yield "modules are compiled", len(list(other.rglob("*.pyc"))), 5
     yield "and removed", (at.status(*dpkg, "--remove", "wot"), sorted(path.name for path in other.iterdir())), (0, ["var"])
 
 

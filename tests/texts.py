@@ -1,16 +1,9 @@
 #!/usr/bin/env python3
-"""Tries worked rows of texts on the built program: words, numbers, dates, quoted texts, ownertrust lines, and the regular expressions of trust signatures.
+"""Tries worked rows of texts on the built program: words, numbers, dates, quoted texts and ownertrust lines.
 
-texts.py PROGRAM: each row was worked out by hand from the formats, and says what is read of a text, or how it is refused. Regular expressions are also
-made at random, and asked of a second reading.
+texts.py PROGRAM: each row was worked out by hand from the formats, and says what is read of a text, or how it is refused.
 """
-import random
-
-from reference import expression
 from reference.program import USAGE, fingerprint, key_id, run, short, trust
-
-# how many regular expressions are made
-AT_RANDOM = 2000
 
 # words that ask for nothing, each cut at its spaces
 WRONG_WORDS = """--workers 0|--workers=65|--workers 2 --workers=2|--workers|--workers=|--workers --|--workers -- 2|--workers -|--workers -5|--workers --workers
@@ -46,67 +39,6 @@ OWNERTRUST = {
     f"{A}:129:": "BadValue", f"{A}:135:": "BadValue", f"{A}:256:": "BadValue", f"{A}:-2:": "BadValue", f"{A}: 6:": "BadValue", f"{A}:4294967296:": "BadValue",
 }
 
-EXAMPLE = rb"<[^>]+[@.]example\.org>$"
-# a regular expression, and the user IDs that it admits and those that it doesn't
-SCOPES = (
-    (EXAMPLE, b"N <a@example.org>|N <a@x.EXAMPLE.org>|<x.example.org>|<@@example.org>|<a> <b@example.org>|<b@example.org <b@example.org>|<<@example.org>"
-     b"|<a<@example.org>|<\xff@example.org>",
-     b"N <a@evilexample.org>|a@example.org|<a@example.org> N|<a@example.org|<a@example.net>|<a@example.org.net>|<a@example-org>|<@example.org>|<.example.org>"
-     b"|<example.org>|<a@example.org>>|<a>@example.org>|<a>b@example.org>|ample.org>|xample.org>|example.org>|@example.org>|a@example.org>|>"),
-    (rb"<[^>]+[@.]my\-site\.org>$", b"<a@my-site.org>", b"<a@my_site.org>"),
-    (rb"<[^>]+[@.]my-site\.org>$", b"<a@my-site.org>", b"<a@my.site.org>"),
-    (rb"<[^>]+[@.]EXAMPLE\.ORG>$", b"<a@example.org>", b"<a@example>"),
-    (rb"<[^>]+[@.]a_b\_1>$", b"<a@A_B_1>", b"<a@a_b>"),
-    (rb"<[^>]+[@.]a\\>$", b"<x@a\\>", b"<x@a>"),
-    (rb"<[^>]+[@.]\\\.>$", b"<x@\\.>", b"<x@.>"),
-    (rb"<[^>]+[@.]\\.>$", b"<x@\\.>", b"<x@a.>"),
-    (rb"<[^>]+[@.]a\>$", b"<x@a>", b"<x@a\\>"),
-    (rb"<[^>]+[@.]a\>>$", b"<x@a>>", b"<x@a>"),
-    (rb"<[^>]+[@.]a\@b>$", b"<x.a@b>", b"<x@b>"),
-    (rb"<[^>]+[@.]a\[>$", b"", b"<x@a{>"),
-    (rb"<[^>]+[@.]a\@>$", b"", b"<x@a`>"),
-    (b"<[^>]+[@.]\\\xc3\\\x84>$", b"<x@\xc3\x84>", b"<x@\xc3\xa4>"),
-    (b"<[^>]+[@.]\xc3\x84>$", b"<x@\xc3\x84>", b"<x@\xc3\xa4>"),
-    (rb"<[^>]+[@.]\example>$", b"<a@example>", b"<a@xample>"),
-    (rb"<[^>]+[@.]\1>$", b"<a@1>", b"<a@2>"),
-    (rb"<[^>]+[@.]example.org>$", b"<a@example.org>|<a@exampleXorg>", b"<a@exampleorg>"),
-    (rb"<[^>]+[@.]>$", b"<a@>", b"<a>"),
-    (rb"<[^>]+[@.]org>", b"<a@org>|<a@org> a", b"<a@net>"),
-    (rb"<[^>]+[@]org>$", b"<a@org>", b"<a.org>"),
-    (rb"<[^>]+[@.]>", b"<a@>", b"<a>"),
-    (rb"<[^>]+[@.$", b"", b"<a@.$"),
-    (rb"(lists|dev)\.example", b"D <d@dev.Example.org>", b"D <d@devXexample.org>"),
-    (b"^A+$", b"aaa", b"aab"),
-    (b"[]a-]", b"-|a|]", b"b"),
-    (b"[^]]", b"x", b"]"),
-    (b"[a-]", b"-", b"b"),
-    (b"[--a]", b"0|-", b"+"),
-    (b"[a-b-c]", b"-|c", b"d"),
-    (b"[^a-c]", b"d", b"B"),
-    (b"[^^]", b"a", b"^"),
-    (b"^[A-]b]$", b"-b]", b"B"),
-    (b"x**", b"", b"x"),
-    (b"[z-a]", b"", b"x"),
-    (b"(x", b"", b"x"),
-    (b"x)", b"", b"x"),
-    (b"a|*", b"", b"a"),
-    (b"[]", b"", b"]"),
-    (b"a\\", b"", b"a"),
-    (b"(|a)", b"b", b""),
-    (b"x|", b"b", b""),
-    (b"|", b"b", b""),
-    (b"()", b"b", b""),
-    (b"[^", b"", b"a"),
-    (b"[^]", b"", b"a|]"),
-    (b"[a-", b"", b"a|-"),
-    (b"a$b", b"", b"a$b|ab"),
-    (b"a.c", b"a.c|abc", b"ac"),
-    (b"colou?r", b"color|Colour", b"colouur"),
-    (b"a^b", b"", b"ab"),
-    (b"^(^a)*$", b"a", b"aa"),
-    (b"^(a*)*b$", b"aab", b"aac"),
-    (b"^a|b$", b"ax|xb", b"xax"),
-)
 
 
 def words():
@@ -151,81 +83,14 @@ def ownertrust():
         yield f"the line {line!r}", told, f"err ownertrust 1 {wanted}\nok\n" if refused else f"ok entries {wanted.count(chr(10))}\n{wanted}ok\n"
 
 
-def quoted(text):
-    return text.replace(b"\\", b"\\x5c").replace(b":", b"\\x3a")
-
-
-def block(number, text, *certs):
-    """A key with one user ID of any bytes."""
-    head = f"pub:-:255:22:{number:016X}:1000:::-:::scSC:\nfpr:::::::::{number:040X}:\nuid:-::::1000::::".encode()
-    return head + quoted(text) + b":\n" + b"".join(certs)
-
-
-def sig(issuer, trusts="", scope=b""):
-    return f"sig:!:::{issuer:016X}:2000::{trusts}:".encode() + quoted(scope) + b"::13x:\n"
-
-
-def asked(name, rows):
-    """A is believed wholly and certifies an introducer for each regular expression, who certifies its user ID: those that are admitted are valid."""
-    blocks, wanted = [block(0xAA, b"A")], {}
-    for number, (scope, user, admitted) in zip(range(0x100, 0x10000, 2), rows):
-        blocks.append(block(number, b"Introducer", sig(0xAA, "1 120", scope)))
-        blocks.append(block(number + 1, user, sig(number)))
-        wanted[f"{number + 1:016X}".encode()] = b"f" if admitted else b"-"
-    told = run(b"import\n" + b"".join(blocks) + b".\n" + trust("A", "u").encode() + b"list\n").stdout
-    found = {f[4]: f[1] for f in (line.split(b":") for line in told.split(b"\n")) if f[0] == b"pub"}
-    for (scope, user, _), (number, letter) in zip(rows, wanted.items()):
-        yield f"{user!r} in the scope {scope!r}{name}", found.get(number), letter
-
-
-def scopes():
-    yield from asked("", [(scope, user, admitted) for scope, yes, no in SCOPES for users, admitted in ((yes, True), (no, False)) for user in users.split(b"|") if user])
-
-
-class Scopes:
-    """Regular expressions, and bytes that look like some, at random."""
-
-    def __init__(self, chance):
-        self.chance = chance
-
-    def any(self):
-        return bytes(self.chance.choice(b"ab|()[]-^$.*+?\\AB@") for _ in range(self.chance.randrange(1, 12)))
-
-    def range(self):
-        inside = b"".join(self.chance.choice((b"a", b"b", b"a-b", b"@-B", b"^", b"-")) for _ in range(self.chance.randrange(1, 4)))
-        return b"[" + self.chance.choice((b"", b"^")) + self.chance.choice((b"", b"", b"]")) + inside + b"]"
-
-    def atom(self, depth):
-        plain = (b"a", b"b", b"B", b"@", b".", b"^", b"$", b"\\.", b"\\a")
-        kind = self.chance.randrange(10)
-        return b"(" + self.made(depth - 1) + b")" if kind < 2 and depth else self.range() if kind < 4 else self.chance.choice(plain)
-
-    def made(self, depth=3):
-        """One by the grammar."""
-        def branch():
-            return b"".join(self.atom(depth) + self.chance.choice((b"", b"", b"", b"*", b"+", b"?")) for _ in range(self.chance.randrange(4)))
-        return b"|".join(branch() for _ in range(self.chance.choice((1, 1, 1, 2, 3))))
-
-    def row(self):
-        scope = self.any() if self.chance.random() < 0.4 else self.made()
-        user = bytes(self.chance.choice(b"aabbABx.@-]^") for _ in range(self.chance.randrange(13)))
-        return scope, user, not scope or expression.admits(scope, user)
-
-
-def scopes_at_random():
-    """Expressions at random, each asked of one text; an empty one is no scope."""
-    made = Scopes(random.Random(18))
-    yield from asked(", at random", [row for row in (made.row() for _ in range(AT_RANDOM)) if len(row[0]) <= expression.MOST])
-
-
 def main():
     failed = tried = 0
-    for what, told, wanted in (row for rows in (words, fields, ownertrust, scopes, scopes_at_random) for row in rows()):
+    for what, told, wanted in (row for rows in (words, fields, ownertrust) for row in rows()):
         tried += 1
         if told != wanted:
             failed += 1
             print(f"texts: {what}: {short(str(told))}, and not {wanted}")
-    print(f"texts: {tried} rows of words, fields, ownertrust lines and regular expressions, {failed} told otherwise")
+    print(f"texts: {tried} rows of words, fields and ownertrust lines, {failed} told otherwise")
     return 1 if failed else 0
 
 
