@@ -1,8 +1,8 @@
 #!/usr/bin/env python3
 """Times the program where people wait, each figure beside a floor of the same run, and prints the tables of README.md.
 
-run.py PROGRAM [PART]... [--keys NUMBER]: all parts, or those that are named; the parts list, pages, sealing, compact, opening, check, one-key and shapes have
-so many keys. It needs cc, and says which part it skips and why.
+run.py PROGRAM [PART]... [--keys NUMBER]: all parts, or those that are named; the parts list, pages, sealing, compact, opening, check, one-key,
+shapes, scopes and supposing have so many keys. It needs cc, and says which part it skips and why.
 """
 import argparse
 import tempfile
@@ -12,9 +12,11 @@ import edits
 import gnupg
 import growth
 import imports
+import scopes
 import sealing
 import shapes
 import spelling
+import supposing
 from measure import Bench, Failed
 
 PARTS = {
@@ -31,6 +33,8 @@ PARTS = {
     "check": bases.part_check,
     "one-key": bases.part_one_key,
     "shapes": shapes.part,
+    "scopes": scopes.part,
+    "supposing": supposing.part,
     "gnupg": gnupg.part,
 }
 
