@@ -4,7 +4,7 @@ import random
 from collections.abc import Callable
 from typing import NamedTuple
 
-from measure import in_turn, megabytes, ran, session, shown, table, times
+from measure import Failed, in_turn, megabytes, ran, session, shown, table, times
 from shapes import DATE, fingerprint, head, user, written
 
 ROUNDS, ROOT = 5, 1
@@ -55,8 +55,9 @@ def counted(bench, scopes):
         def twice():
             return (program.accept("options pgp 1 3 5 2\n") + program.accept("options pgp 1 3 5 1\n")) / 2
 
-        if f":{bench.keys}:" not in program.ask("check\n")[1].decode():
-            print(f"not all of {bench.keys} keys are valid")
+        valid = bench.keys + scopes.introducers
+        if f"tally:{valid + 1}:1:{valid}:" not in program.ask("check\n")[1].decode():
+            raise Failed(f"{valid} keys are not all valid")
         return in_turn(twice, rounds=ROUNDS)[0]
 
 
