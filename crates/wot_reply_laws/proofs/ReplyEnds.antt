@@ -1,6 +1,6 @@
 -- The reply to each command ends at its last line.
 use Rattle.std.proofs.Common.{◌≡◌, ℕ, ◌+◌, ◌-◌, ◌==◌, Bool, true, false, not, ◌&&◌, List, [], ◌∷◌, ◌++◌, length, append_assoc, append-nil, refl, sym, ap, ◌∙◌, arith, true≢false, All, IfSome, Option, Some, None, Result, Ok, Err, codes, decimal}
-use Rattle.std.specs.Prelude.{if◌then◌else◌, unwrap_or, option_map, option_to_list}
+use Rattle.std.specs.Prelude.{if◌then◌else◌, nat_lt, unwrap_or, option_map, option_to_list}
 use Rattle.std.specs.FinMap as map
 use Rattle.std.specs.FinMap.{nat_cmp-IsAntisymmetric}
 use Rattle.std.specs.List.{flat_map, list_any, slice_split}
@@ -14,7 +14,7 @@ use Rattle.wot_types.specs.declared.edit.Edit.TheVariants.{Import, Ownertrust, S
 use Rattle.wot_types.specs.declared.head.Head.{Head}
 use Rattle.wot_types.specs.declared.head.Head.TheVariants.{Edit as EditHead, Query as QueryHead, DeleteKey, Import as ImportHead, Ownertrust as OwnertrustHead}
 use Rattle.wot_types.specs.declared.query.Query.{Query}
-use Rattle.wot_types.specs.declared.query.Query.TheVariants.{List as ListAll, ListOne, Sigs, SigsOne, Export, Why, Check, Suppose, Critical, Compact, Quit}
+use Rattle.wot_types.specs.declared.query.Query.TheVariants.{List as ListAll, ListOne, Sigs, SigsOne, Export, Why, Check, Suppose, Critical, AtList, AtListOne, AtWhy, Compact, Quit}
 use Rattle.wot_types.specs.declared.fault.ListingFault.{ListingFault}
 use Rattle.wot_types.specs.declared.fault.ListingWhat.{ListingWhat}
 use Rattle.wot_types.specs.declared.fault.ListingWhat.TheVariants.{ShortRecord, BadNumber, BadDate, BadHex, BadQuote, NoFingerprint, KeyIdDiffers, RepeatedKey, RepeatedUser, BadTrustField, LimitReached}
@@ -24,12 +24,13 @@ use Rattle.wot_types.specs.declared.key.Key.{Key}
 use Rattle.wot_types.specs.declared.limit.Limit.{Limit}
 use Rattle.wot_types.specs.declared.limit.Limit.TheVariants.{Keys, Users, Certs, Text, Trusts, Record, Scope}
 use Rattle.wot_types.specs.declared.refusal.Refusal.{Refusal}
-use Rattle.wot_types.specs.declared.refusal.Refusal.TheVariants.{LineTooLong, UnknownCommand, BadArgument, UnendedBlock, Listing, Ownertrust as OwnertrustRefusal, NoSuchKey, NoSuchUser, Full, KeyIdTaken, JournalFull}
+use Rattle.wot_types.specs.declared.refusal.Refusal.TheVariants.{LineTooLong, UnknownCommand, BadArgument, UnendedBlock, Listing, Ownertrust as OwnertrustRefusal, NoSuchTime, NoSuchKey, NoSuchUser, Full, KeyIdTaken, JournalFull}
 use Rattle.wot_types.specs.State.{State}
 use Rattle.wot_types.specs.declared.user.User.{User}
 use Rattle.wot_types.specs.Candidates.{RowMap}
 use Rattle.wot_types.specs.Commands.{Command, block_texts}
 use Rattle.wot_types.specs.CutState.{cut}
+use Rattle.wot_types.specs.EarlierStates.{earlier_state}
 use Rattle.wot_types.specs.Explanation.{count_by_trust, direct, explained_rows, explanation}
 use Rattle.wot_types.specs.Fingerprint.{key_id_of}
 use Rattle.wot_types.specs.Grammar.{command_of}
@@ -40,7 +41,8 @@ use Rattle.wot_types.specs.Lines.{front_of, is_newline, last_of, open_line, whol
 use Rattle.wot_types.proofs.ListEnds.{front_of_more, last_of_more}
 use Rattle.wot_types.specs.Listing.{fault_at_end, kept_certs, listed_keys, passed_certs}
 use Rattle.wot_types.specs.NextCheck.{next_check}
-use Rattle.wot_types.specs.Outcome.{Outcome, block_outcome, edit_outcome, edit_reply, state_after, entries_outcome, has_long_line, head_outcome, is_past, listing_outcome, ok_line, outcome, query_refusal, refusal_of, refuse, reply_to, sample_reply, unless_refused, unless_unanswered, words_outcome, change_by}
+use Rattle.wot_types.specs.Outcome.{Outcome, block_outcome, edit_outcome, edit_reply, entries_outcome, has_long_line, head_outcome, is_past, listing_outcome, ok_line, outcome, outcome_in, query_outcome, query_refusal, refusal_of, refuse, reply_to, sample_reply, unless_refused, unless_unanswered, words_outcome, change_by}
+use Rattle.wot_types.specs.StateAfter.{state_after}
 use Rattle.wot_types.specs.Ownertrust.{ownertrust_of, ownertrust_line}
 use Rattle.wot_types.specs.OwnertrustText.{listed_entries, ownertrust_fault}
 use Rattle.wot_types.specs.Printing.{cert_line, key_id_text, key_lines, list_text, listed_keyblocks, user_lines}
@@ -54,7 +56,7 @@ use Rattle.wot_types.specs.Tally.{tally_line}
 use Rattle.wot_types.specs.WellFormed.{IsUser, IsWellFormed}
 use Rattle.wot_types.specs.WhyText.{by_line, letter_of, row_line, why_text}
 use Rattle.wot_types.proofs.FinMaps.{IfSome-get}
-use Rattle.wot_reply_laws.specs.Replies.{AreWellFormed, IsReply, ends_reply, is_silent, tells}
+use Rattle.wot_reply_laws.specs.Replies.{AreWellFormed, IsReply, WereWellFormed, ends_reply, is_silent, tells}
 use Rattle.wot_reply_laws.proofs.PlainTexts.{ArePlain, IsPlain, joined, plain_decimal, plain_joined, plain_key_id}
 use Rattle.wot_reply_laws.proofs.ReplyLines.{GoesOn, all_plain, both, by_goes_on, cert_goes_on, change_goes_on, cut_goes_on, each, each_of, entry_goes_on, fpr_goes_on, loss_goes_on, nothing, pub_goes_on, row_goes_on, tally_goes_on, tru_goes_on, user_goes_on, why_goes_on}
 
@@ -153,6 +155,7 @@ refusal_ends (Listing fault) =
     err (codes "err listing ") (decimal fault.line ∷ codes " " ∷ fault_name fault.what ∷ []) refl (plain_decimal fault.line, (refl, (name_of_fault fault.what, tt))) refl refl
 refusal_ends (OwnertrustRefusal line what) =
     err (codes "err ownertrust ") (decimal line ∷ codes " " ∷ ownertrust_fault_name what ∷ []) refl (plain_decimal line, (refl, (name_of_ownertrust_fault what, tt))) refl refl
+refusal_ends (NoSuchTime count) = err (codes "err no-such-time ") (decimal count ∷ []) refl (plain_decimal count, tt) refl refl
 refusal_ends NoSuchKey = err (codes "err no-such-key") [] refl tt refl refl
 refusal_ends NoSuchUser = err (codes "err no-such-user") [] refl tt refl refl
 refusal_ends (Full limit) = err (codes "err full ") (limit_name limit ∷ []) refl (name_of_limit limit, tt) refl refl
@@ -288,6 +291,9 @@ query_ends s (Why fpr place) w = ok_behind _ (why_text_goes_on s (key_id_of fpr)
 query_ends s Check w = ok_behind _ (tally_goes_on s (rows_of s))
 query_ends s (Suppose edit) w = counted change_line change_goes_on (codes "ok changes ") refl (λ n. refl) (λ n. refl) (changes s (state_after s edit))
 query_ends s (Critical fpr place) w = counted loss_line loss_goes_on (codes "ok critical ") refl (λ n. refl) (λ n. refl) (critical s (key_id_of fpr) (place - 1))
+query_ends s (AtList n) w = ok_behind _ nothing
+query_ends s (AtListOne n fpr) w = ok_behind _ nothing
+query_ends s (AtWhy n fpr place) w = ok_behind _ nothing
 query_ends s Compact w = ok_behind _ nothing
 query_ends s Quit w = ok_behind _ nothing
 
@@ -295,13 +301,38 @@ query_replies : (why : Option Refusal) (text : List ℕ) (change : Change) → A
 query_replies (Some why) text change p = refused why
 query_replies None text change p = p
 
+-- in whatever state it is asked
+replies_in : (s : State) (query : Query) → AreWellFormed s.keys → Replies (outcome_in s query)
+replies_in s query w = query_replies (query_refusal s query) (reply_to s query) (change_by query) (query_ends s query w)
+
+-- of an earlier state, or of a time that there isn't
+earlier_replies : (s : Store) (n : ℕ) (query : Query) (late : Bool) → WereWellFormed s → Replies (if late then refuse (NoSuchTime (length s.edits)) else outcome_in (earlier_state s n) query)
+earlier_replies s n query true before = refused (NoSuchTime (length s.edits))
+earlier_replies s n query false before = replies_in (earlier_state s n) query (before n)
+
+asked : (s : Store) (query : Query) → AreWellFormed s.state.keys → WereWellFormed s → Replies (query_outcome s query)
+asked s (AtList n) w before = earlier_replies s n ListAll (nat_lt (length s.edits) n) before
+asked s (AtListOne n fpr) w before = earlier_replies s n (ListOne fpr) (nat_lt (length s.edits) n) before
+asked s (AtWhy n fpr place) w before = earlier_replies s n (Why fpr place) (nat_lt (length s.edits) n) before
+asked s ListAll w before = replies_in s.state ListAll w
+asked s (ListOne fpr) w before = replies_in s.state (ListOne fpr) w
+asked s Sigs w before = replies_in s.state Sigs w
+asked s (SigsOne fpr) w before = replies_in s.state (SigsOne fpr) w
+asked s Export w before = replies_in s.state Export w
+asked s (Why fpr place) w before = replies_in s.state (Why fpr place) w
+asked s Check w before = replies_in s.state Check w
+asked s (Suppose edit) w before = replies_in s.state (Suppose edit) w
+asked s (Critical fpr place) w before = replies_in s.state (Critical fpr place) w
+asked s Compact w before = replies_in s.state Compact w
+asked s Quit w before = replies_in s.state Quit w
+
 -- ---- commands
 
-module _ (s : Store) (command : Command) (w : AreWellFormed s.state.keys) where
+module _ (s : Store) (command : Command) (w : AreWellFormed s.state.keys) (before : WereWellFormed s) where
   head_replies : (head : Result Head Refusal) → Replies (head_outcome s command head)
   head_replies (Err why) = refused why
   head_replies (Ok (EditHead edit)) = edit_replies (edit_reply s.state edit) s edit (edit_ends s.state edit)
-  head_replies (Ok (QueryHead query)) = query_replies (query_refusal s.state query) (reply_to s.state query) (change_by query) (query_ends s.state query w)
+  head_replies (Ok (QueryHead query)) = asked s query w before
   head_replies (Ok (DeleteKey fpr)) = delete_replies s fpr (has_fpr s.state.keys fpr)
   head_replies (Ok ImportHead) =
       ended_replies (block_outcome ImportHead s (block_texts command.block)) command.ended (listing_replies (fault_at_end (block_texts command.block)) s (block_texts command.block))

@@ -13,7 +13,8 @@ use Rattle.wot_types.specs.Outcome.{outcome}
 use Rattle.wot_types.specs.Refusals.{reply_line}
 use Rattle.wot_types.specs.Session.{Progress, after_command, is_edit, replies, states}
 use Rattle.wot_types.proofs.Counting.{kept}
-use Rattle.wot_reply_laws.specs.Replies.{AreWellFormed, ends_reply, is_silent}
+use Rattle.wot_reply_laws.specs.Replies.{AreWellFormed, HasHistory, WereWellFormed, ends_reply, is_silent}
+use Rattle.wot_reply_laws.proofs.Histories.{history_after}
 use Rattle.wot_reply_laws.proofs.PlainTexts.{ArePlain}
 use Rattle.wot_reply_laws.proofs.ReplyLines.{all_plain}
 use Rattle.wot_reply_laws.proofs.ReplyEnds.{Answered, answered, silent, whole_lines_are}
@@ -53,9 +54,9 @@ one refused text a =
     }
 
 -- a command's reply
-held : (p : Progress) (command : Command) → AreWellFormed p.store.state.keys → (quiet : Bool) → is_silent command ≡ quiet → Holds (cond (not quiet) 1 0) (outcome p.store command).text
-held p command w true e = subst (Holds 0) (sym (silent p.store command e)) nothing
-held p command w false e = one (outcome p.store command).refused (outcome p.store command).text (answered p.store command w e)
+held : (p : Progress) (command : Command) → AreWellFormed p.store.state.keys → WereWellFormed p.store → (quiet : Bool) → is_silent command ≡ quiet → Holds (cond (not quiet) 1 0) (outcome p.store command).text
+held p command w before true e = subst (Holds 0) (sym (silent p.store command e)) nothing
+held p command w before false e = one (outcome p.store command).refused (outcome p.store command).text (answered p.store command w before e)
 
 -- ---- the states of a session
 
@@ -80,16 +81,19 @@ rest_good false first rest w = w
 abbrev answers : Command → ℕ
 answers command = cond (not (is_silent command)) 1 0
 
-held_all : (p : Progress) (commands : List Command) → AreGood (states p commands) → Holds (sum_by answers commands) (replies p commands)
-held_all p [] w = nothing
-held_all p (command ∷ commands) w =
+held_all : (p : Progress) (commands : List Command) → HasHistory p.store → AreGood (states p commands) → Holds (sum_by answers commands) (replies p commands)
+held_all p [] history w = nothing
+held_all p (command ∷ commands) history w =
+    let now = first_good p (command ∷ commands) w in
+    let rest = rest_good (is_edit p command) p.store.state (states (after_command p command) commands) w in
+    let next = history_after (outcome p.store command).change p.store history now (first_good (after_command p command) commands rest) in
     subst (λ n. Holds n (replies p (command ∷ commands))) (sym (sum_by-cons answers command commands))
     (both (answers command) (sum_by answers commands) (outcome p.store command).text (replies (after_command p command) commands)
-    (held p command (first_good p (command ∷ commands) w) (is_silent command) refl)
-    (held_all (after_command p command) commands (rest_good (is_edit p command) p.store.state (states (after_command p command) commands) w)))
+    (held p command now history.earlier (is_silent command) refl)
+    (held_all (after_command p command) commands next rest))
 
-pub counted : (p : Progress) (commands : List Command) → AreGood (states p commands)
+pub counted : (p : Progress) (commands : List Command) → HasHistory p.store → AreGood (states p commands)
     → count_by ends_reply (whole_lines (replies p commands)) ≡ count_by (λ command. not (is_silent command)) commands
-counted p commands w =
-    let all = held_all p commands w in
+counted p commands history w =
+    let all = held_all p commands history w in
     ap (λ text. count_by ends_reply (whole_lines text)) all.is ∙ ap (count_by ends_reply) (whole_lines_are all.lines all.plain) ∙ all.many

@@ -4,9 +4,11 @@ use Rattle.std.specs.FinMap as map
 use Rattle.std.specs.List.{list_any, starts_with}
 use Rattle.wot_types.specs.Bytes.{is_word}
 use Rattle.wot_types.specs.Commands.{Command}
+use Rattle.wot_types.specs.EarlierStates.{earlier_state, with_edits}
 use Rattle.wot_types.specs.Keyring.{Keyring}
 use Rattle.wot_types.specs.Lines.{open_line, whole_lines}
 use Rattle.wot_types.specs.Outcome.{has_long_line}
+use Rattle.wot_types.specs.Store.{Store}
 use Rattle.wot_types.specs.WellFormed.{IsWellFormed}
 
 -- a reply ends at the first line that begins with `ok` or `err`
@@ -34,3 +36,12 @@ is_silent command = not (has_long_line command) && (length (unwrap_or command.wo
 -- each key is well formed, as in every keyring of the program
 abbrev pub AreWellFormed : Keyring → Type 0
 AreWellFormed keys = All (λ e. IsWellFormed e.1) (map.entries keys)
+
+-- so is each key of the states that a store had since its base
+abbrev pub WereWellFormed : Store → Type 0
+WereWellFormed s = (n : ℕ) → AreWellFormed (earlier_state s n).keys
+
+-- a store whose state came to be by its edits since the base, as in the program
+pub record HasHistory (s : Store) : Type 0 where
+  pub state : s.state ≡ with_edits s.base s.edits
+  pub earlier : WereWellFormed s

@@ -53,6 +53,8 @@ pub mod Store
 pub mod Compaction
 pub mod Supposing
 pub mod SupposingText
+pub mod StateAfter
+pub mod EarlierStates
 pub mod Outcome
 pub mod Session
 pub mod Soonest
