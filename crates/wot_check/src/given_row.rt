@@ -7,24 +7,9 @@ ghost use Rattle.wot_check.specs.Stored.{IsFaultAt, counted_row};
 
 use crate::fault::RowFault;
 use std::sync::ledger::Ledger;
-use wot_levels::{Asked, given, row_if};
+use wot_levels::{Asked, given_row};
 use wot_table::LentState;
 use wot_types::{KeyId, Mem, Row, Rows, Steps};
-
-/// The row that the stored rows give a key at a level.
-pub fn given_row<L: Ledger>(
-    state: &LentState<'_>,
-    rows: &Rows,
-    id: KeyId,
-    level: u8,
-    steps: &mut Steps<L>,
-    asked: &mut Asked,
-) -> Result<Option<Row>, Mem>
-    ensures { IfOk result (λ row. row ≡ given_row state.now rows.now level id) }
-{
-    let standing = given(state, rows, id, level, steps, asked);
-    row_if(id, level, &standing)
-}
 
 /// The row that the stored rows give a key, level by level.
 pub fn counted_row<L: Ledger>(

@@ -11,12 +11,11 @@ ghost use Rattle.wot_workers.specs.Pieces.{IsPieceSize};
 ghost use Rattle.wot_check.specs.KeyWalk.{IsWalk};
 ghost use Rattle.wot_check.specs.Recount.{IsFoundByPiece, IsSpread, fresh_row, fresh_rows, row_among};
 
-use crate::given_row::given_row;
 use std::alloc::{AllocError, Global};
 use std::marker::Brand;
 use std::sync::ledger::{Blank, Ledger};
 use std::thread::{Threads, map_chunks};
-use wot_levels::Asked;
+use wot_levels::{Asked, given_row};
 use wot_table::LentState;
 use wot_types::{KeyId, List, Mem, Row, Rows, Steps};
 use wot_workers::{Gate, Workers, piece_number, piece_size};

@@ -38,20 +38,10 @@ fn add_entry(list: Worklist, table: &Table, entry: &Entry) -> Result<Worklist, M
     ensures { IfOk result (λ new. (x : ℕ) → among new x ≡ (among list x || is_fpr_of entry.now.fpr (finmap.get table.now x))) }
 {
     let _ = table.totals(); // each key stands under its own key ID
-    let id = entry.fpr.key_id();
-    if has_fpr(table, id, &entry.fpr) {
-        return list.add(id);
+    if table.has_fpr(&entry.fpr) {
+        return list.add(entry.fpr.key_id());
     }
     Ok(list)
-}
-
-fn has_fpr(table: &Table, id: KeyId, fpr: &Fpr) -> bool
-    ensures { result ≡ is_fpr_of fpr.now (finmap.get table.now id) }
-{
-    match table.key(id) {
-        Some(key) => *key.fpr == *fpr,
-        None => false,
-    }
 }
 
 fn add_entries(list: Worklist, table: &Table, entries: &Entries) -> Result<Worklist, Mem>

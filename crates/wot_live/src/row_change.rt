@@ -10,7 +10,7 @@ ghost use Rattle.wot_live.specs.Recounting.{has_level, is_lower, recounted};
 
 use crate::same_row::{has_level, is_lower, is_the_row};
 use std::sync::ledger::Ledger;
-use wot_levels::{Asked, given, row_if};
+use wot_levels::{Asked, given_row};
 use wot_table::LentState;
 use wot_types::{KeyId, Mem, Row, Rows, Steps};
 
@@ -48,24 +48,6 @@ fn drop_row(rows: Rows, id: KeyId, level: u8) -> ChangedRow
         rows,
         changed: true,
     }
-}
-
-/// The row that a level gives a key.
-fn given_row<L: Ledger>(
-    state: &LentState<'_>,
-    rows: &Rows,
-    id: KeyId,
-    level: u8,
-    steps: &mut Steps<L>,
-    asked: &mut Asked,
-) -> Result<Option<Row>, Mem>
-    ensures row { IfOk result (λ row. row ≡ given_row state.now rows.now level id) }
-    ensures own { IfOk result (λ row. IfSome row (λ r. r.key ≡ id)) }
-    ensures ticks { steps.new ≤ steps.old + certs_at state.now.keys id }
-    ensures unread { level ≡ 0 → steps.new ≡ steps.old }
-{
-    let standing = given(state, rows, id, level, steps, asked);
-    row_if(id, level, &standing)
 }
 
 /// What a level gave a key takes the place of its row, which isn't of a lower level.

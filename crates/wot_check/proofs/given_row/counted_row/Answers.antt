@@ -12,9 +12,9 @@ pub returns-then-is_some : goal.returns-then-is_some
 returns-then-is_some g c =
     let s = c.args.state.now in
     let within : c.loop-level.level < s.options.depth = subst (λ (o : Options). c.loop-level.level < o.depth) c.options.ensures c.loop-level-test.true in
-    first_one s c.args.rows.now c.args.id c.loop-level.level c.args.state.now.options.depth c.in_ok-row.row c.loop-level.invariant within c.in_ok-row.ensures (sym c.is_some.ensures ∙ c.if-is_some.true)
+    first_one s c.args.rows.now c.args.id c.loop-level.level c.args.state.now.options.depth c.in_ok-row.row c.loop-level.invariant within c.in_ok-row.ensures.row (sym c.is_some.ensures ∙ c.if-is_some.true)
 
 pub loop-level-preserved : goal.loop-level-preserved
 loop-level-preserved g c =
     let s = c.args.state.now in
-    none_yet s c.args.rows.now c.args.id c.loop-level.level c.loop-level.invariant (ap is_some (sym c.in_ok-row.ensures) ∙ sym c.is_some.ensures ∙ c.if-is_some.false)
+    none_yet s c.args.rows.now c.args.id c.loop-level.level c.loop-level.invariant (ap is_some (sym c.in_ok-row.ensures.row) ∙ sym c.is_some.ensures ∙ c.if-is_some.false)
