@@ -14,3 +14,7 @@ pub mod Admitting
 pub mod Suffixes
 pub mod DomainTrees
 pub mod Domains
+pub mod Joins
+pub mod Meets
+pub mod SetLemmas
+pub mod Followings

@@ -1,5 +1,5 @@
 -- What is known of the states that texts come to: their cells, whether a match ends there, and where a byte leads.
-use Rattle.std.specs.Prelude.{◌≡◌, ℕ, ◌<◌, ◌≤◌, ◌==◌, Bool, true, false, List, [], length, get_or, replicate}
+use Rattle.std.specs.Prelude.{◌≡◌, ℕ, ◌<◌, ◌≤◌, ◌==◌, Bool, true, false, List, [], length, get_or, replicate, Some}
 use Rattle.wot_regex.specs.Gathering.{all_gathered, all_noted, all_spread, back_start}
 use Rattle.wot_regex.specs.Reaching.{exits, nowhere, top}
 use Rattle.wot_regex.specs.declared.known.State.{State}
@@ -16,8 +16,9 @@ moved_by nodes start cells b = (all_spread b nodes (all_noted (record { start = 
 
 pub record IsState (nodes : List Node) (start : Bool) (state : State) : Type 0 where
   pub whole : length state.cells.items ≡ length nodes
+  pub noted : state.noted.items ≡ all_noted (record { start = start; end = false }) nodes state.cells.items []
   pub inside : state.found ≡ found_at nodes start false state.cells.items
-  pub at_end : state.found_at_end ≡ found_at nodes start true state.cells.items
+  pub at_end : (found : Bool) → state.found_at_end ≡ Some found → found ≡ found_at nodes start true state.cells.items
 
 -- a byte leads from one state to another; the first state is the start of the text
 pub record IsMove (nodes : List Node) (states : List State) (from b to : ℕ) : Type 0 where

@@ -6,3 +6,4 @@ pub mod Cells
 pub mod TreeCode
 pub mod Searching
 pub mod Knowing
+pub mod Following

@@ -30,6 +30,12 @@ optional a = record { passes = true; ended = a.ended }
 abbrev pub reach_of : Place → (tree : Tree) → Marks tree → Reach
 reach_of place tree marks = record { passes = passes place.start place.end tree; ended = ended place.start place.end tree marks }
 
+-- by each part's two flags
+abbrev pub reaches : List Bool → List Bool → List Reach
+reaches [] ended = []
+reaches (p ∷ passes) [] = []
+reaches (p ∷ passes) (e ∷ ended) = record { passes = p; ended = e } ∷ reaches passes ended
+
 -- the last that was pushed, and the others
 abbrev pub top : List Reach → Reach
 top [] = nowhere

@@ -1,13 +1,13 @@
 //! What is known of the states that texts come to under an expression, so that each is worked out once.
 
-ghost use Rattle.std.specs.Prelude.{◌≡◌, ◌≤◌, ◌<◌, ℕ, length, get_or, true, IfOk};
+ghost use Rattle.std.specs.Prelude.{◌≡◌, ◌≤◌, ◌<◌, ◌==◌, ℕ, length, get_or, true, IfOk};
 ghost use Rattle.wot_types.specs.Scope.{matches_in};
 ghost use Rattle.wot_types.specs.Expression.{Tree};
 ghost use Rattle.wot_regex.specs.Knowing.{IsKnown, IsMove, IsState, found_at, moved_by};
 ghost use Rattle.wot_regex.specs.Table.{nodes_of};
 ghost use Rattle.wot_regex.specs.declared.known.State.{State};
 
-use crate::matching::{gather, search_rest, spread};
+use crate::matching::{gather, reach_at, search_rest, spread};
 use crate::node::Node;
 use crate::nodes::ROOM;
 use crate::reach::{Place, Reach};
@@ -18,14 +18,19 @@ use wot_types::Mem;
 const MOST_STATES: usize = 256;
 
 /// About so many bytes a state takes beside its cells: a move for each byte, and what stands around.
-const STATE_BYTES: usize = 320;
+const STATE_BYTES: usize = 360;
 
 /// The cells at a place of a text, and whether a match ends there, inside the text or at its end.
 #[derive(Drop)]
 pub struct State {
     pub cells: Vec<Reach>,
+    /// The same behind a walk from the symbols to the whole, which is where each byte moves on from.
+    pub noted: Vec<Reach>,
+    /// Tells most states apart at once.
+    pub print: u64,
     pub found: bool,
-    pub found_at_end: bool,
+    /// It is worked out when a text first ends there.
+    pub found_at_end: Option<bool>,
 }
 
 /// States, of which the first is the start of a text, and for each of them the state to which each byte leads, or 0 where it is not known.
@@ -43,7 +48,7 @@ impl Known {
         ensures { IfOk result (λ known. IsKnown nodes.now known.states.items known.moves.items) }
     {
         let cells = vec![in alloc; Reach::NONE; nodes.len()]?;
-        let state = state_of(nodes, cells, true);
+        let state = state_of(alloc, nodes, cells, true)?;
         let mut states = Vec::new(alloc);
         states.push(state)?;
         let mut moves = Vec::new(alloc);
@@ -57,7 +62,7 @@ impl Known {
 
     /// About how many bytes it takes.
     pub fn size(&self, nodes: &[Node]) -> usize {
-        let cells = nodes.len().saturating_mul(size_of::<Reach>());
+        let cells = nodes.len().saturating_mul(2 * size_of::<Reach>());
         self.states
             .len()
             .saturating_mul(cells.saturating_add(STATE_BYTES))
@@ -81,7 +86,27 @@ impl Known {
             }
             at = next;
         }
-        self.states[at].found_at_end
+        self.ends(nodes, at)
+    }
+
+    /// Whether a match ends at a state where the text ends.
+    fn ends(&mut self, nodes: &[Node], at: usize) -> bool
+        requires room { length nodes.now ≤ ROOM }
+        requires known { IsKnown nodes.now self.old.states.items self.old.moves.items }
+        requires there { at < length self.old.states.items }
+        ensures known { IsKnown nodes.now self.new.states.items self.new.moves.items }
+        ensures found { (d : State) → result ≡ found_at nodes.now (at == 0) true (get_or self.old.states.items at d).cells.items }
+    {
+        if let Some(found) = self.states[at].found_at_end {
+            return found;
+        }
+        let place = Place {
+            start: at == 0,
+            end: true,
+        };
+        let found = reach_at(nodes, &self.states[at].cells, place).exits(true);
+        self.states[at].found_at_end = Some(found);
+        found
     }
 
     /// The state to which a byte leads, and 0 where there is no room for it.
@@ -112,8 +137,8 @@ impl Known {
         ensures moves { IfOk result (λ to. 0 < to → IsMove nodes.now self.new.states.items at b to) }
     {
         let mut cells = Vec::new(self.alloc);
-        cells.extend_from_slice(&self.states[at].cells)?;
-        move_by(nodes, &mut cells, at == 0, b);
+        cells.extend_from_slice(&self.states[at].noted)?;
+        spread(nodes, &mut cells, b);
         let to = self.place(nodes, cells)?;
         self.note(nodes, at, b, to);
         Ok(to)
@@ -130,8 +155,9 @@ impl Known {
         ensures there { IfOk result (λ to. to < length self.new.states.items) }
         ensures placed { IfOk result (λ to. 0 < to → (d : State) → (get_or self.new.states.items to d).cells.items ≡ cells.items) }
     {
+        let print = print_of(&cells);
         for i in 1..self.states.len() {
-            if are_same(&self.states[i].cells, &cells) {
+            if is_of(&self.states[i], print, &cells) {
                 return Ok(i);
             }
         }
@@ -153,8 +179,8 @@ impl Known {
         ensures placed { IfOk result (λ to. (d : State) → (get_or self.new.states.items to d).cells.items ≡ cells.items) }
     {
         let to = self.states.len();
+        let state = state_of(self.alloc, nodes, cells, false)?;
         self.moves.push([0; 256])?;
-        let state = state_of(nodes, cells, false);
         self.states.push(state)?;
         Ok(to)
     }
@@ -173,19 +199,30 @@ impl Known {
 }
 
 /// A state that has the cells.
-fn state_of(nodes: &[Node], cells: Vec<Reach>, start: bool) -> State
+fn state_of(alloc: Global, nodes: &[Node], cells: Vec<Reach>, start: bool) -> Result<State, Mem>
     requires room { length nodes.now ≤ ROOM }
     requires whole { length cells.items ≡ length nodes.now }
-    ensures state { IsState nodes.now start result }
-    ensures cells { result.cells.items ≡ cells.items }
+    ensures state { IfOk result (λ state. IsState nodes.now start state) }
+    ensures cells { IfOk result (λ state. state.cells.items ≡ cells.items) }
 {
-    let found = is_found(nodes, &cells, Place { start, end: false });
-    let found_at_end = is_found(nodes, &cells, Place { start, end: true });
-    State {
+    let mut noted = Vec::new(alloc);
+    noted.extend_from_slice(&cells)?;
+    let found = gather(nodes, &mut noted, Place { start, end: false }).exits(true);
+    let print = print_of(&cells);
+    Ok(State {
         cells,
+        noted,
+        print,
         found,
-        found_at_end,
-    }
+        found_at_end: None,
+    })
+}
+
+/// Whether a state has the cells, whose print this is.
+fn is_of(state: &State, print: u64, cells: &[Reach]) -> bool
+    ensures { result ≡ true → state.now.cells.items ≡ cells.now }
+{
+    state.print == print && are_same(&state.cells, cells)
 }
 
 fn are_same(cells: &[Reach], others: &[Reach]) -> bool
@@ -194,23 +231,11 @@ fn are_same(cells: &[Reach], others: &[Reach]) -> bool
     cells == others
 }
 
-/// Whether a match ends at the place.
-fn is_found(nodes: &[Node], cells: &[Reach], place: Place) -> bool
-    requires room { length nodes.now ≤ ROOM }
-    requires whole { length cells.now ≡ length nodes.now }
-    ensures { result ≡ found_at nodes.now place.start place.end cells.now }
-{
-    let mut noted = [Reach::NONE; ROOM];
-    noted[..cells.len()].copy_from_slice(cells);
-    gather(nodes, &mut noted[..cells.len()], place).exits(true)
-}
-
-/// Moves the marks by a byte.
-fn move_by(nodes: &[Node], cells: &mut [Reach], start: bool, b: u8)
-    requires room { length nodes.now ≤ ROOM }
-    requires whole { length cells.old ≡ length nodes.now }
-    ensures { cells.new ≡ moved_by nodes.now start cells.old b }
-{
-    gather(nodes, cells, Place { start, end: false });
-    spread(nodes, cells, b);
+/// Other cells mostly have another print.
+fn print_of(cells: &[Reach]) -> u64 {
+    let mut print = 0u64;
+    for cell in cells {
+        print = print.rotate_left(1) ^ u64::from(cell.ended);
+    }
+    print
 }

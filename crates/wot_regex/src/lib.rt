@@ -4,6 +4,7 @@
 mod asked; // scopes that are asked of many user IDs
 mod expr; // expressions
 mod flags; // truth values, of which the last is taken back first
+mod followers; // where matches may go on
 mod known; // what is known of the states that texts come to
 mod laws; // laws of expressions
 mod matcher; // expressions for many texts
@@ -13,6 +14,7 @@ mod nodes; // expressions as tables
 mod reach; // what a part of an expression reaches at a place of the text
 mod reader; // reading an expression byte by byte
 mod scope; // whether a scope admits a text
+mod set; // sets of places of a table
 mod stack; // what parts reach, of which the last is taken back first
 
 pub use asked::Asked;

@@ -16,10 +16,15 @@ ghost use Rattle.wot_regex.specs.Reaching.{top};
 ghost use Rattle.wot_regex.specs.declared.reach.Reach.{Reach};
 
 use crate::expr::Expr;
+use crate::followers::search_long;
 use crate::node::Node;
 use crate::nodes::ROOM;
 use crate::reach::{Place, Reach};
+use crate::set::PLACES;
 use crate::stack::{DEPTH, Stack};
+
+/// From so many bytes on a text is searched by sets. To begin that takes as long as the walks take for some three hundred bytes.
+const LONG: usize = 512;
 
 /// Whether the expression matches somewhere in the text, by bytes and without regard to ASCII case.
 pub fn matches(expr: &Expr, text: &[u8]) -> bool
@@ -44,6 +49,18 @@ pub fn search_rest(nodes: &[Node], cells: &[Reach], start: bool, rest: &[u8]) ->
 
 /// The same; the cells move along.
 fn search(nodes: &[Node], cells: &mut [Reach], start: bool, rest: &[u8]) -> bool
+    requires same { length cells.old ≡ length nodes.now }
+    requires room { length nodes.now ≤ ROOM }
+    ensures { (tree : Tree) (found : Bool) → nodes.now ≡ nodes_of tree → Searching tree cells.old start rest.now found → result ≡ found }
+{
+    if nodes.len() <= PLACES && LONG <= rest.len() {
+        return search_long(nodes, cells, start, rest);
+    }
+    search_by_walks(nodes, cells, start, rest)
+}
+
+/// The same, by two walks for each byte.
+fn search_by_walks(nodes: &[Node], cells: &mut [Reach], start: bool, rest: &[u8]) -> bool
     requires same { length cells.old ≡ length nodes.now }
     requires room { length nodes.now ≤ ROOM }
     ensures { (tree : Tree) (found : Bool) → nodes.now ≡ nodes_of tree → Searching tree cells.old start rest.now found → result ≡ found }
@@ -74,6 +91,21 @@ pub fn gather(nodes: &[Node], cells: &mut [Reach], place: Place) -> Reach
     stack.pop()
 }
 
+/// What the whole reaches at a place.
+pub fn reach_at(nodes: &[Node], cells: &[Reach], place: Place) -> Reach
+    requires same { length cells.now ≡ length nodes.now }
+    requires room { length nodes.now ≤ ROOM }
+    ensures { result ≡ top (all_gathered place nodes.now cells.now []) }
+{
+    let mut stack = Stack::new();
+    for (i, node) in nodes.iter().enumerate() {
+        gather_one(*node, cells[i], place, &mut stack);
+    }
+    stack.pop()
+}
+
+#[inline(always)]
+#[inline(always)]
 fn gather_one(node: Node, cell: Reach, place: Place, stack: &mut Stack) -> Reach
     requires { length stack.old < DEPTH }
     ensures cell { result ≡ noted node cell stack.old }
@@ -87,28 +119,28 @@ fn gather_one(node: Node, cell: Reach, place: Place, stack: &mut Stack) -> Reach
         Node::Member { .. } => {}
         Node::Followed => {
             let next = stack.pop();
-            let first = stack.pop();
-            stack.push(first.followed(next));
+            let first = stack.last();
+            stack.replace(first.followed(next));
             return first;
         }
         Node::Either => {
             let other = stack.pop();
-            let one = stack.pop();
-            stack.push(one.either(other));
+            let one = stack.last();
+            stack.replace(one.either(other));
         }
         Node::AnyNumber => {
-            let part = stack.pop();
-            stack.push(part.optional());
+            let part = stack.last();
+            stack.replace(part.optional());
             return part;
         }
         Node::AtLeastOne => {
-            let part = stack.pop();
-            stack.push(part);
+            let part = stack.last();
+            stack.replace(part);
             return part;
         }
         Node::AtMostOne => {
-            let part = stack.pop();
-            stack.push(part.optional());
+            let part = stack.last();
+            stack.replace(part.optional());
         }
     }
     cell
@@ -128,6 +160,7 @@ pub fn spread(nodes: &[Node], cells: &mut [Reach], b: u8)
     }
 }
 
+#[inline(always)]
 fn spread_one(node: Node, cell: Reach, b: u8, entries: &mut Stack, member: &mut bool) -> Reach
     requires { length entries.old + 1 < DEPTH }
     ensures { (cells : List Reach) → back_at entries.new member.new (result ∷ cells) ≡ spread_by b node cell (back_at entries.old member.old cells) }
@@ -136,28 +169,39 @@ fn spread_one(node: Node, cell: Reach, b: u8, entries: &mut Stack, member: &mut 
         *member = *member || is_between(first, last, b);
         return Reach::NONE;
     }
-    let entry = entries.pop().ended;
+    let entry = entries.last().ended;
     match node {
-        Node::Any => return Reach::marked(entry),
-        Node::Byte(a) => return Reach::marked(entry && a.eq_ignore_ascii_case(&b)),
+        Node::Followed => {
+            entries.replace(Reach::marked(entry));
+            entries.push(Reach::marked(cell.exits(entry)));
+            return Reach::NONE;
+        }
+        Node::Either => {
+            entries.replace(Reach::marked(entry));
+            entries.push(Reach::marked(entry));
+            return Reach::NONE;
+        }
+        Node::AnyNumber | Node::AtLeastOne => {
+            entries.replace(Reach::marked(entry || cell.ended));
+            return Reach::NONE;
+        }
+        Node::AtMostOne => {
+            entries.replace(Reach::marked(entry));
+            return Reach::NONE;
+        }
+        _ => {}
+    }
+    entries.pop();
+    match node {
+        Node::Any => Reach::marked(entry),
+        Node::Byte(a) => Reach::marked(entry && a.eq_ignore_ascii_case(&b)),
         Node::Range { negated } => {
             let taken = *member != negated;
             *member = false;
-            return Reach::marked(entry && taken);
+            Reach::marked(entry && taken)
         }
-        Node::Followed => {
-            entries.push(Reach::marked(entry));
-            entries.push(Reach::marked(cell.exits(entry)));
-        }
-        Node::Either => {
-            entries.push(Reach::marked(entry));
-            entries.push(Reach::marked(entry));
-        }
-        Node::AnyNumber | Node::AtLeastOne => entries.push(Reach::marked(entry || cell.ended)),
-        Node::AtMostOne => entries.push(Reach::marked(entry)),
-        Node::Nothing | Node::Start | Node::End | Node::Member { .. } => {}
+        _ => Reach::NONE,
     }
-    Reach::NONE
 }
 
 /// Whether a member of a range has the byte or its other case.

@@ -23,6 +23,11 @@ impl Reach {
         ended: false,
     };
 
+    pub const EVERYWHERE: Reach = Reach {
+        passes: true,
+        ended: true,
+    };
+
     pub fn passing(passes: bool) -> Reach
         ensures { result ≡ passing passes }
     {
@@ -45,15 +50,15 @@ impl Reach {
     pub fn exits(self, entry: bool) -> bool
         ensures { result ≡ exits self entry }
     {
-        entry && self.passes || self.ended
+        entry & self.passes | self.ended
     }
 
     pub fn followed(self, next: Reach) -> Reach
         ensures { result ≡ one_after_another self next }
     {
         Reach {
-            passes: self.passes && next.passes,
-            ended: next.ended || self.ended && next.passes,
+            passes: self.passes & next.passes,
+            ended: next.ended | self.ended & next.passes,
         }
     }
 
@@ -61,8 +66,8 @@ impl Reach {
         ensures { result ≡ one_or_another self other }
     {
         Reach {
-            passes: self.passes || other.passes,
-            ended: self.ended || other.ended,
+            passes: self.passes | other.passes,
+            ended: self.ended | other.ended,
         }
     }
 

@@ -10,9 +10,11 @@ use std::marker::Model;
 /// As many as a walk over a table may need, which takes back one and adds two at each part.
 pub const DEPTH: usize = ROOM + 2;
 
+/// Each flag has an array of its own: one that was just written is read back at once, where a read of two that were written apart waits for both.
 #[derive(Drop)]
 pub struct Stack {
-    items: [Reach; DEPTH],
+    passes: [bool; DEPTH],
+    ended: [bool; DEPTH],
     len: usize,
 }
 
@@ -23,7 +25,9 @@ impl Model for Stack {
 
     ghost Value = { List Reach };
 
-    ghost view = { λ s. reverse (take s.len s.items) };
+    ghost use Rattle.wot_regex.specs.Reaching.{reaches};
+
+    ghost view = { λ s. reverse (reaches (take s.len s.passes) (take s.len s.ended)) };
 
     ghost invariant = { λ s. s.len ≤ DEPTH };
 }
@@ -33,7 +37,8 @@ impl Stack {
         ensures { result ≡ [] }
     {
         Stack {
-            items: [Reach::NONE; DEPTH],
+            passes: [false; DEPTH],
+            ended: [false; DEPTH],
             len: 0,
         }
     }
@@ -42,8 +47,34 @@ impl Stack {
         requires { length self.old < DEPTH }
         ensures { self.new ≡ reach ∷ self.old }
     {
-        self.items[self.len] = reach;
+        self.passes[self.len] = reach.passes;
+        self.ended[self.len] = reach.ended;
         self.len += 1;
+    }
+
+    /// The last one, which stays; of an empty stack what reaches nothing.
+    pub fn last(&self) -> Reach
+        ensures { result ≡ top self.now }
+    {
+        if self.len == 0 {
+            return Reach::NONE;
+        }
+        Reach {
+            passes: self.passes[self.len - 1],
+            ended: self.ended[self.len - 1],
+        }
+    }
+
+    /// Puts one in place of the last.
+    pub fn replace(&mut self, reach: Reach)
+        ensures { self.new ≡ reach ∷ below self.old }
+    {
+        if self.len == 0 {
+            self.push(reach);
+            return;
+        }
+        self.passes[self.len - 1] = reach.passes;
+        self.ended[self.len - 1] = reach.ended;
     }
 
     /// The last one; from an empty stack what reaches nothing.
@@ -55,6 +86,9 @@ impl Stack {
             return Reach::NONE;
         }
         self.len -= 1;
-        self.items[self.len]
+        Reach {
+            passes: self.passes[self.len],
+            ended: self.ended[self.len],
+        }
     }
 }

@@ -18,4 +18,4 @@ returns-clause-known c =
     let row = subst Q (sym c.in_ok-push.ensures.items) (row_added _ _ _ c.requires.known) in
     let rows : length c.args.self.now.states.items < length c.push.new.self.items =
     omega (arith, c.requires.known.rows, ap length c.in_ok-push.ensures.items, length-append c.args.self.now.moves.items (replicate 256 0 ∷ [])) in
-    subst P (sym c.in_ok-push-2.ensures.items) (state_added _ _ _ _ row c.requires.few rows c.state_of-state.ensures.state)
+    subst P (sym c.in_ok-push-2.ensures.items) (state_added _ _ _ _ row c.requires.few rows c.in_ok-state.ensures.state)

@@ -5,7 +5,7 @@ use Rattle.wot_regex.specs.Knowing.{moved_by}
 use Rattle.wot_regex.specs.declared.reach.Reach.{Reach}
 use Rattle.wot_regex.specs.Searching.{Searching}
 use Rattle.wot_regex.specs.declared.known.State.{State}
-use Rattle.wot_regex.proofs.Knowns.{opened, found_in_state, on_from_state, end_in_state}
+use Rattle.wot_regex.proofs.Knowns.{one_of, opened, found_in_state, on_from_state, end_in_state}
 use Rattle.wot_regex.proofs.known.Known.matches.Goals as goal
 
 pub loop-i-init : goal.loop-i-init
@@ -53,8 +53,8 @@ loop-i-preserved c =
 
 pub returns-clause-found : goal.returns-clause-found
 returns-clause-found c = λ tree is.
-    let d = c.index-2.result.now in
     let invariant = c.loop-i.invariant in
+    let d = one_of c.loop-i.self.states.items c.loop-i.at invariant.there in
     let le : length c.args.text.now ≤ c.loop-i.i = omega (arith, c.loop-i-test.false) in
-    ap (λ (s : State). s.found_at_end) c.index-2.ensures
+    c.ends.ensures.found d
     ∙ end_in_state tree c.args.nodes.now (get_or c.loop-i.self.states.items c.loop-i.at d) (c.loop-i.at == 0) c.args.text.now c.loop-i.i (matches_in tree c.args.text.now) is (invariant.known.each_state c.loop-i.at d invariant.there) (invariant.rest tree d is) le

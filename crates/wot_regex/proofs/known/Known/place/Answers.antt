@@ -3,10 +3,9 @@ use Rattle.std.proofs.lemmas.List.{get_or_default}
 use Rattle.wot_regex.specs.declared.known.State.{State}
 use Rattle.wot_regex.proofs.known.Known.place.Goals as goal
 
-pub returns-then-are_same-clause-placed : goal.returns-then-are_same-clause-placed
-returns-then-are_same-clause-placed c = λ h d.
+pub returns-then-is_of-clause-placed : goal.returns-then-is_of-clause-placed
+returns-then-is_of-clause-placed c = λ h d.
     let lt : c.loop-i.i < length c.args.self.now.states.items = search rules in
     ap (λ (s : State). s.cells.items) (sym (c.index.ensures ∙ get_or_default c.args.self.now.states.items c.loop-i.i _ d lt))
-    ∙ sym c.deref.ensures.value
-    ∙ c.are_same.ensures c.if-are_same.true
+    ∙ c.is_of.ensures c.if-is_of.true
     ∙ c.deref-in-loop-i.ensures.value

@@ -2,7 +2,7 @@ use Rattle.std.proofs.Common.{◌≡◌, drop, Bool}
 use Rattle.wot_types.specs.Expression.{Tree}
 use Rattle.wot_regex.specs.Searching.{Searching}
 use Rattle.wot_regex.specs.Table.{nodes_of}
-use Rattle.wot_regex.proofs.matching.search.Given as goal
+use Rattle.wot_regex.proofs.matching.search_by_walks.Given as goal
 
 -- the rest decides
 abbrev pub invariant-loop-b : goal.invariant-loop-b

@@ -1,6 +1,6 @@
 use Rattle.std.proofs.Common.{◌+◌, ◌<◌, ◌≤◌, drop, get_or, length, sym, ◌∙◌, arith}
 use Rattle.wot_regex.proofs.Searches.{at_byte, at_text_end, found_at_end, found_here, search_on}
-use Rattle.wot_regex.proofs.matching.search.Goals as goal
+use Rattle.wot_regex.proofs.matching.search_by_walks.Goals as goal
 
 pub loop-b-init : goal.loop-b-init
 loop-b-init c = λ tree found nodes searching. searching
