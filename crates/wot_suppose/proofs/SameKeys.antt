@@ -2,7 +2,7 @@
 use Rattle.std.proofs.Common.{◌≡◌, refl}
 use Rattle.wot_types.specs.declared.edit.Edit.{Edit}
 use Rattle.wot_types.specs.declared.edit.Edit.TheVariants.{Import, Ownertrust, Set, Flag, Delete, Date, Options, Sample}
-use Rattle.wot_types.specs.Outcome.{state_after}
+use Rattle.wot_types.specs.StateAfter.{state_after}
 use Rattle.wot_types.specs.State.{State}
 use Rattle.wot_types.specs.Supposing.{IsSupposable}
 

@@ -1,1 +1,2 @@
+pub mod Introducing
 pub mod Trials

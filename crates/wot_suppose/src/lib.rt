@@ -6,6 +6,7 @@ mod letters; // the letters of all user IDs
 mod losses; // the entries on which a letter hangs
 mod supposing; // what an edit would change
 mod trial; // edits that are taken back
+mod tried; // the engine without one entry after the other
 
 pub use losses::critical;
 pub use supposing::suppose;

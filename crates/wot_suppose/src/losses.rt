@@ -1,17 +1,20 @@
 //! The entries on which a letter hangs.
 
-ghost use Rattle.std.specs.Prelude.{◌≡◌, ◌++◌, IfOk, OnOk, option_to_list};
-ghost use Rattle.wot_types.specs.Letters.{letter_at};
-ghost use Rattle.wot_types.specs.Supposing.{critical, if_worse, trusted_fprs, without_trust};
+ghost use Rattle.std.specs.Prelude.{◌≡◌, ℕ, IfOk};
+ghost use Rattle.std.specs.FinMap as map;
+ghost use Rattle.std.specs.List.{filter_map};
+ghost use Rattle.wot_types.specs.Supposing.{critical, if_worse, loss_by};
+ghost use Rattle.wot_suppose.specs.Introducing.{if_introducing};
 
-use crate::trial::{Trial, trust_trial};
+use crate::tried::Tried;
 use std::alloc::Global;
 use std::sync::ledger::Ledger;
 use wot_live::{Engine, letter_rank};
-use wot_types::{Fpr, KeyId, Letter, Loss, Losses, Mem, Steps, Trust, Trusts};
+use wot_types::{Fpr, KeyId, Letter, Loss, Losses, Mem, Rows, Steps, Trust, Trusts};
 
-/// The entries without whose ownertrust the letter of a user ID, numbered from 0, is further back, each with that letter. Every entry is tried
-/// on its own. The engine that is handed back has the same state; it is gone after want of memory.
+/// The entries without whose ownertrust the letter of a user ID, numbered from 0, is further back, each with that letter. Every entry whose
+/// key ID has a row is tried on its own; without any other no letter changes. The engine that is handed back has the same state; it is gone
+/// after want of memory.
 pub fn critical<L: Ledger>(
     engine: Engine,
     id: KeyId,
@@ -23,49 +26,40 @@ pub fn critical<L: Ledger>(
 {
     let alloc = engine.table().alloc();
     let letter = engine.letter(id, user);
-    let mut left = trusted_fprs(alloc, engine.trusts())?;
+    let mut left = tried_fprs(&engine)?;
     left.reverse();
-    let mut engine = engine;
+    let mut tried = Tried::nothing(engine);
     let mut losses = Losses::new(alloc);
     while let Some(fpr) = left.pop() {
-        let (same, without) = letter_without(engine, &fpr, id, user, steps)?;
-        engine = same;
-        if let Some(letter) = if_worse(letter, without) {
+        tried = tried.without(&fpr, steps)?;
+        if let Some(letter) = if_worse(letter, tried.engine.letter(id, user)) {
             losses.push(Loss { fpr, letter })?;
         }
     }
-    Ok((engine, losses))
+    Ok((tried.taken_back(steps)?, losses))
 }
 
-/// The fingerprints of the entries whose ownertrust is known, in rising order.
-fn trusted_fprs(alloc: Global, trusts: &Trusts) -> Result<Vec<Fpr>, Mem>
-    ensures { IfOk result (λ fprs. fprs.items ≡ trusted_fprs trusts.now) }
+/// The fingerprints of the entries that are tried, in rising order. Without the ownertrust of a key that has no row no letter changes: whether
+/// a key gets a row hangs on its certifications, and its ownertrust tells only what the row is worth.
+fn tried_fprs(engine: &Engine) -> Result<Vec<Fpr>, Mem>
+    ensures { IfOk result (λ fprs. (id user : ℕ) → filter_map (loss_by engine.now id user) fprs.items ≡ critical engine.now id user) }
+{
+    let table = engine.table();
+    let _ = table.totals(); // each key stands under its own key ID
+    introducing_fprs(table.alloc(), engine.trusts(), engine.rows())
+}
+
+/// The fingerprints of the entries whose ownertrust is known and whose key ID has a row, in rising order.
+fn introducing_fprs(alloc: Global, trusts: &Trusts, rows: &Rows) -> Result<Vec<Fpr>, Mem>
+    ensures { IfOk result (λ fprs. fprs.items ≡ filter_map (if_introducing rows.now) (map.entries trusts.now)) }
 {
     let mut fprs = Vec::new(alloc);
     for (fpr, kept) in trusts.iter() {
-        if kept.trust != Trust::Unknown {
+        if kept.trust != Trust::Unknown && rows.get(fpr.key_id()).is_some() {
             fprs.push(fpr.clone()?)?;
         }
     }
     Ok(fprs)
-}
-
-/// The letter of a user ID without the ownertrust of a fingerprint, which is set again.
-fn letter_without<L: Ledger>(
-    engine: Engine,
-    fpr: &Fpr,
-    id: KeyId,
-    user: u32,
-    steps: &mut Steps<L>,
-) -> Result<(Engine, Option<Letter>), Mem>
-    ensures state { IfOk result (λ r. r.0 ≡ engine) }
-    ensures letter { IfOk result (λ r. r.1 ≡ letter_at (without_trust engine fpr.now) id user) }
-{
-    let Trial { edit, back } = trust_trial(&engine, fpr, Trust::Unknown)?;
-    let without = engine.make(edit, steps)?;
-    let letter = without.letter(id, user);
-    let engine = without.make(back, steps)?;
-    Ok((engine, letter))
 }
 
 /// The new letter, where it is further back than the old one.

@@ -1,7 +1,7 @@
 //! What an edit would change.
 
 ghost use Rattle.std.specs.Prelude.{◌≡◌, IfOk};
-ghost use Rattle.wot_types.specs.Outcome.{state_after};
+ghost use Rattle.wot_types.specs.StateAfter.{state_after};
 ghost use Rattle.wot_types.specs.Payload.{IsProper};
 ghost use Rattle.wot_types.specs.Supposing.{IsSupposable, changes};
 

@@ -1,7 +1,7 @@
 //! Edits of the engine that are taken back.
 
 ghost use Rattle.std.specs.Prelude.{◌≡◌, IfOk};
-ghost use Rattle.wot_types.specs.Outcome.{state_after};
+ghost use Rattle.wot_types.specs.StateAfter.{state_after};
 ghost use Rattle.wot_types.specs.Ownertrust.{with_ownertrust, with_trust};
 ghost use Rattle.wot_types.specs.Payload.{IsInRange, IsProper};
 ghost use Rattle.wot_types.specs.State.{State};
@@ -11,7 +11,7 @@ ghost use Rattle.wot_suppose.specs.Trials.{IsTakenBack};
 
 use std::alloc::Global;
 use wot_live::{Engine, PlainEdit};
-use wot_types::{Edit, Entries, Entry, Fpr, Keys, Mem, Options, Ownertrust, Trust};
+use wot_types::{Edit, Entries, Entry, Fpr, Keys, Mem, Options, Ownertrust, Trust, Trusts};
 
 /// An edit, and the one that takes it back.
 #[derive(Drop)]
@@ -28,7 +28,7 @@ pub fn trial_of(engine: &Engine, edit: Edit) -> Result<Trial, Mem>
     ensures after { IfOk result (λ trial. after_plain engine.now trial.edit ≡ state_after engine.now edit) }
 {
     match edit {
-        Edit::Set(fpr, trust) => trust_trial(engine, &fpr, trust),
+        Edit::Set(fpr, trust) => trust_trial(engine.table().alloc(), engine.trusts(), &fpr, trust),
         Edit::Date(date) => Ok(date_trial(engine, date)),
         Edit::Options(options) => Ok(options_trial(engine, options)),
         other => {
@@ -38,13 +38,12 @@ pub fn trial_of(engine: &Engine, edit: Edit) -> Result<Trial, Mem>
     }
 }
 
-/// The trust of a fingerprint; its disabled flag stays.
-pub fn trust_trial(engine: &Engine, fpr: &Fpr, trust: Trust) -> Result<Trial, Mem>
-    ensures back { IfOk result (IsTakenBack engine.now) }
-    ensures after { IfOk result (λ trial. after_plain engine.now trial.edit ≡ record engine.now { trusts = with_trust engine.now.trusts fpr.now trust }) }
+/// The trust of a fingerprint, in a state with this ownertrust; its disabled flag stays.
+pub fn trust_trial(alloc: Global, trusts: &Trusts, fpr: &Fpr, trust: Trust) -> Result<Trial, Mem>
+    ensures back { IfOk result (λ trial. (s : State) → s.trusts ≡ trusts.now → IsTakenBack s trial) }
+    ensures after { IfOk result (λ trial. (s : State) → s.trusts ≡ trusts.now → after_plain s trial.edit ≡ record s { trusts = with_trust s.trusts fpr.now trust }) }
 {
-    let alloc = engine.table().alloc();
-    let former = engine.trusts().former(fpr);
+    let former = trusts.former(fpr);
     let edit = entry_edit(alloc, fpr, Ownertrust { trust, ..former })?;
     let back = entry_edit(alloc, fpr, former)?;
     Ok(Trial { edit, back })
