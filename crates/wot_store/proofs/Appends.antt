@@ -1,11 +1,14 @@
 -- What the images of a commit show.
 use Rattle.std.proofs.Common.{◌≡◌, ◌⊎◌, inl, inr, ℕ, ◌+◌, ◌<◌, ◌≤◌, List, [], ◌∷◌, ◌++◌, length, get_or, take, drop, refl, sym, ◌∙◌, ap, subst, arith, None, Some}
-use Rattle.std.proofs.lemmas.List.{take-append-drop, drop-drop, length-drop, drop-take, take_at, drop_at, take-take, length-take-le, get_or-drop}
+use Rattle.std.proofs.lemmas.List.{take-append-drop, drop-drop, length-drop, length-map, drop-take, length_push, map-append, take_at, drop_at, take-take, length-take-le, get_or-drop}
 use Rattle.wot_types.specs.declared.edit.Edit.{Edit}
 use Rattle.wot_types.specs.State.{State}
-use Rattle.wot_types.specs.Outcome.{refusal_of, state_after, edited_store}
+use Rattle.wot_types.specs.Outcome.{refusal_of, edited_store}
+use Rattle.wot_types.specs.StateAfter.{state_after}
 use Rattle.wot_types.specs.declared.cert.Form.TheVariants.{WithFpr}
+use Rattle.wot_types.specs.Numbers.{capped}
 use Rattle.wot_types.specs.Payload.{IsWritten, payload}
+use Rattle.wot_types.proofs.Capped.{capped_is}
 use Rattle.wot_site.specs.Disk.{Image, disk_of, reads_of}
 use Rattle.wot_site.specs.Seen.{Seen}
 use Rattle.wot_site.specs.Work.{Works}
@@ -28,7 +31,7 @@ use Rattle.wot_store.specs.Changing.{IsStoredAfter, ShowsEither}
 use Rattle.wot_store.proofs.Headers.{IsWhole, base_whole, header_front, shown_header, whole_base}
 use Rattle.wot_pages.proofs.Held.{same_contents, same_fault}
 use Rattle.wot_store.proofs.Pairs.{IsShown, base_here, image_on, reads_bytes, replaced, shown_kept, shows_here}
-use Rattle.wot_store.proofs.Replaying.{reaches_more, length_record}
+use Rattle.wot_store.proofs.Replaying.{few_edits, reaches_more, length_record}
 
 -- an edit with the payload that is written of it
 abbrev written : Edit → Recorded
@@ -81,20 +84,19 @@ module _ (side : Side) (bytes : List ℕ) (header : Header) (is : header_of byte
       sealed = same_fault header.pages bytes c base_front header.epoch ∙ whole.sealed;
     })
 
-    pub still_base : IsBaseOf (contents_of header.pages c) shows.base
-    still_base = subst (λ (l : List ℕ). IsBaseOf l shows.base) (sym (same_contents header.pages bytes c base_front)) shows.is_base
+    pub still_base : IsBaseOf (contents_of header.pages c) shown.base
+    still_base = subst (λ (l : List ℕ). IsBaseOf l shown.base) (sym (same_contents header.pages bytes c base_front)) shows.is_base
 
-    pub still_reaches : Reaches c (page_place header.pages) shows.base shows.journal.edits shown.end shown.state
-    still_reaches = reaches_front bytes c (page_place header.pages) shows.base shows.journal.edits shown.end shown.state front within shows.journal.reaches
+    pub still_reaches : Reaches c (page_place header.pages) shown.base shows.journal.recorded shown.end shown.state
+    still_reaches = reaches_front bytes c (page_place header.pages) shown.base shows.journal.recorded shown.end shown.state front within shows.journal.reaches
 
   -- the journal as it was
   pub still_shows : (c : List ℕ) → IsUnchanged bytes shown.end c → ShowsBase side c header shown
   still_shows c same = record {
     sound = still_sound c same.front same.gate.within;
     epoch = shows.epoch;
-    base = shows.base;
     is_base = still_base c same.front same.gate.within;
-    journal = record { edits = shows.journal.edits; reaches = still_reaches c same.front same.gate.within; gate = same.gate };
+    journal = record { recorded = shows.journal.recorded; are = shows.journal.are; reaches = still_reaches c same.front same.gate.within; gate = same.gate };
   }
 
   -- with one more record
@@ -154,10 +156,11 @@ module _ (side : Side) (bytes : List ℕ) (header : Header) (is : header_of byte
     end_is : shown.end + length (payload edit) + 5 ≡ shown.end + 5 + length (payload edit)
     end_is = omega arith
 
-    longer_journal : Ends (with_record bytes shown.end (payload edit)) (page_place header.pages) shows.base (state_after shown.state edit) (shown.end + length (payload edit) + 5)
+    longer_journal : Ends (with_record bytes shown.end (payload edit)) (page_place header.pages) shown.base (shown.edits ++ edit ∷ []) (state_after shown.state edit) (shown.end + length (payload edit) + 5)
     longer_journal = record {
-      edits = shows.journal.edits ++ written edit ∷ [];
-      reaches = reaches_more (with_record bytes shown.end (payload edit)) (page_place header.pages) shows.base shows.journal.edits shown.end shown.state (written edit) (shown.end + length (payload edit) + 5) (state_after shown.state edit)
+      recorded = shows.journal.recorded ++ written edit ∷ [];
+      are = ap (λ (l : List Edit). l ++ edit ∷ []) shows.journal.are ∙ sym (map-append (λ (r : Recorded). r.edit) shows.journal.recorded (written edit ∷ []));
+      reaches = reaches_more (with_record bytes shown.end (payload edit)) (page_place header.pages) shown.base shows.journal.recorded shown.end shown.state (written edit) (shown.end + length (payload edit) + 5) (state_after shown.state edit)
           (still_reaches (with_record bytes shown.end (payload edit)) (front_record (payload edit) room) (omega (arith, within_record (payload edit) room))) (has_record (payload edit) room) (WithFpr, spelled) accepted;
       gate = closed_record (payload edit) room;
     }
@@ -175,9 +178,8 @@ module _ (side : Side) (bytes : List ℕ) (header : Header) (is : header_of byte
     more_shows = record {
       sound = still_sound (with_record bytes shown.end (payload edit)) more_front more_within;
       epoch = shows.epoch;
-      base = shows.base;
       is_base = still_base (with_record bytes shown.end (payload edit)) more_front more_within;
-      journal = subst (λ (n : ℕ). Ends (with_record bytes shown.end (payload edit)) (page_place header.pages) shows.base (state_after shown.state edit) n) end_is longer_journal;
+      journal = subst (λ (n : ℕ). Ends (with_record bytes shown.end (payload edit)) (page_place header.pages) shown.base (shown.edits ++ edit ∷ []) (state_after shown.state edit) n) end_is longer_journal;
     }
 
 -- appending, from what commits
@@ -191,6 +193,9 @@ module _ (place : Place) (built : Framed) (shown : Store) (edit : Edit) (is_reco
 
   base : ShowsBase place.side (bytes_of place.side (reads_of x.disks)) stored.header shown
   base = base_here (reads_of x.disks) place.side stored.header shown stored.side stored.shows
+
+  many : length shown.edits ≡ length base.journal.recorded
+  many = ap length base.journal.are ∙ length-map base.journal.recorded (λ (r : Recorded). r.edit)
 
   abbrev pub recorded : List ℕ
   recorded = with_record (bytes_of place.side (reads_of x.disks)) built.end built.payload
@@ -245,6 +250,9 @@ module _ (place : Place) (built : Framed) (shown : Store) (edit : Edit) (is_reco
         side = (shown_kept (reads_of x.disks) (reads_of y.disks) place.side stored.header here (ap (λ (l : List ℕ). header_of l) whole ∙ recorded_header) now.other).is_side;
         epoch = stored.epoch;
         end = omega (arith, is_record.place, ap (λ (l : List ℕ). length l) is_record.spells.is);
+        pages = stored.pages;
+        records = ap (λ (n : ℕ). capped (n + 1)) stored.records
+            ∙ capped_is (length shown.edits + 1) (omega (arith, many, few_edits base.journal.recorded, base.journal.reaches.place, base.journal.reaches.bound)) ∙ sym (length_push shown.edits edit);
         shows = recorded_image (reads_of y.disks) now.other whole;
         closed = stored.closed ∙ ap (λ (l : List ℕ). has_closed_gate l) (sym now.other);
         settled = now.settled;

@@ -1,10 +1,10 @@
 -- What the images of a compaction show.
-use Rattle.std.proofs.Common.{◌≡◌, ◌⊎◌, inl, inr, ⊎_elim, ℕ, ◌+◌, ◌^◌, ◌<◌, true, false, List, length, refl, sym, ◌∙◌, ap, subst, arith, Option, None, Some}
+use Rattle.std.proofs.Common.{◌≡◌, ◌⊎◌, inl, inr, ⊎_elim, ℕ, ◌+◌, ◌^◌, ◌<◌, true, false, List, [], length, refl, sym, ◌∙◌, ap, subst, arith, Option, None, Some}
 use Rattle.std.specs.Prelude.{◌==◌, nat_eq, if◌then◌else◌}
 use Rattle.std.proofs.lemmas.Bool.Decides.{nat_tests}
 use Rattle.wot_types.specs.State.{State}
 use Rattle.wot_types.specs.Store.{Store}
-use Rattle.wot_types.specs.Compaction.{base_end, compacted_end, compacted_store, image_length, last_epoch, next_epoch}
+use Rattle.wot_types.specs.Compaction.{base_end, compacted_base, compacted_edits, compacted_end, compacted_store, image_length, last_epoch, next_epoch}
 use Rattle.wot_store.specs.Base.{IsBaseOf}
 use Rattle.wot_site.specs.Disk.{Disks, Image, IsImageOf, disk_of, reads_of}
 use Rattle.wot_site.specs.Seen.{Honestly, IfHonest, Seen}
@@ -30,15 +30,27 @@ twice Zero = refl
 twice One = refl
 
 -- the compacted store, before the last epoch and in it
-compacted_before : (s : Store) → nat_eq s.epoch last_epoch ≡ false → compacted_store s ≡ record { state = s.state; epoch = s.epoch + 1; end = base_end s.state }
-unfolding next_epoch compacted_end
-compacted_before s not_yet = λ i. record { state = s.state; epoch = if not_yet i then s.epoch else s.epoch + 1; end = if not_yet i then s.end else base_end s.state }
+compacted_before : (s : Store) → nat_eq s.epoch last_epoch ≡ false → compacted_store s ≡ record { state = s.state; epoch = s.epoch + 1; end = base_end s.state; base = s.state; edits = [] }
+unfolding next_epoch compacted_end compacted_base compacted_edits
+compacted_before s not_yet = λ i. record {
+  state = s.state;
+  epoch = if not_yet i then s.epoch else s.epoch + 1;
+  end = if not_yet i then s.end else base_end s.state;
+  base = if not_yet i then s.base else s.state;
+  edits = if not_yet i then s.edits else [];
+}
 
 compacted_last : (s : Store) → s.epoch ≡ last_epoch → compacted_store s ≡ s
-unfolding next_epoch compacted_end
+unfolding next_epoch compacted_end compacted_base compacted_edits
 compacted_last s last =
     let same : nat_eq s.epoch last_epoch ≡ true = ap (λ (n : ℕ). nat_eq n last_epoch) last in
-    λ i. record { state = s.state; epoch = if same i then s.epoch else s.epoch + 1; end = if same i then s.end else base_end s.state }
+    λ i. record {
+      state = s.state;
+      epoch = if same i then s.epoch else s.epoch + 1;
+      end = if same i then s.end else base_end s.state;
+      base = if same i then s.base else s.state;
+      edits = if same i then s.edits else [];
+    }
 
 -- nothing was done
 pub unmoved : (place : Place) (shown : Store) (x : Seen) → IsStored place shown x.disks → ShowsEither shown shown x x
@@ -52,7 +64,7 @@ still_stored place shown after (Some x) stored = works_weaker _ _ x x (λ d show
 module _ (place : Place) (shown : Store) (image : List ℕ) (x y : Seen) (stored : IsStored place shown x.disks) (base : IsBaseOf (contents_for image) shown.state)
     (room : page_place (pages_needed (length image)) < most) (small : place.epoch + 1 < 2 ^ 64) where
   abbrev pub after : Store
-  after = record { state = shown.state; epoch = place.epoch + 1; end = page_place (pages_needed (length image)) }
+  after = record { state = shown.state; epoch = place.epoch + 1; end = page_place (pages_needed (length image)); base = shown.state; edits = [] }
 
   here : IsShown (reads_of x.disks) place.side stored.header
   here = record { sound = stored.shows.sound; is_side = stored.side }
@@ -101,7 +113,7 @@ module _ (place : Place) (shown : Store) (image : List ℕ) (x y : Seen) (stored
       image_shows c (kept c seen.other) seen.here) works
 
   done : Becomes (other_side place.side) (base_bytes (place.epoch + 1) image) x y
-      → IsStoredAfter (record { side = other_side place.side; epoch = place.epoch + 1; end = page_place (pages_needed (length image)); other_closed = false }) after x y
+      → IsStoredAfter (record { side = other_side place.side; epoch = place.epoch + 1; end = page_place (pages_needed (length image)); other_closed = false; pages = pages_needed (length image); records = 0 }) after x y
   done becomes =
       let now = replaced (other_side place.side) written x.disks y.disks stored.settled becomes in
       let same = kept (reads_of y.disks) now.other in
@@ -110,6 +122,8 @@ module _ (place : Place) (shown : Store) (image : List ℕ) (x y : Seen) (stored
         side = (whole_shown (reads_of y.disks) same now.here).is_side;
         epoch = refl;
         end = refl;
+        pages = refl;
+        records = refl;
         closed = opened_not_closed (bytes_of place.side (reads_of y.disks)) stored.header (kept_header (reads_of y.disks) same) ∙ ap (λ (s : Side). has_closed_gate (bytes_of s (reads_of y.disks))) (sym (twice place.side));
         shows = whole_image (reads_of y.disks) same now.here;
         settled = now.settled;
@@ -120,20 +134,20 @@ module _ (place : Place) (shown : Store) (image : List ℕ) (x y : Seen) (stored
     not_last = grind (arith, nat_tests)
 
     after_is : after ≡ compacted_store shown
-    after_is = (λ i. record { state = shown.state; epoch = stored.epoch i + 1; end = page_place (pages_needed (long i)) }) ∙ sym (compacted_before shown (ap (λ (n : ℕ). nat_eq n last_epoch) (sym stored.epoch) ∙ not_last))
+    after_is = (λ i. record { state = shown.state; epoch = stored.epoch i + 1; end = page_place (pages_needed (long i)); base = shown.state; edits = [] }) ∙ sym (compacted_before shown (ap (λ (n : ℕ). nat_eq n last_epoch) (sym stored.epoch) ∙ not_last))
 
     pub compact_moments : Writing (other_side place.side) (place.epoch + 1) image x y → ShowsEither shown (compacted_store shown) x y
     compact_moments works = subst (λ (s : Store). ShowsEither shown s x y) after_is (moments works)
 
-    pub compact_done : (new : Place) → new ≡ record { side = other_side place.side; epoch = place.epoch + 1; end = page_place (pages_needed (length image)); other_closed = false }
+    pub compact_done : (new : Place) → new ≡ record { side = other_side place.side; epoch = place.epoch + 1; end = page_place (pages_needed (length image)); other_closed = false; pages = pages_needed (length image); records = 0 }
         → Becomes (other_side place.side) (base_bytes (place.epoch + 1) image) x y → IsStoredAfter new (compacted_store shown) x y
     compact_done new is becomes = subst (λ (p : Place). IsStoredAfter p (compacted_store shown) x y) (sym is)
-        (subst (λ (s : Store). IsStoredAfter (record { side = other_side place.side; epoch = place.epoch + 1; end = page_place (pages_needed (length image)); other_closed = false }) s x y) after_is (done becomes))
+        (subst (λ (s : Store). IsStoredAfter (record { side = other_side place.side; epoch = place.epoch + 1; end = page_place (pages_needed (length image)); other_closed = false; pages = pages_needed (length image); records = 0 }) s x y) after_is (done becomes))
 
 -- the place on the other side
 pub place_next : (place : Place) (s : State) (n : ℕ) → place.epoch + 1 < 2 ^ 64 → n ≡ image_length s
-    → compacted_place place s ≡ record { side = other_side place.side; epoch = place.epoch + 1; end = page_place (pages_needed n); other_closed = false }
-place_next place s n small long = rw (not_yet place.epoch small) (λ i. record { side = other_side place.side; epoch = place.epoch + 1; end = page_place (pages_needed (sym long i)); other_closed = false })
+    → compacted_place place s ≡ record { side = other_side place.side; epoch = place.epoch + 1; end = page_place (pages_needed n); other_closed = false; pages = pages_needed n; records = 0 }
+place_next place s n small long = rw (not_yet place.epoch small) (λ i. record { side = other_side place.side; epoch = place.epoch + 1; end = page_place (pages_needed (sym long i)); other_closed = false; pages = pages_needed (sym long i); records = 0 })
   where
     not_yet : (epoch : ℕ) → epoch + 1 < 2 ^ 64 → (epoch == last_epoch) ≡ false
     not_yet epoch small = grind (arith, nat_tests)

@@ -27,7 +27,7 @@ use Rattle.wot_check.specs.Stored.{IsFirstFault, IsLeastFault, Stands}
 use Rattle.wot_check.proofs.FaultLaws.{first_fault_is, one_first_fault}
 use Rattle.wot_check.proofs.Local.{rows_stand, standing_rows}
 use Rattle.wot_store.specs.declared.error.BadStore.{BadStore}
-use Rattle.wot_store.specs.declared.error.BadStore.TheVariants.{Magic, SameEpoch, Short, Seal, Spelling, Row as BadRow, BadPayload, BadEdit}
+use Rattle.wot_store.specs.declared.error.BadStore.TheVariants.{Magic, SameEpoch, Short, Seal, Spelling, Row as BadRow, BadPayload, BadEdit, Lost}
 use Rattle.wot_store.specs.Base.{AreRowsOf, IsBaseOf, IsNoBase}
 use Rattle.wot_store.proofs.Spelled.{one_spelled, spelled_or_not}
 
@@ -53,6 +53,7 @@ base_not_none contents s (Short side at) x none = none
 base_not_none contents s (Seal page) x none = none
 base_not_none contents s (BadPayload number) x none = none
 base_not_none contents s (BadEdit number) x none = none
+base_not_none contents s (Lost number) x none = none
 
 -- contents that are no base spell nothing, or rows by the rules of now that don't all stand
 record OfRows (contents : List ℕ) (bad : BadStore) : Type 0 where
@@ -72,6 +73,7 @@ none_cases contents (Short side at) none = absurd none
 none_cases contents (Seal page) none = absurd none
 none_cases contents (BadPayload number) none = absurd none
 none_cases contents (BadEdit number) none = absurd none
+none_cases contents (Lost number) none = absurd none
 
 -- they have one fault
 pub none_once : (contents : List ℕ) (a b : BadStore) → IsNoBase contents a → IsNoBase contents b → a ≡ b

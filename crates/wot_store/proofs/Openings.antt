@@ -1,5 +1,5 @@
 -- What a crash leaves while a store is opened.
-use Rattle.std.proofs.Common.{◌≡◌, inl, inr, ℕ, ◌<◌, ◌≤◌, Bool, true, false, List, length, get_or, take, drop, refl, sym, ◌∙◌, ap, subst, arith, Option, None, Some}
+use Rattle.std.proofs.Common.{◌≡◌, inl, inr, ℕ, ◌<◌, ◌≤◌, Bool, true, false, List, [], length, get_or, take, drop, refl, sym, ◌∙◌, ap, subst, arith, Option, None, Some}
 use Rattle.std.specs.Prelude.{MatchOption, ◌&&◌, ◌==◌, is_none, min, nat_le, nat_lt, option_map, if◌then◌else◌}
 use Rattle.std.proofs.lemmas.List.{get_or-take}
 use Rattle.std.proofs.lemmas.Bool.{cases_lt}
@@ -54,7 +54,7 @@ module _ (sizes : Sizes) (image : List ℕ) (x y : Seen) (ready : IsReady sizes 
       let here = shown_alone c Zero (base_header 1 image) refl is blank in (
         here,
         shows_here c Zero (base_header 1 image) new_store here (subst (λ (l : List ℕ). ShowsBase Zero l (base_header 1 image) new_store) (sym zero)
-            (subst (λ (n : ℕ). ShowsBase Zero (base_bytes 1 image x.disks.zero.reads) (base_header 1 image) (record { state = opening_state; epoch = 1; end = n })) end
+            (subst (λ (n : ℕ). ShowsBase Zero (base_bytes 1 image x.disks.zero.reads) (base_header 1 image) (record { state = opening_state; epoch = 1; end = n; base = opening_state; edits = [] })) end
             (whole_shows 1 image x.disks.zero.reads (omega arith) room Zero opening_state base))),
       )
 
@@ -68,21 +68,24 @@ module _ (sizes : Sizes) (image : List ℕ) (x y : Seen) (ready : IsReady sizes 
       shows c one (inr (inl blank)) = blank_shows c blank (subst IsBlank (sym one) ready.blank.1)
       shows c one (inr (inr whole)) = (first_image c one whole).1
 
-  pub create_opens : (state : State) (at : ℕ) (closed : Bool) → state ≡ opening_state → at ≡ page_place (pages_needed (length image)) → closed ≡ nat_le 24 sizes.one
-      → Becomes Zero (base_bytes 1 image) x y → Opens (record { side = Zero; epoch = 1; end = at; other_closed = closed }) (record { state = state; epoch = 1; end = at }) x y
-  create_opens state at closed opens place other becomes =
+  pub create_opens : (state : State) (at pages : ℕ) (closed : Bool) → state ≡ opening_state → at ≡ page_place (pages_needed (length image)) → pages ≡ pages_needed (length image) → closed ≡ nat_le 24 sizes.one
+      → Becomes Zero (base_bytes 1 image) x y → Opens (record { side = Zero; epoch = 1; end = at; other_closed = closed; pages = pages; records = 0 }) state x y
+  create_opens state at pages closed opens place many other becomes =
       let now = replaced Zero (base_bytes 1 image x.disks.zero.reads) x.disks y.disks ready.settled becomes in
       let first = first_image (reads_of y.disks) now.other now.here in
-      let shown : record { state = state; epoch = 1; end = at } ≡ new_store = λ i. record { state = opens i; epoch = 1; end = (place ∙ end) i } in
       record {
-        before = subst (λ (s : Store). Shows (reads_of x.disks) s) (sym shown) (blank_shows (reads_of x.disks) ready.blank.0 ready.blank.1);
+        shown = new_store;
+        is_state = sym opens;
+        before = blank_shows (reads_of x.disks) ready.blank.0 ready.blank.1;
         stored = record {
           header = base_header 1 image;
           side = first.0.is_side;
           epoch = refl;
-          end = refl;
+          end = place ∙ end;
+          pages = many;
+          records = refl;
           closed = other ∙ (λ i. is_none (sym ready.blank.1 i) && nat_le 24 (ready.long.one i)) ∙ closed_by x.disks.one.reads ∙ ap (λ (l : List ℕ). has_closed_gate l) (sym now.other);
-          shows = subst (λ (s : Store). Shows (reads_of y.disks) s) (sym shown) first.1;
+          shows = first.1;
           settled = now.settled;
         };
       }
@@ -138,8 +141,13 @@ module _ (sizes : Sizes) (headers : Headers) (x y z : Seen) (settles : Settles s
     disks = same;
   }
 
-  pub opens_then : (w : Seen) (place : Place) (shown : Store) → Opens place shown z w → Opens place shown x w
-  opens_then w place shown opens = record { before = subst (λ (c : Image). Shows c shown) (same_reads x z same) opens.before; stored = opens.stored }
+  pub opens_then : (w : Seen) (place : Place) (state : State) → Opens place state z w → Opens place state x w
+  opens_then w place state opens = record {
+    shown = opens.shown;
+    is_state = opens.is_state;
+    before = subst (λ (c : Image). Shows c opens.shown) (same_reads x z same) opens.before;
+    stored = opens.stored;
+  }
 
   pub bad_then : (w : Seen) (bad : BadStore) → FindsBad bad z w → FindsBad bad x w
   bad_then w bad found = record { bad = subst (λ (c : Image). IsBad c bad) (same_reads x z same) found.bad; disks = found.disks ∙ sym settled ∙ same }
@@ -149,16 +157,19 @@ module _ (headers : Headers) (sizes : Sizes) (side : Side) (header : Header) (z 
   here : IsShown (reads_of z.disks) side header
   here = record { sound = (λ i. headers_fault (sym by.are.zero i) (sym by.are.one i)) ∙ by.sound; is_side = (λ i. shown_side (sym by.are.zero i) (sym by.are.one i)) ∙ by.shown }
 
-  pub shown_opens : (state : State) (end : ℕ) (closed : Bool) → closed ≡ has_closed_gate (bytes_of (other_side side) (reads_of z.disks)) → Resumes side header state end z w
-      → Opens (record { side = side; epoch = header.epoch; end = end; other_closed = closed }) (record { state = state; epoch = header.epoch; end = end }) z w
-  shown_opens state end closed other resumes =
-      let shows : Shows (reads_of z.disks) (record { state = state; epoch = header.epoch; end = end }) =
-      shows_here (reads_of z.disks) side header (record { state = state; epoch = header.epoch; end = end }) here
-      (subst (λ (l : List ℕ). ShowsBase side l header (record { state = state; epoch = header.epoch; end = end })) (reads_bytes side z.disks) resumes.shows) in
+  pub shown_opens : (state : State) (records end : ℕ) (closed : Bool) → closed ≡ has_closed_gate (bytes_of (other_side side) (reads_of z.disks)) → Resumes side header state records end z w
+      → Opens (record { side = side; epoch = header.epoch; end = end; other_closed = closed; pages = header.pages; records = records }) state z w
+  shown_opens state records end closed other resumes =
+      let place : Place = record { side = side; epoch = header.epoch; end = end; other_closed = closed; pages = header.pages; records = records } in
+      let shown : Store = record { state = state; epoch = header.epoch; end = end; base = resumes.base; edits = resumes.edits } in
+      let shows : Shows (reads_of z.disks) shown =
+      shows_here (reads_of z.disks) side header shown here (subst (λ (l : List ℕ). ShowsBase side l header shown) (reads_bytes side z.disks) resumes.shows) in
       record {
+        shown = shown;
+        is_state = refl;
         before = shows;
-        stored = subst (λ (s : Seen). IsStored (record { side = side; epoch = header.epoch; end = end; other_closed = closed }) (record { state = state; epoch = header.epoch; end = end }) s.disks) (sym resumes.stays)
-            (record { header = header; side = here.is_side; epoch = refl; end = refl; closed = other; shows = shows; settled = by.settled });
+        stored = subst (λ (s : Seen). IsStored place shown s.disks) (sym resumes.stays)
+            (record { header = header; side = here.is_side; epoch = refl; end = refl; pages = refl; records = resumes.count; closed = other; shows = shows; settled = by.settled });
       }
 
   pub shown_fails : (bad : BadStore) → FailsBy side header bad z w → FindsBad bad z w
@@ -186,15 +197,17 @@ still_keeping sizes (Some x) ready = keeps sizes x ready
 
 -- the base of a side, and then its journal
 module _ (side : Side) (header : Header) (base : State) (x y z : Seen) (read : ReadsBase side header base x y) where
-  pub resumes_then : (state : State) (end : ℕ) → Replays side (page_place header.pages) base state end y z → Resumes side header state end x z
-  resumes_then state end replays = record {
+  pub resumes_then : (state : State) (records end : ℕ) → Replays side (page_place header.pages) base state records end y z → Resumes side header state records end x z
+  resumes_then state records end replays = record {
     stays = replays.stays ∙ read.stays;
+    base = base;
+    edits = replays.edits;
+    count = replays.count;
     shows = record {
       sound = read.sound;
       epoch = refl;
-      base = base;
       is_base = read.is_base;
-      journal = subst (λ (s : Seen). Ends (disk_of side s.disks).reads (page_place header.pages) base state end) read.stays replays.ends;
+      journal = subst (λ (s : Seen). Ends (disk_of side s.disks).reads (page_place header.pages) base replays.edits state end) read.stays replays.ends;
     };
   }
 

@@ -65,14 +65,14 @@ module _ (epoch : ℕ) (image r : List ℕ) (small : epoch < 2 ^ 64) (room : pag
   whole = record { within = omega (arith, long); bound = room; sealed = whole_held epoch image (base_bytes epoch image r) has_pages }
 
   pub whole_shows : (side : Side) (state : State) → IsBaseOf (contents_for image) state
-      → ShowsBase side (base_bytes epoch image r) (base_header epoch image) (record { state = state; epoch = epoch; end = page_place (pages_needed (length image)) })
+      → ShowsBase side (base_bytes epoch image r) (base_header epoch image) (record { state = state; epoch = epoch; end = page_place (pages_needed (length image)); base = state; edits = [] })
   whole_shows side state is = record {
     sound = base_whole side (base_bytes epoch image r) (base_header epoch image) whole;
     epoch = refl;
-    base = state;
     is_base = subst (λ (l : List ℕ). IsBaseOf l state) (sym (contents_held epoch image (base_bytes epoch image r) has_pages)) is;
     journal = record {
-      edits = [];
+      recorded = [];
+      are = refl;
       reaches = reaches_start (base_bytes epoch image r) (page_place (pages_needed (length image))) state whole.within room;
       gate = closed;
     };

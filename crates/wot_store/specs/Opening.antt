@@ -5,6 +5,7 @@ use Rattle.wot_site.specs.Seen.{Moment, Seen}
 use Rattle.wot_site.specs.Work.{Quiet, Works}
 use Rattle.wot_site.specs.declared.side.Side.{Side}
 use Rattle.wot_site.specs.declared.side.Side.TheVariants.{Zero}
+use Rattle.wot_types.specs.declared.edit.Edit.{Edit}
 use Rattle.wot_journal.specs.Commit.{MakesCalls}
 use Rattle.wot_pages.specs.Pages.{contents_of}
 use Rattle.wot_types.specs.Image.{image_bytes}
@@ -12,7 +13,6 @@ use Rattle.wot_types.specs.Levels.{rows_of}
 use Rattle.wot_types.specs.State.{State, opening_state}
 use Rattle.wot_store.specs.declared.header.Header.{Header}
 use Rattle.wot_store.specs.Base.{IsBaseOf, IsBlank, IsNoBase, base_fault, header_of, headers_fault, shown_side}
-use Rattle.wot_store.specs.declared.opening.Opened.{Opened}
 use Rattle.wot_store.specs.declared.opening.Sizes.{Sizes}
 use Rattle.wot_store.specs.declared.pair.Headers.{Headers}
 use Rattle.wot_store.specs.declared.place.Place.{Place}
@@ -77,8 +77,10 @@ pub record Settling (old new : Seen) : Type 0 where
   pub unwritten : Works (AreUnwritten old.disks) old new
   pub opening : Opening old new
 
--- the sides as read showed this, and it is stored after it, at this place
-pub record Opens (place : Place) (shown : Store) (old new : Seen) : Type 0 where
+-- the sides as read showed a store of this state, and it is stored after it, at this place
+pub record Opens (place : Place) (state : State) (old new : Seen) : Type 0 where
+  pub shown : Store
+  pub is_state : shown.state ≡ state
   pub before : Shows (reads_of old.disks) shown
   pub stored : IsStored place shown new.disks
 
@@ -100,10 +102,6 @@ pub record AreHeaders (headers : Headers) (d : Disks) : Type 0 where
 pub record Inspects (headers : Headers) (old new : Seen) : Type 0 where
   pub stays : new ≡ old
   pub are : AreHeaders headers old.disks
-
--- what the store shows that was opened
-abbrev pub shown_of : Opened → Store
-shown_of o = record { state = o.engine; epoch = o.place.epoch; end = o.place.end }
 
 -- the header of a side was read, and nothing was changed
 pub record InspectsSide (side : Side) (header : Option Header) (old new : Seen) : Type 0 where
@@ -135,10 +133,13 @@ pub record LacksBase (side : Side) (header : Header) (bad : BadStore) (old new :
   pub stays : new ≡ old
   pub first : MatchOption (base_fault side (disk_of side old.disks).reads header) (IsNoBase (contents_of header.pages (disk_of side old.disks).reads) bad) (λ first. bad ≡ first)
 
--- the base and the journal of a side were read, and nothing was changed
-pub record Resumes (side : Side) (header : Header) (state : State) (end : ℕ) (old new : Seen) : Type 0 where
+-- the base and the journal of a side were read, which has so many records, and nothing was changed
+pub record Resumes (side : Side) (header : Header) (state : State) (records end : ℕ) (old new : Seen) : Type 0 where
   pub stays : new ≡ old
-  pub shows : ShowsBase side (disk_of side old.disks).reads header (record { state = state; epoch = header.epoch; end = end })
+  pub base : State
+  pub edits : List Edit
+  pub count : records ≡ length edits
+  pub shows : ShowsBase side (disk_of side old.disks).reads header (record { state = state; epoch = header.epoch; end = end; base = base; edits = edits })
 
 -- the base or the journal of a side has this fault first, and nothing was changed
 pub record FailsBy (side : Side) (header : Header) (bad : BadStore) (old new : Seen) : Type 0 where

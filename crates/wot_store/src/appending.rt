@@ -35,7 +35,11 @@ pub fn append<S: Site>(place: Place, site: &mut S, built: &Built) -> Result<Plac
     ensures cause { HasCause DiskRose (S.faults site.old) (S.faults site.new) result }
 {
     match commit(site, place.side, built) {
-        Ok(end) => Ok(Place { end, ..place }),
+        Ok(end) => Ok(Place {
+            end,
+            records: place.records.saturating_add(1),
+            ..place
+        }),
         Err(DiskFault) => Err(DiskFault),
     }
 }

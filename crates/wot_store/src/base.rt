@@ -24,8 +24,8 @@ use wot_site::{MOST, Side, Site};
 use wot_types::Mem;
 use wot_workers::{Gate, Workers};
 
-// The place behind so many pages, where it and the gate that stands there lie within a side of this size.
-fn journal_start(pages: u64, size: u64) -> Option<u64>
+/// The place behind so many pages, where it and the gate that stands there lie within a side of this size.
+pub fn journal_start(pages: u64, size: u64) -> Option<u64>
     ensures { result ≡ (if nat_lt (page_place pages) (min size most) then Some (page_place pages) else None) }
 {
     let most = size.min(MOST);
@@ -98,8 +98,18 @@ fn load_base<R: Threads + Sync, S: Site, G: Gate + Sync>(
     }
 }
 
+/// What the base and the journal of a side led to.
+#[derive(Drop)]
+pub struct Resumed {
+    pub engine: Engine,
+    /// How many records the journal has.
+    pub records: u64,
+    /// Where it ends.
+    pub end: u64,
+}
+
 /// Makes the edits of the records of a side that has so many bytes in the state of its base, and counts what they touch once,
-/// after the last; it answers the end of the journal too. The base's rows are taken where all stand.
+/// after the last. The base's rows are taken where all stand.
 pub fn resume<R: Threads + Sync, S: Site, G: Gate + Sync>(
     workers: &Workers<'_, R, G>,
     alloc: Global,
@@ -107,10 +117,10 @@ pub fn resume<R: Threads + Sync, S: Site, G: Gate + Sync>(
     side: Side,
     header: Header,
     size: u64,
-) -> Result<(Engine, u64), StoreError>
+) -> Result<Resumed, StoreError>
     requires size { IfHonest (S.seen site.old) (λ s. size ≡ length (disk_of side s.disks).reads) }
-    ensures sound { IfOk result (λ r. IsWellFormedState r.0) }
-    ensures resumed { IfOk result (λ r. Honestly (S.seen site.old) (S.seen site.new) (Resumes side header r.0 r.1)) }
+    ensures sound { IfOk result (λ r. IsWellFormedState r.engine) }
+    ensures resumed { IfOk result (λ r. Honestly (S.seen site.old) (S.seen site.new) (Resumes side header r.engine r.records r.end)) }
     ensures stays { OnErr result (Honestly (S.seen site.old) (S.seen site.new) Stays) }
     ensures bad { (b : _) → IsErrOf result (StoreError.Bad b) → Honestly (S.seen site.old) (S.seen site.new) (FailsBy side header b) }
     ensures cause { IsErrOf result StoreError.DiskFault → DiskRose (S.faults site.old) (S.faults site.new) }
@@ -120,12 +130,16 @@ pub fn resume<R: Threads + Sync, S: Site, G: Gate + Sync>(
         Ok(loaded) => loaded,
         Err(e) => return Err(e),
     };
-    let (parts, end) = match replay(alloc, site, side, start, size, base) {
+    let replayed = match replay(alloc, site, side, start, size, base) {
         Ok(replayed) => replayed,
         Err(e) => return Err(e),
     };
-    match parts.into_engine() {
-        Ok(engine) => Ok((engine, end)),
+    match replayed.parts.into_engine() {
+        Ok(engine) => Ok(Resumed {
+            engine,
+            records: replayed.records,
+            end: replayed.end,
+        }),
         Err(Mem::Memory) => Err(StoreError::Memory),
     }
 }

@@ -24,6 +24,7 @@ use crate::writing::write_side;
 use std::alloc::Global;
 use thiserror::Error;
 use wot_live::Engine;
+use wot_pages::pages_needed;
 use wot_site::{DiskFault, Side, Site};
 use wot_types::Mem;
 
@@ -87,6 +88,8 @@ pub fn compact<S: Site>(
             epoch,
             end,
             other_closed: false,
+            pages: pages_needed(image.len()),
+            records: 0,
         }),
         Err(DiskFault) => Err(CompactError::DiskFault),
     }

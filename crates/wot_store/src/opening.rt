@@ -14,7 +14,7 @@ ghost use Rattle.wot_types.specs.State.{opening_state};
 ghost use Rattle.wot_types.specs.WellFormedState.{IsWellFormedState};
 ghost use Rattle.wot_pages.specs.Pages.{contents_for};
 ghost use Rattle.wot_store.specs.Base.{IsBaseOf};
-ghost use Rattle.wot_store.specs.Opening.{AreSizes, Settles, Settling, InspectsSide, Inspects, IsReady, IsShownBy, Keeping, Opening, Opens, FindsBad, IsSettled, WritesOnlyBlank, FindsOrCreates, first_side, shown_of};
+ghost use Rattle.wot_store.specs.Opening.{AreSizes, Settles, Settling, InspectsSide, Inspects, IsReady, IsShownBy, Keeping, Opening, Opens, FindsBad, IsSettled, WritesOnlyBlank, FindsOrCreates, first_side};
 ghost use Rattle.wot_store.specs.Shows.{IsStored};
 ghost use Rattle.wot_store.specs.Writing.{Becomes, calls_for};
 ghost use Rattle.wot_store.specs.Written.{Spares};
@@ -29,6 +29,7 @@ use crate::writing::write_side;
 use std::alloc::Global;
 use std::thread::Threads;
 use wot_live::Engine;
+use wot_pages::pages_needed;
 use wot_site::{DiskFault, Failed, RangeError, Side, Site, read_range};
 use wot_types::Mem;
 use wot_workers::{Gate, Workers};
@@ -153,7 +154,7 @@ fn new_engine(alloc: Global) -> Result<(Engine, Vec<u8>), Mem>
 fn create<S: Site>(alloc: Global, site: &mut S, sizes: Sizes) -> Result<Opened, StoreError>
     requires ready { IfHonest (S.seen site.old) (λ s. IsReady sizes s.disks) }
     ensures sound { IfOk result (λ o. IsWellFormedState o.engine) }
-    ensures created { IfOk result (λ o. Honestly (S.seen site.old) (S.seen site.new) (Opens o.place (shown_of o))) }
+    ensures created { IfOk result (λ o. Honestly (S.seen site.old) (S.seen site.new) (Opens o.place o.engine)) }
     ensures memory { IsErrOf result StoreError.Memory → Honestly (S.seen site.old) (S.seen site.new) Stays }
     ensures never_bad { (b : _) → IsErrOf result (StoreError.Bad b) → ⊥ }
     ensures any_moment { Honestly (S.seen site.old) (S.seen site.new) Keeping }
@@ -181,6 +182,8 @@ fn create<S: Site>(alloc: Global, site: &mut S, sizes: Sizes) -> Result<Opened, 
                 epoch: 1,
                 end,
                 other_closed: has_closed_gate(None, sizes.one),
+                pages: pages_needed(image.len()),
+                records: 0,
             },
         }),
         Err(DiskFault) => Err(StoreError::DiskFault),
@@ -198,7 +201,7 @@ fn open_shown<R: Threads + Sync, S: Site, G: Gate + Sync>(
 ) -> Result<Opened, StoreError>
     requires shown { IfHonest (S.seen site.old) (λ s. IsShownBy headers sizes shown.0 shown.1 s.disks) }
     ensures sound { IfOk result (λ o. IsWellFormedState o.engine) }
-    ensures opened { IfOk result (λ o. Honestly (S.seen site.old) (S.seen site.new) (Opens o.place (shown_of o))) }
+    ensures opened { IfOk result (λ o. Honestly (S.seen site.old) (S.seen site.new) (Opens o.place o.engine)) }
     ensures stays { Honestly (S.seen site.old) (S.seen site.new) Stays }
     ensures bad { (b : _) → IsErrOf result (StoreError.Bad b) → Honestly (S.seen site.old) (S.seen site.new) (FindsBad b) }
     ensures cause { IsErrOf result StoreError.DiskFault → DiskRose (S.faults site.old) (S.faults site.new) }
@@ -210,13 +213,15 @@ fn open_shown<R: Threads + Sync, S: Site, G: Gate + Sync>(
         Side::One => (sizes.one, has_closed_gate(headers.zero, sizes.zero)),
     };
     match resume(workers, alloc, site, side, header, size) {
-        Ok((engine, end)) => Ok(Opened {
-            engine,
+        Ok(resumed) => Ok(Opened {
+            engine: resumed.engine,
             place: Place {
                 side,
                 epoch: header.epoch,
-                end,
+                end: resumed.end,
                 other_closed,
+                pages: header.pages,
+                records: resumed.records,
             },
         }),
         Err(e) => Err(e),
@@ -232,7 +237,7 @@ pub fn open_store<R: Threads + Sync, S: Site, G: Gate + Sync>(
     site: &mut S,
 ) -> Result<Opened, StoreError>
     ensures sound { IfOk result (λ o. IsWellFormedState o.engine) }
-    ensures opened { IfOk result (λ o. Honestly (S.seen site.old) (S.seen site.new) (Opens o.place (shown_of o))) }
+    ensures opened { IfOk result (λ o. Honestly (S.seen site.old) (S.seen site.new) (Opens o.place o.engine)) }
     ensures bad { (b : _) → IsErrOf result (StoreError.Bad b) → Honestly (S.seen site.old) (S.seen site.new) (FindsBad b) }
     ensures memory { IsErrOf result StoreError.Memory → Honestly (S.seen site.old) (S.seen site.new) IsSettled }
     ensures written { Honestly (S.seen site.old) (S.seen site.new) (λ old new. Works (WritesOnlyBlank old.disks) old new) }

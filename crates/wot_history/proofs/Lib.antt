@@ -1,0 +1,4 @@
+pub mod Earlier
+pub mod Bases
+pub mod Records
+pub mod Wholes
