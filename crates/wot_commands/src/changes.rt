@@ -1,7 +1,8 @@
 //! The state after an edit.
 
 ghost use Rattle.std.specs.Prelude.{◌≡◌, ◌<◌, None, IfOk};
-ghost use Rattle.wot_types.specs.Outcome.{state_after, refusal_of};
+ghost use Rattle.wot_types.specs.Outcome.{refusal_of};
+ghost use Rattle.wot_types.specs.StateAfter.{state_after};
 ghost use Rattle.wot_types.specs.Payload.{IsProper};
 ghost use Rattle.wot_types.specs.Touched.{IsWithinTouched};
 ghost use Rattle.wot_types.specs.Named.{named_by};

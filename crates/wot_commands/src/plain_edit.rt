@@ -2,7 +2,8 @@
 
 ghost use Rattle.std.specs.Prelude.{◌≡◌, ◌∷◌, [], None, IfOk};
 ghost use Rattle.wot_types.specs.Named.{named_by};
-ghost use Rattle.wot_types.specs.Outcome.{refusal_of, state_after};
+ghost use Rattle.wot_types.specs.Outcome.{refusal_of};
+ghost use Rattle.wot_types.specs.StateAfter.{state_after};
 ghost use Rattle.wot_types.specs.Ownertrust.{entry_of};
 ghost use Rattle.wot_types.specs.Payload.{IsProper};
 ghost use Rattle.wot_types.specs.State.{State};

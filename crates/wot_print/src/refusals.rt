@@ -28,6 +28,7 @@ fn push_refusal(text: &mut Printed, refusal: &Refusal) -> Result<(), Mem>
         Refusal::UnendedBlock => text.push_bytes(b"err unended-block"),
         Refusal::Listing(fault) => push_bad_listing(text, *fault),
         Refusal::Ownertrust(line, what) => push_bad_ownertrust(text, *line, *what),
+        Refusal::NoSuchTime(edits) => push_no_such_time(text, *edits),
         Refusal::NoSuchKey => text.push_bytes(b"err no-such-key"),
         Refusal::NoSuchUser => text.push_bytes(b"err no-such-user"),
         Refusal::Full(limit) => push_full(text, *limit),
@@ -61,6 +62,14 @@ fn push_bad_ownertrust(text: &mut Printed, line: u64, what: OwnertrustFault) -> 
     push_number(text, line)?;
     text.push(b' ')?;
     text.push_bytes(ownertrust_fault_name(what).as_bytes())?;
+    Ok(())
+}
+
+fn push_no_such_time(text: &mut Printed, edits: u64) -> Result<(), Mem>
+    ensures { OnOk result (text.new ≡ text.old ++ refusal_text (Refusal.NoSuchTime edits)) }
+{
+    text.push_bytes(b"err no-such-time ")?;
+    push_number(text, edits)?;
     Ok(())
 }
 
