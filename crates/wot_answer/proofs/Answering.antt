@@ -17,17 +17,18 @@ use Rattle.wot_answer.specs.Block.{IsBlockOf}
 use Rattle.wot_answer.specs.declared.answer.Answered.{Answered}
 use Rattle.wot_answer.specs.declared.division.Division.{Division}
 use Rattle.wot_answer.specs.declared.division.Division.TheVariants.{Between, Within, Over}
-use Rattle.wot_answer.specs.Answer.{Answers, Does, Ends, IsDivision, IsReply, reads_on}
+use Rattle.wot_answer.specs.Answer.{Answers, Does, Ends, IsAsked, IsDivision, IsReply, answer_text, effect_of, is_refusal, reads_on}
 
 module _ (answered : Answered) (p : Position) (line : ReadLine) where
   -- a command is whole, and was answered
   pub answers_whole : (command : Command) → made_by p.division line ≡ command ∷ [] → Ends answered p.progress.store (outcome p.progress.store command) → IsDivision answered.division (divided_by p.division line) → Answers answered p line
   answers_whole command made ends now = record {
-    text = ap (replies p.progress) made ∙ append-nil _ ∙ ends.text;
-    refused = ap (λ cs. (after_all p.progress cs).refused) made ∙ ap (λ b. p.progress.refused || b) ends.refused;
+    text = subst (λ cs. replies p.progress cs ≡ answer_text answered.answer (after_all p.progress cs).store) (sym made) (append-nil _ ∙ ends.text);
+    refused = subst (λ cs. (after_all p.progress cs).refused ≡ (p.progress.refused || is_refusal answered.answer (after_all p.progress cs).store)) (sym made) (ap (λ b. p.progress.refused || b) ends.refused);
+    asked = subst (λ cs. IsAsked answered.answer (after_all p.progress cs).store) (sym made) ends.asked;
     state = ap (λ cs. (after_all p.progress cs).store.state) made ∙ ends.state;
     division = now;
-    does = subst (λ cs. Does answered.answer.effect p.progress.store (after_all p.progress cs).store) (sym made) ends.does;
+    does = subst (λ cs. Does (effect_of answered.answer) p.progress.store (after_all p.progress cs).store) (sym made) ends.does;
   }
 
   -- no command is whole, and nothing was told
@@ -35,11 +36,13 @@ module _ (answered : Answered) (p : Position) (line : ReadLine) where
   answers_none old same none reply now =
       let nothing = reply p.progress.store same in
       record {
-        text = ap (replies p.progress) none ∙ nothing.text;
-        refused = ap (λ cs. (after_all p.progress cs).refused) none ∙ sym (or-false p.progress.refused) ∙ ap (λ b. p.progress.refused || b) nothing.refused;
+        text = subst (λ cs. replies p.progress cs ≡ answer_text answered.answer (after_all p.progress cs).store) (sym none) nothing.text;
+        refused = subst (λ cs. (after_all p.progress cs).refused ≡ (p.progress.refused || is_refusal answered.answer (after_all p.progress cs).store)) (sym none)
+            (sym (or-false p.progress.refused) ∙ ap (λ b. p.progress.refused || b) nothing.refused);
+        asked = subst (λ cs. IsAsked answered.answer (after_all p.progress cs).store) (sym none) nothing.asked;
         state = ap (λ cs. (after_all p.progress cs).store.state) none ∙ nothing.state;
         division = now;
-        does = subst (λ cs. Does answered.answer.effect p.progress.store (after_all p.progress cs).store) (sym none) nothing.does;
+        does = subst (λ cs. Does (effect_of answered.answer) p.progress.store (after_all p.progress cs).store) (sym none) nothing.does;
       }
 
   -- between two commands: one whose line is whole
@@ -90,7 +93,7 @@ is_ended block command line of stops = ap (λ b. not b && ends_block line) of.to
 
 -- an answer whose division is set anew
 pub redivided : (answered : Answered) (division : Division) (s : Store) (o : Outcome) → Ends answered s o → Ends (record answered { division = division }) s o
-redivided answered division s o ends = record { text = ends.text; refused = ends.refused; state = ends.state; does = ends.does }
+redivided answered division s o ends = record { text = ends.text; refused = ends.refused; asked = ends.asked; state = ends.state; does = ends.does }
 
 -- two facts of one result
 pub if_both : {X E : Type 0} (P Q : X → Type 0) (r : Result X E) → IfOk r P → IfOk r Q → IfOk r (λ x. P x × Q x)

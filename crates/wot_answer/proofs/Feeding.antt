@@ -37,6 +37,7 @@ by_name (Some named.Why) words head opens is = cc
 by_name (Some named.Check) words head opens is = cc
 by_name (Some named.Suppose) words head opens is = cc
 by_name (Some named.Critical) words head opens is = cc
+by_name (Some named.At) words head opens is = cc
 by_name (Some named.Compact) words head opens is = cc
 by_name (Some named.Quit) words head opens is = cc
 

@@ -4,3 +4,4 @@ pub mod Answering
 pub mod Feeding
 pub mod LineLemmas
 pub mod Queries
+pub mod EarlierQueries

@@ -9,7 +9,8 @@ use Rattle.wot_types.specs.declared.limit.Limit.TheVariants.{Record}
 use Rattle.wot_types.specs.declared.refusal.Refusal.{Refusal}
 use Rattle.wot_types.specs.declared.refusal.Refusal.TheVariants.{Full, JournalFull, KeyIdTaken}
 use Rattle.wot_types.specs.State.{State}
-use Rattle.wot_types.specs.Outcome.{edit_outcome, state_after, edited_store, is_past, missing_key, refusal_of, refuse, state_limit, taken_key, unless_refused}
+use Rattle.wot_types.specs.Outcome.{edit_outcome, edited_store, is_past, missing_key, refusal_of, refuse, state_limit, taken_key, unless_refused}
+use Rattle.wot_types.specs.StateAfter.{state_after}
 use Rattle.wot_types.specs.Limits.{most_record, record_passed}
 use Rattle.wot_types.specs.Payload.{IsWritten, payload}
 use Rattle.wot_types.specs.Spelling.{number_4, text_bytes}
@@ -17,9 +18,11 @@ use Rattle.wot_types.specs.Store.{Store}
 use Rattle.wot_types.specs.Store.Change.{makes}
 use Rattle.wot_types.proofs.Optionals.{both_none, map_none}
 use Rattle.wot_journal.specs.Record.{Framed, most, with_length}
-use Rattle.wot_answer.specs.Answer.{Does, Ends, IsReply, reply_of}
+use Rattle.wot_answer.specs.Answer.{Does, Ends, IsAsked, IsReply, answer_text, effect_of, is_err, is_refusal, reply_of}
 use Rattle.wot_answer.specs.declared.answer.Answered.{Answered}
+use Rattle.wot_answer.specs.declared.reply.Answer.TheVariants.{Told}
 use Rattle.wot_answer.specs.declared.reply.Effect.TheVariants.{Append}
+use Rattle.wot_answer.specs.declared.reply.Reply.{Reply}
 use Rattle.wot_answer.proofs.Answering.{if_both}
 
 module _ (text : List ℕ) (s : Store) (edit : Edit) (old : State) (end : ℕ) (same : old ≡ s.state) (at : end ≡ s.end) where
@@ -38,14 +41,16 @@ module _ (text : List ℕ) (s : Store) (edit : Edit) (old : State) (end : ℕ) (
   edit_full answered allowed past reply = subst (Ends answered s) (sym (refusal_here None allowed ∙ room_here true past)) (reply s same)
 
   -- it was made
-  pub edit_made : (answered : Answered) (built : Framed) → refusal_of old edit ≡ None → is_past end edit ≡ false → built.end ≡ end → IsWritten built.payload edit
-      → answered.engine ≡ state_after old edit → reply_of answered.answer.reply answered.engine ≡ text → answered.answer.refused ≡ false → answered.answer.effect ≡ Append built → Ends answered s (edit_outcome text s edit)
-  edit_made answered built allowed fits place payload after texts accepted effect =
+  pub edit_made : (answered : Answered) (reply : Reply) (built : Framed) → refusal_of old edit ≡ None → is_past end edit ≡ false → built.end ≡ end → IsWritten built.payload edit
+      → answered.engine ≡ state_after old edit → reply_of reply answered.engine ≡ text → is_err reply ≡ false → answered.answer ≡ Told reply (Append built) → Ends answered s (edit_outcome text s edit)
+  edit_made answered reply built allowed fits place payload after texts accepted is =
+      let stands : state_after s.state edit ≡ answered.engine = ap (λ state. state_after state edit) (sym same) ∙ sym after in
       subst (Ends answered s) (sym (refusal_here None allowed ∙ room_here false fits)) (record {
-        text = sym texts;
-        refused = sym accepted;
-        state = ap (λ state. state_after state edit) (sym same) ∙ sym after;
-        does = subst (λ effect. Does effect s (edited_store s edit)) (sym effect) (record {
+        text = sym texts ∙ ap (reply_of reply) (sym stands) ∙ ap (λ answer. answer_text answer (edited_store s edit)) (sym is);
+        refused = sym accepted ∙ ap (λ answer. is_refusal answer (edited_store s edit)) (sym is);
+        asked = subst (λ answer. IsAsked answer (edited_store s edit)) (sym is) tt;
+        state = stands;
+        does = subst (λ answer. Does (effect_of answer) s (edited_store s edit)) (sym is) (record {
           edit = edit;
           accepts = record { fits = ap (λ end. is_past end edit) (sym at) ∙ fits; allowed = ap (λ state. refusal_of state edit) (sym same) ∙ allowed };
           place = sym at ∙ sym place;

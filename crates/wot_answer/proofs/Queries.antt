@@ -1,11 +1,11 @@
--- What is known of a query that has an answer.
+-- A query of the engine's state: where its user ID is, and its answer.
 use Rattle.std.proofs.Common.{◌≡◌, ℕ, zero, suc, ◌-◌, ◌<◌, ◌≤◌, Bool, true, false, List, [], ◌∷◌, length, if◌then◌else◌, Option, Some, None, IsSome, refl, sym, ap, subst, ◌∙◌, arith}
 use Rattle.std.specs.Prelude.{nat_lt, slice_get, option_and_then}
 use Rattle.std.specs.FinMap as finmap
 use Rattle.std.specs.Option.{is_some, option_map_or}
 use Rattle.std.proofs.lemmas.Bool.Decides.{nat_tests}
 use Rattle.wot_types.specs.declared.query.Query.{Query}
-use Rattle.wot_types.specs.declared.query.Query.TheVariants.{List as ListAll, ListOne, Sigs, SigsOne, Export, Why, Check, Suppose, Critical, Compact, Quit}
+use Rattle.wot_types.specs.declared.query.Query.TheVariants.{List as ListAll, ListOne, Sigs, SigsOne, Export, Why, Check, Suppose, Critical, AtList, AtListOne, AtWhy, Compact, Quit}
 use Rattle.wot_types.specs.declared.key.Key.{Key}
 use Rattle.wot_types.specs.declared.refusal.Refusal.{Refusal}
 use Rattle.wot_types.specs.declared.refusal.Refusal.TheVariants.{NoSuchKey, NoSuchUser}
@@ -13,13 +13,14 @@ use Rattle.wot_types.specs.State.{State}
 use Rattle.wot_types.specs.Arrangement.{spot_at}
 use Rattle.wot_types.specs.Fingerprint.{key_id_of}
 use Rattle.wot_types.specs.Keyring.{is_fpr_of}
-use Rattle.wot_types.specs.Outcome.{change_by, query_outcome, query_refusal, refuse, reply_to, store_after, unless_unanswered, unless_user}
+use Rattle.wot_types.specs.Outcome.{outcome_in, query_outcome, query_refusal, reply_to, store_after, unless_unanswered, unless_user}
 use Rattle.wot_types.specs.Selection.{spots_from}
 use Rattle.wot_types.specs.Store.{Store}
+use Rattle.wot_types.specs.Store.Change.{keeps}
 use Rattle.wot_table.proofs.Placement.{length_spots}
-use Rattle.wot_answer.specs.Answer.{Does, Ends, IsReply, effect_by, reply_of}
+use Rattle.wot_answer.specs.Answer.{Does, Ends, IsAsked, answer_text, effect_by, effect_of, is_err, is_refusal, reply_of}
 use Rattle.wot_answer.specs.declared.answer.Answered.{Answered}
-use Rattle.wot_answer.specs.declared.reply.Answer.{Answer}
+use Rattle.wot_answer.specs.declared.reply.Answer.TheVariants.{Told}
 use Rattle.wot_answer.specs.declared.reply.Effect.{Effect}
 use Rattle.wot_answer.specs.declared.reply.Reply.{Reply}
 
@@ -46,46 +47,65 @@ place_there (Some key) fpr place some none = by_tests (is_fpr_of fpr (Some key))
 pub asked_there : (s : State) (fpr : List ℕ) (place : ℕ) → 1 ≤ place → unless_user s fpr place ≡ None → IsSome (spot_at s.keys (key_id_of fpr) (place - 1))
 asked_there s fpr place some none = place_there (finmap.get s.keys (key_id_of fpr)) fpr place some none
 
--- what a query does to the store: the state stays
-pub query_does : (query : Query) (s : Store) → Does (effect_by query) s (store_after (change_by query) s)
-query_does Compact s = refl
-query_does ListAll s = refl
-query_does (ListOne fpr) s = refl
-query_does Sigs s = refl
-query_does (SigsOne fpr) s = refl
-query_does Export s = refl
-query_does (Why fpr place) s = refl
-query_does Check s = refl
-query_does (Suppose edit) s = refl
-query_does (Critical fpr place) s = refl
-query_does Quit s = refl
+-- a query that does nothing to the store leaves it, refused or not
+module _ (t : State) (query : Query) (s : Store) where
+  kept_by : (why : Option Refusal) → store_after (unless_unanswered why (reply_to t query) keeps).change s ≡ s
+  kept_by None = refl
+  kept_by (Some why) = refl
 
-query_keeps : (query : Query) (s : Store) → (store_after (change_by query) s).state ≡ s.state
-query_keeps Compact s = refl
-query_keeps ListAll s = refl
-query_keeps (ListOne fpr) s = refl
-query_keeps Sigs s = refl
-query_keeps (SigsOne fpr) s = refl
-query_keeps Export s = refl
-query_keeps (Why fpr place) s = refl
-query_keeps Check s = refl
-query_keeps (Suppose edit) s = refl
-query_keeps (Critical fpr place) s = refl
-query_keeps Quit s = refl
+  pub kept : store_after (unless_unanswered (query_refusal t query) (reply_to t query) keeps).change s ≡ s
+  kept = kept_by (query_refusal t query)
 
--- a query that is refused, and one that is answered with a reply of its own
-module _ (answered : Answered) (s : Store) (query : Query) (old : State) (same : old ≡ s.state) where
-  outcome_by : (why : Option Refusal) → query_refusal old query ≡ why → query_outcome s query ≡ unless_unanswered why (reply_to s.state query) (change_by query)
-  outcome_by why is = ap (λ why. unless_unanswered why (reply_to s.state query) (change_by query)) (ap (λ (state : State). query_refusal state query) (sym same) ∙ is)
+-- what a query of a state does to the store, refused or not: the state stays
+record Keeps (query : Query) (s after : Store) : Type 0 where
+  does : Does (effect_by query) s after
+  state : after.state ≡ s.state
 
-  pub query_refused : (why : Refusal) → query_refusal old query ≡ Some why → IsReply answered old (refuse why) → Ends answered s (query_outcome s query)
-  query_refused why is reply = subst (Ends answered s) (sym (outcome_by (Some why) is)) (reply s same)
+query_keeps : (query : Query) (t : State) (s : Store) → Keeps query s (store_after (outcome_in t query).change s)
+query_keeps Compact t s = record { does = refl; state = refl }
+query_keeps ListAll t s = record { does = refl; state = refl }
+query_keeps (ListOne fpr) t s = record { does = kept t (ListOne fpr) s; state = ap (λ (s : Store). s.state) (kept t (ListOne fpr) s) }
+query_keeps Sigs t s = record { does = refl; state = refl }
+query_keeps (SigsOne fpr) t s = record { does = kept t (SigsOne fpr) s; state = ap (λ (s : Store). s.state) (kept t (SigsOne fpr) s) }
+query_keeps Export t s = record { does = refl; state = refl }
+query_keeps (Why fpr place) t s = record { does = kept t (Why fpr place) s; state = ap (λ (s : Store). s.state) (kept t (Why fpr place) s) }
+query_keeps Check t s = record { does = refl; state = refl }
+query_keeps (Suppose edit) t s = record { does = kept t (Suppose edit) s; state = ap (λ (s : Store). s.state) (kept t (Suppose edit) s) }
+query_keeps (Critical fpr place) t s = record { does = kept t (Critical fpr place) s; state = ap (λ (s : Store). s.state) (kept t (Critical fpr place) s) }
+query_keeps (AtList n) t s = record { does = refl; state = refl }
+query_keeps (AtListOne n fpr) t s = record { does = refl; state = refl }
+query_keeps (AtWhy n fpr place) t s = record { does = refl; state = refl }
+query_keeps Quit t s = record { does = refl; state = refl }
 
-  pub query_answered : (reply : Reply) (effect : Effect) → query_refusal old query ≡ None → reply_of reply old ≡ reply_to old query → effect ≡ effect_by query
-      → answered.engine ≡ old → answered.answer ≡ record { reply = reply; refused = false; effect = effect } → Ends answered s (query_outcome s query)
-  query_answered reply effect none text does engine is = subst (Ends answered s) (sym (outcome_by None none)) (record {
-    text = ap (λ (state : State). reply_to state query) (sym same) ∙ sym text ∙ ap (reply_of reply) (sym engine) ∙ ap (λ (a : Answer). reply_of a.reply answered.engine) (sym is);
-    refused = ap (λ (a : Answer). a.refused) (sym is);
-    state = query_keeps query s ∙ sym same ∙ sym engine;
-    does = subst (λ effect. Does effect s (store_after (change_by query) s)) (sym (ap (λ (a : Answer). a.effect) is ∙ does)) (query_does query s);
-  })
+-- a query of the engine's state: its reply was told, a refusal or not
+pub query_answered : (answered : Answered) (s : Store) (query : Query) (old : State) (reply : Reply) (effect : Effect) → old ≡ s.state
+    → reply_of reply old ≡ (outcome_in old query).text → is_err reply ≡ (outcome_in old query).refused → effect ≡ effect_by query
+    → answered.engine ≡ old → answered.answer ≡ Told reply effect → Ends answered s (outcome_in s.state query)
+query_answered answered s query old reply effect same text refused does engine is =
+    let after = store_after (outcome_in s.state query).change s in
+    let unchanged = query_keeps query s.state s in
+    record {
+      text = ap (λ state. (outcome_in state query).text) (sym same) ∙ sym text ∙ ap (reply_of reply) (same ∙ sym unchanged.state) ∙ ap (λ answer. answer_text answer after) (sym is);
+      refused = ap (λ state. (outcome_in state query).refused) (sym same) ∙ sym refused ∙ ap (λ answer. is_refusal answer after) (sym is);
+      asked = subst (λ answer. IsAsked answer after) (sym is) tt;
+      state = unchanged.state ∙ sym same ∙ sym engine;
+      does = subst (λ answer. Does (effect_of answer) s after) (sym is) (subst (λ effect. Does effect s after) (sym does) unchanged.does);
+    }
+
+-- a query that asks of no earlier state is one of the store's state
+pub present_outcome : (query : Query) → ((n : ℕ) → query ≡ AtList n → ⊥) → ((n : ℕ) (fpr : List ℕ) → query ≡ AtListOne n fpr → ⊥) → ((n : ℕ) (fpr : List ℕ) (place : ℕ) → query ≡ AtWhy n fpr place → ⊥)
+    → (s : Store) → query_outcome s query ≡ outcome_in s.state query
+present_outcome ListAll no_list no_one no_why s = refl
+present_outcome (ListOne fpr) no_list no_one no_why s = refl
+present_outcome Sigs no_list no_one no_why s = refl
+present_outcome (SigsOne fpr) no_list no_one no_why s = refl
+present_outcome Export no_list no_one no_why s = refl
+present_outcome (Why fpr place) no_list no_one no_why s = refl
+present_outcome Check no_list no_one no_why s = refl
+present_outcome (Suppose edit) no_list no_one no_why s = refl
+present_outcome (Critical fpr place) no_list no_one no_why s = refl
+present_outcome Compact no_list no_one no_why s = refl
+present_outcome Quit no_list no_one no_why s = refl
+present_outcome (AtList n) no_list no_one no_why s = absurd (no_list n refl)
+present_outcome (AtListOne n fpr) no_list no_one no_why s = absurd (no_one n fpr refl)
+present_outcome (AtWhy n fpr place) no_list no_one no_why s = absurd (no_why n fpr place refl)

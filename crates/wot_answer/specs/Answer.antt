@@ -1,5 +1,5 @@
 -- What a line of a session is answered with.
-use Rattle.std.specs.Prelude.{◌≡◌, ℕ, List, ◌++◌, Bool, true, false, not, None, ◌&&◌, ◌||◌}
+use Rattle.std.specs.Prelude.{◌≡◌, ℕ, ◌≤◌, List, ◌++◌, length, Bool, true, false, not, None, ◌&&◌, ◌||◌}
 use Rattle.wot_types.specs.declared.edit.Edit.{Edit}
 use Rattle.wot_types.specs.declared.query.Query.{Query}
 use Rattle.wot_types.specs.declared.query.Query.TheVariants as query
@@ -8,18 +8,22 @@ use Rattle.wot_types.specs.Commands as lines
 use Rattle.wot_types.specs.Commands.{ReadLine, ends_block}
 use Rattle.wot_types.specs.Commands.Division.{between, within, over}
 use Rattle.wot_types.specs.Compaction.{compacted_store}
+use Rattle.wot_types.specs.EarlierStates.{earlier_state}
 use Rattle.wot_types.specs.Levels.{rows_of}
 use Rattle.wot_types.specs.LineByLine.{Position, after_line, reply_to_line}
-use Rattle.wot_types.specs.Outcome.{Accepts, Outcome, store_after, edited_store, ok_line}
+use Rattle.wot_types.specs.Outcome.{Accepts, Outcome, store_after, edited_store, ok_line, outcome_in}
 use Rattle.wot_types.specs.Payload.{IsWritten}
 use Rattle.wot_types.specs.Printing.{list_text}
 use Rattle.wot_types.specs.Store.{Store}
 use Rattle.wot_types.specs.Tally.{tally_line}
+use Rattle.wot_commands.specs.Heads.{IsProperQuery}
 use Rattle.wot_journal.specs.Record.{Framed}
 use Rattle.wot_answer.specs.Block.{IsBlockOf}
 use Rattle.wot_answer.specs.declared.answer.Answered.{Answered}
 use Rattle.wot_answer.specs.declared.division.Division.{Division}
 use Rattle.wot_answer.specs.declared.division.Division.TheVariants.{Between, Within, Over}
+use Rattle.wot_answer.specs.declared.reply.Answer.{Answer}
+use Rattle.wot_answer.specs.declared.reply.Answer.TheVariants.{Told, Earlier}
 use Rattle.wot_answer.specs.declared.reply.Effect.{Effect}
 use Rattle.wot_answer.specs.declared.reply.Effect.TheVariants.{Nothing, Append, Compact}
 use Rattle.wot_answer.specs.declared.reply.Reply.{Reply}
@@ -56,19 +60,60 @@ abbrev pub effect_by : Query → Effect
 effect_by query.Compact = Compact
 effect_by _ = Nothing
 
--- what is told in a state: a text, all keys without certifications or with them, or the tally with all rows counted anew
+-- what is told in a state: a text, an `err` line, all keys without certifications or with them, or the tally with all rows counted anew
 abbrev pub reply_of : Reply → State → List ℕ
 reply_of (told.Text text) s = text.items
+reply_of (told.Refused text) s = text.items
 reply_of told.List s = list_text s None false ++ ok_line
 reply_of told.Sigs s = list_text s None true ++ ok_line
 reply_of told.Tally s = tally_line s (rows_of s) ++ ok_line
 
+-- it is an `err` line
+abbrev pub is_err : Reply → Bool
+is_err (told.Refused text) = true
+is_err _ = false
+
+-- a query of an earlier state: `list`, `list FPR` or `why FPR PLACE`, whose place is counted from 1
+abbrev pub IsEarlierQuery : Query → Type 0
+IsEarlierQuery query.List = Unit {0}
+IsEarlierQuery (query.ListOne fpr) = Unit {0}
+IsEarlierQuery (query.Why fpr place) = 1 ≤ place
+IsEarlierQuery _ = ⊥
+
+-- a query that is asked of a state: one that words can ask for, and not of an earlier state
+abbrev pub IsPresentQuery : Query → Type 0
+IsPresentQuery (query.AtList n) = ⊥
+IsPresentQuery (query.AtListOne n fpr) = ⊥
+IsPresentQuery (query.AtWhy n fpr place) = ⊥
+IsPresentQuery asked = IsProperQuery asked
+
+-- the answer to a command that leaves this store: what is told, in the store's state or in the one after its first n edits
+abbrev pub answer_text : Answer → Store → List ℕ
+answer_text (Told reply effect) s = reply_of reply s.state
+answer_text (Earlier n query) s = (outcome_in (earlier_state s n) query).text
+
+-- the command is refused
+abbrev pub is_refusal : Answer → Store → Bool
+is_refusal (Told reply effect) s = is_err reply
+is_refusal (Earlier n query) s = (outcome_in (earlier_state s n) query).refused
+
+-- what is done to the store before it is told
+abbrev pub effect_of : Answer → Effect
+effect_of (Told reply effect) = effect
+effect_of (Earlier n query) = Nothing
+
+-- an earlier state that is asked is one of the store's
+abbrev pub IsAsked : Answer → Store → Type 0
+IsAsked (Told reply effect) s = Unit {0}
+IsAsked (Earlier n query) s = (n ≤ length s.edits) × IsEarlierQuery query
+
 -- the answer to a command with this outcome in this store: its reply, and the state after it; the store's change is due
 pub record Ends (answered : Answered) (s : Store) (o : Outcome) : Type 0 where
-  pub text : o.text ≡ reply_of answered.answer.reply answered.engine
-  pub refused : o.refused ≡ answered.answer.refused
+  pub text : o.text ≡ answer_text answered.answer (store_after o.change s)
+  pub refused : o.refused ≡ is_refusal answered.answer (store_after o.change s)
+  pub asked : IsAsked answered.answer (store_after o.change s)
   pub state : (store_after o.change s).state ≡ answered.engine
-  pub does : Does answered.answer.effect s (store_after o.change s)
+  pub does : Does (effect_of answered.answer) s (store_after o.change s)
 
 -- the same, whatever the store with this state
 abbrev pub IsReply : Answered → State → Outcome → Type 0
@@ -76,8 +121,9 @@ IsReply answered old o = (s : Store) → old ≡ s.state → Ends answered s o
 
 -- the answer to a line where a session has come so far
 pub record Answers (answered : Answered) (p : Position) (line : ReadLine) : Type 0 where
-  pub text : reply_to_line p line ≡ reply_of answered.answer.reply answered.engine
-  pub refused : (after_line p line).progress.refused ≡ (p.progress.refused || answered.answer.refused)
+  pub text : reply_to_line p line ≡ answer_text answered.answer (after_line p line).progress.store
+  pub refused : (after_line p line).progress.refused ≡ (p.progress.refused || is_refusal answered.answer (after_line p line).progress.store)
+  pub asked : IsAsked answered.answer (after_line p line).progress.store
   pub state : (after_line p line).progress.store.state ≡ answered.engine
   pub division : IsDivision answered.division (after_line p line).division
-  pub does : Does answered.answer.effect p.progress.store (after_line p line).progress.store
+  pub does : Does (effect_of answered.answer) p.progress.store (after_line p line).progress.store

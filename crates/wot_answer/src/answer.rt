@@ -1,6 +1,6 @@
 //! The answers to lines, to blocks at the input's end and to words.
 
-ghost use Rattle.std.specs.Prelude.{◌≡◌, true, false, List, Some, if◌then◌else◌, IfOk};
+ghost use Rattle.std.specs.Prelude.{◌≡◌, true, false, List, length, Some, if◌then◌else◌, IfOk};
 ghost use Rattle.std.specs.Option.{option_copied};
 ghost use Rattle.wot_types.specs.Commands as lines;
 ghost use Rattle.wot_types.specs.Commands.{Command, begun_command, closed_command, is_quit};
@@ -8,6 +8,7 @@ ghost use Rattle.wot_types.specs.Commands.Division.{between, over};
 ghost use Rattle.wot_types.specs.Grammar.{has_block};
 ghost use Rattle.wot_types.specs.LineByLine.{Position};
 ghost use Rattle.wot_types.specs.Listing.{Line, fault_at_end};
+ghost use Rattle.wot_types.specs.Numbers.{capped};
 ghost use Rattle.wot_types.specs.Outcome.{delete_outcome, entries_outcome, listing_outcome, outcome};
 ghost use Rattle.wot_types.specs.OwnertrustText.{ownertrust_fault};
 ghost use Rattle.wot_types.specs.Store.{Store};
@@ -21,7 +22,7 @@ use crate::block::{Block, Body};
 use crate::division::Division;
 use crate::edit::make_edit;
 use crate::edit_reply::EditReply;
-use crate::query::{answer_query, has_key};
+use crate::query::answer_query;
 use crate::reply::{Answer, refuse, say_nothing};
 use crate::words::{has_block, is_quit, line_words, without_return};
 use std::alloc::Global;
@@ -53,21 +54,23 @@ impl Answered {
     }
 }
 
-/// Answers a line without its newline; None is a line that is too long. A line that a block goes on with is read by `Division::read_on`, and not answered here. The journal ends at `end`.
+/// Answers a line without its newline; None is a line that is too long. A line that a block goes on with is read by `Division::read_on`, and not answered here. The journal ends at `end`, and has so many records.
 pub fn answer_line(
     alloc: Global,
     engine: Engine,
     end: u64,
+    records: u64,
     division: Division,
     line: Option<&[u8]>,
 ) -> Result<Answered, Mem>
     requires known { (c : lines.Division) × IsDivision division c }
     requires ended { reads_on division (option_copied line) ≡ false }
     ensures answers { IfOk result (λ answered. (p : Position) → engine ≡ p.progress.store.state → end ≡ p.progress.store.end
+        → capped records ≡ capped (length p.progress.store.edits)
         → IsDivision division p.division → Answers answered p (option_copied line.entry)) }
 {
     match division {
-        Division::Between => answer_command(alloc, engine, end, line),
+        Division::Between => answer_command(alloc, engine, end, records, line),
         Division::Within(block) => answer_body(alloc, engine, end, block.body),
         Division::Over => Ok(say_nothing(alloc, engine, Division::Over)),
     }
@@ -78,20 +81,29 @@ fn answer_command(
     alloc: Global,
     engine: Engine,
     end: u64,
+    records: u64,
     line: Option<&[u8]>,
 ) -> Result<Answered, Mem>
     ensures answers { IfOk result (λ answered. (p : Position) → engine ≡ p.progress.store.state → end ≡ p.progress.store.end
+        → capped records ≡ capped (length p.progress.store.edits)
         → p.division ≡ between → Answers answered p (option_copied line.entry)) }
 {
     match line {
-        Some(line) => answer_text(alloc, engine, end, line),
+        Some(line) => answer_text(alloc, engine, end, records, line),
         None => refuse(alloc, engine, Refusal::LineTooLong),
     }
 }
 
 /// The same of a line that isn't too long.
-fn answer_text(alloc: Global, engine: Engine, end: u64, line: &[u8]) -> Result<Answered, Mem>
+fn answer_text(
+    alloc: Global,
+    engine: Engine,
+    end: u64,
+    records: u64,
+    line: &[u8],
+) -> Result<Answered, Mem>
     ensures answers { IfOk result (λ answered. (p : Position) → engine ≡ p.progress.store.state → end ≡ p.progress.store.end
+        → capped records ≡ capped (length p.progress.store.edits)
         → p.division ≡ between → Answers answered p (Some line.now)) }
 {
     let words = line_words(alloc, without_return(line))?;
@@ -102,7 +114,7 @@ fn answer_text(alloc: Global, engine: Engine, end: u64, line: &[u8]) -> Result<A
         };
         return Ok(say_nothing(alloc, engine, Division::Within(block)));
     }
-    let answered = answer_words(alloc, engine, end, &words)?;
+    let answered = answer_words(alloc, engine, end, records, &words)?;
     Ok(answered.with_division(division_after(&words)))
 }
 
@@ -204,9 +216,16 @@ fn set_entries(
     }
 }
 
-/// Answers a command by its words; its block, if it has one, is empty.
-pub fn answer_words(alloc: Global, engine: Engine, end: u64, words: &Words) -> Result<Answered, Mem>
-    ensures ends { IfOk result (λ answered. (s : Store) → engine ≡ s.state → end ≡ s.end → Ends answered s (outcome s (begun_command words.now))) }
+/// Answers a command by its words; its block, if it has one, is empty. The journal ends at `end`, and has so many records.
+pub fn answer_words(
+    alloc: Global,
+    engine: Engine,
+    end: u64,
+    records: u64,
+    words: &Words,
+) -> Result<Answered, Mem>
+    ensures ends { IfOk result (λ answered. (s : Store) → engine ≡ s.state → end ≡ s.end → capped records ≡ capped (length s.edits)
+        → Ends answered s (outcome s (begun_command words.now))) }
     ensures division { IfOk result (λ answered. answered.division ≡ Between) }
 {
     if words.is_empty() {
@@ -217,7 +236,7 @@ pub fn answer_words(alloc: Global, engine: Engine, end: u64, words: &Words) -> R
             let reply = EditReply::to(alloc, &edit)?;
             make_edit(alloc, engine, end, edit, reply)
         }
-        Ok(Head::Query(query)) => answer_query(alloc, engine, query),
+        Ok(Head::Query(query)) => answer_query(alloc, engine, records, query),
         Ok(Head::DeleteKey(fpr)) => delete_key(alloc, engine, end, &fpr),
         Ok(Head::Import) => import_listing(alloc, engine, end, Listing::new(alloc)?),
         Ok(Head::Ownertrust) => set_entries(alloc, engine, end, OwnertrustText::new(alloc)),
@@ -230,7 +249,7 @@ fn delete_key(alloc: Global, engine: Engine, end: u64, fpr: &Fpr) -> Result<Answ
     ensures ends { IfOk result (λ answered. (s : Store) → engine ≡ s.state → end ≡ s.end → Ends answered s (delete_outcome s fpr.now)) }
     ensures division { IfOk result (λ answered. answered.division ≡ Between) }
 {
-    if !has_key(&engine, fpr) {
+    if !engine.table().has_fpr(fpr) {
         return refuse(alloc, engine, Refusal::NoSuchKey);
     }
     let reply = ok_line(alloc)?;

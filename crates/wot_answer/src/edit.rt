@@ -2,7 +2,8 @@
 
 ghost use Rattle.std.specs.Prelude.{◌≡◌, ◌≤◌, length, true, false, None, IfOk, IsErrOf};
 ghost use Rattle.wot_types.specs.Limits.{most_record};
-ghost use Rattle.wot_types.specs.Outcome.{edit_outcome, is_past, state_after, refusal_of};
+ghost use Rattle.wot_types.specs.Outcome.{edit_outcome, is_past, refusal_of};
+ghost use Rattle.wot_types.specs.StateAfter.{state_after};
 ghost use Rattle.wot_types.specs.Payload.{IsWritten, IsProper, payload};
 ghost use Rattle.wot_types.specs.Store.{Store};
 ghost use Rattle.wot_answer.specs.Answer.{Ends};
@@ -11,7 +12,7 @@ ghost use Rattle.wot_answer.specs.declared.division.Division.TheVariants.{Betwee
 
 use crate::answer::Answered;
 use crate::edit_reply::EditReply;
-use crate::reply::{Effect, Reply, answered, refuse};
+use crate::reply::{Answer, Effect, Reply, answered, refuse};
 use std::alloc::Global;
 use wot_commands::{change, refusal};
 use wot_journal::{BuildError, Built, build_in_place};
@@ -54,7 +55,8 @@ fn make_allowed(
     match build_record(alloc, &edit, end) {
         Ok(built) => {
             let (engine, text) = make(alloc, engine, edit, reply)?;
-            Ok(answered(engine, Reply::Text(text), Effect::Append(built)))
+            let answer = Answer::Told(Reply::Text(text), Effect::Append(built));
+            Ok(answered(engine, answer))
         }
         Err(BuildError::JournalFull) => refuse(alloc, engine, Refusal::JournalFull),
         Err(BuildError::Memory) => Err(Mem::Memory),

@@ -2,7 +2,8 @@
 
 ghost use Rattle.std.specs.Prelude.{◌≡◌, IfOk};
 ghost use Rattle.wot_types.specs.State.{State};
-ghost use Rattle.wot_types.specs.Outcome.{edit_reply, state_after, sample_reply};
+ghost use Rattle.wot_types.specs.Outcome.{edit_reply, sample_reply};
+ghost use Rattle.wot_types.specs.StateAfter.{state_after};
 ghost use Rattle.wot_answer.specs.EditReply.{reply_text};
 
 use std::alloc::Global;

@@ -15,5 +15,6 @@ mod words; // the words of a line
 pub use answer::{Answered, answer_end, answer_line, answer_words, begin_block};
 pub use block::Block;
 pub use division::Division;
+pub use query::answer_in;
 pub use reply::{Answer, Effect, Reply};
 pub use words::has_block;

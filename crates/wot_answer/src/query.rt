@@ -1,21 +1,22 @@
 //! What a query is answered with.
 
-ghost use Rattle.std.specs.Prelude.{◌≡◌, ◌++◌, ◌-◌, ◌<◌, ◌≤◌, None, Some, IsSome, IfOk};
+ghost use Rattle.std.specs.Prelude.{◌≡◌, ◌++◌, ◌-◌, ◌<◌, ◌≤◌, false, length, None, Some, IsSome, IfOk};
 ghost use Rattle.std.specs.FinMap as map;
 ghost use Rattle.wot_types.specs.Arrangement.{spot_at};
 ghost use Rattle.wot_types.specs.CutState.{cut};
 ghost use Rattle.wot_types.specs.Explanation.{explained_rows, explanation};
 ghost use Rattle.wot_types.specs.Keyring.{has_fpr};
 ghost use Rattle.wot_types.specs.Letters.{letter_at};
-ghost use Rattle.wot_types.specs.Outcome.{answer_to, ok_line, query_outcome, query_refusal, reply_to, unless_user, user_count};
+ghost use Rattle.wot_types.specs.Outcome.{answer_to, earlier_outcome, ok_line, outcome_in, query_outcome, query_refusal, reply_to, unless_user, user_count};
+ghost use Rattle.wot_types.specs.Numbers.{capped};
 ghost use Rattle.wot_types.specs.WhyText.{why_text};
 ghost use Rattle.wot_types.specs.Store.{Store};
 ghost use Rattle.wot_commands.specs.Heads.{IsProperQuery};
-ghost use Rattle.wot_answer.specs.Answer.{Ends, effect_by, reply_of};
+ghost use Rattle.wot_answer.specs.Answer.{Ends, IsEarlierQuery, IsPresentQuery, effect_by, is_err, reply_of};
 ghost use Rattle.wot_answer.specs.declared.division.Division.TheVariants.{Between};
 
 use crate::answer::Answered;
-use crate::reply::{Effect, Reply, answered, refuse};
+use crate::reply::{Answer, Effect, Reply, answered, refuse};
 use crate::supposing::{changes_text, losses_text};
 use std::alloc::Global;
 use std::marker::Brand;
@@ -23,34 +24,96 @@ use std::sync::ledger::{Blank, Ledger};
 use wot_commands::refusal;
 use wot_explain::{Why, cut, explain, recount};
 use wot_live::Engine;
-use wot_print::{export, list, why};
+use wot_print::{export, list, refused, why};
 use wot_table::LentState;
 use wot_types::{Fpr, KeyId, Letter, Mem, Query, Refusal, Steps};
 
-/// Answers a query; the state stays.
-pub fn answer_query(alloc: Global, engine: Engine, query: Query) -> Result<Answered, Mem>
+/// Answers a query; the state stays. The store has had so many edits since its base.
+pub fn answer_query(
+    alloc: Global,
+    engine: Engine,
+    records: u64,
+    query: Query,
+) -> Result<Answered, Mem>
     requires proper { IsProperQuery query }
-    ensures ends { IfOk result (λ answered. (s : Store) → engine ≡ s.state → Ends answered s (query_outcome s query)) }
+    ensures ends { IfOk result (λ answered. (s : Store) → engine ≡ s.state → capped records ≡ capped (length s.edits)
+        → Ends answered s (query_outcome s query)) }
     ensures division { IfOk result (λ answered. answered.division ≡ Between) }
 {
+    match query {
+        Query::AtList(edits) => ask_earlier(alloc, engine, records, edits, Query::List),
+        Query::AtListOne(edits, fpr) => ask_earlier(
+            alloc,
+            engine,
+            records,
+            edits,
+            Query::ListOne(fpr),
+        ),
+        Query::AtWhy(edits, fpr, place) => ask_earlier(
+            alloc,
+            engine,
+            records,
+            edits,
+            Query::Why(fpr, place),
+        ),
+        query => answer_now(alloc, engine, query),
+    }
+}
+
+/// Asks a query of the state after the first so many edits, unless there are fewer.
+fn ask_earlier(
+    alloc: Global,
+    engine: Engine,
+    records: u64,
+    edits: u64,
+    query: Query,
+) -> Result<Answered, Mem>
+    requires earlier { IsEarlierQuery query }
+    ensures ends { IfOk result (λ answered. (s : Store) → engine ≡ s.state → capped records ≡ capped (length s.edits)
+        → Ends answered s (earlier_outcome s edits query)) }
+    ensures division { IfOk result (λ answered. answered.division ≡ Between) }
+{
+    if edits > records {
+        return refuse(alloc, engine, Refusal::NoSuchTime(records));
+    }
+    Ok(answered(engine, Answer::Earlier(edits, query)))
+}
+
+/// Answers a query of the engine's state.
+fn answer_now(alloc: Global, engine: Engine, query: Query) -> Result<Answered, Mem>
+    requires proper { IsPresentQuery query }
+    ensures ends { IfOk result (λ answered. (s : Store) → engine ≡ s.state → Ends answered s (outcome_in s.state query)) }
+    ensures division { IfOk result (λ answered. answered.division ≡ Between) }
+{
+    let effect = effect_of(&query);
+    let (engine, reply) = answer_in(alloc, engine, query)?;
+    Ok(answered(engine, Answer::Told(reply, effect)))
+}
+
+/// The reply to a query in the state of this engine, which is handed back with the same state.
+pub fn answer_in(alloc: Global, engine: Engine, query: Query) -> Result<(Engine, Reply), Mem>
+    requires proper { IsPresentQuery query }
+    ensures engine { IfOk result (λ r. r.0 ≡ engine) }
+    ensures reply { IfOk result (λ r. reply_of r.1 engine ≡ (outcome_in engine query).text) }
+    ensures refused { IfOk result (λ r. is_err r.1 ≡ (outcome_in engine query).refused) }
+{
     match query_refusal(&engine, &query) {
-        Some(refusal) => refuse(alloc, engine, refusal),
-        None => {
-            let effect = effect_of(&query);
-            let (engine, reply) = query_reply(alloc, engine, query)?;
-            Ok(answered(engine, reply, effect))
+        Some(refusal) => {
+            let line = refused(alloc, &refusal)?;
+            Ok((engine, Reply::Refused(line)))
         }
+        None => query_reply(alloc, engine, query),
     }
 }
 
 /// Why a query has no answer: its key or its user ID isn't there, or the edit that it supposes can't be made.
 fn query_refusal(engine: &Engine, query: &Query) -> Option<Refusal>
-    requires proper { IsProperQuery query.now }
+    requires proper { IsPresentQuery query.now }
     ensures { result ≡ query_refusal engine.now query.now }
 {
     match query {
         Query::ListOne(fpr) | Query::SigsOne(fpr) => {
-            if has_key(engine, fpr) {
+            if engine.table().has_fpr(fpr) {
                 None
             } else {
                 Some(Refusal::NoSuchKey)
@@ -58,8 +121,7 @@ fn query_refusal(engine: &Engine, query: &Query) -> Option<Refusal>
         }
         Query::Why(fpr, place) | Query::Critical(fpr, place) => missing_user(engine, fpr, *place),
         Query::Suppose(edit) => refusal(engine, edit),
-        Query::List | Query::Sigs | Query::Export | Query::Check | Query::Compact | Query::Quit =>
-            None,
+        _ => None,
     }
 }
 
@@ -67,22 +129,12 @@ fn query_refusal(engine: &Engine, query: &Query) -> Option<Refusal>
 fn missing_user(engine: &Engine, fpr: &Fpr, place: u32) -> Option<Refusal>
     ensures { result ≡ unless_user engine.now fpr.now place }
 {
-    if !has_key(engine, fpr) {
+    if !engine.table().has_fpr(fpr) {
         Some(Refusal::NoSuchKey)
     } else if place > user_count(engine, fpr.key_id()) {
         Some(Refusal::NoSuchUser)
     } else {
         None
-    }
-}
-
-/// Whether the keyring has a key of this fingerprint. One of its key ID with another fingerprint is no such key.
-pub fn has_key(engine: &Engine, fpr: &Fpr) -> bool
-    ensures { result ≡ has_fpr engine.now.keys fpr.now }
-{
-    match engine.table().key(fpr.key_id()) {
-        Some(key) => *key.fpr == *fpr,
-        None => false,
     }
 }
 
@@ -108,10 +160,11 @@ fn effect_of(query: &Query) -> Effect
 
 /// A query's reply. What is supposed is tried on the engine itself, which is handed back as it was.
 fn query_reply(alloc: Global, engine: Engine, query: Query) -> Result<(Engine, Reply), Mem>
-    requires proper { IsProperQuery query }
+    requires proper { IsPresentQuery query }
     requires answered { query_refusal engine query ≡ None }
     ensures engine { IfOk result (λ r. r.0 ≡ engine) }
     ensures reply { IfOk result (λ r. reply_of r.1 engine ≡ reply_to engine query) }
+    ensures accepted { IfOk result (λ r. is_err r.1 ≡ false) }
 {
     match query {
         Query::Suppose(edit) => {
@@ -131,9 +184,10 @@ fn query_reply(alloc: Global, engine: Engine, query: Query) -> Result<(Engine, R
 
 /// The reply to a query whose last line is `ok`.
 fn reply_with_ok(alloc: Global, engine: &Engine, query: &Query) -> Result<Reply, Mem>
-    requires proper { IsProperQuery query.now }
+    requires proper { IsPresentQuery query.now }
     requires answered { query_refusal engine.now query.now ≡ None }
-    ensures { IfOk result (λ reply. reply_of reply engine.now ≡ answer_to engine.now query.now ++ ok_line) }
+    ensures reply { IfOk result (λ reply. reply_of reply engine.now ≡ answer_to engine.now query.now ++ ok_line) }
+    ensures accepted { IfOk result (λ reply. is_err reply ≡ false) }
 {
     let mut text = match query {
         Query::Check => return Ok(Reply::Tally),
@@ -143,7 +197,8 @@ fn reply_with_ok(alloc: Global, engine: &Engine, query: &Query) -> Result<Reply,
         Query::SigsOne(fpr) => list(alloc, engine, Some(fpr.key_id()), true)?,
         Query::Export => export(alloc, engine)?,
         Query::Why(fpr, place) => explanation_text(alloc, engine, fpr.key_id(), *place)?,
-        Query::Suppose(_) | Query::Critical(..) | Query::Compact | Query::Quit => Vec::new(alloc),
+        // `compact` and `quit` are answered with the last line alone.
+        _ => Vec::new(alloc),
     };
     text.extend_from_slice(b"ok\n")?;
     Ok(Reply::Text(text))

@@ -1,8 +1,8 @@
 //! Replies: what is told, and what is done to the store before it is told.
 
-ghost use Rattle.std.specs.Prelude.{◌≡◌, false, IfOk};
+ghost use Rattle.std.specs.Prelude.{◌≡◌, IfOk};
 ghost use Rattle.wot_types.specs.Outcome.{refuse, skip};
-ghost use Rattle.wot_answer.specs.Answer.{IsReply};
+ghost use Rattle.wot_answer.specs.Answer.{IsReply, is_err};
 ghost use Rattle.wot_answer.specs.declared.division.Division.TheVariants.{Between};
 
 use crate::answer::Answered;
@@ -11,7 +11,7 @@ use std::alloc::Global;
 use wot_journal::Built;
 use wot_live::Engine;
 use wot_print::refused;
-use wot_types::{Mem, Refusal};
+use wot_types::{Mem, Query, Refusal};
 
 /// What is done to the store before a reply is told.
 #[derive(Debug, Drop)]
@@ -27,6 +27,8 @@ pub enum Effect {
 pub enum Reply {
     /// The whole reply: nothing for a line with no command.
     Text(Vec<u8>),
+    /// A refused command's `err` line.
+    Refused(Vec<u8>),
     /// The listing of all keys, and the last line of a reply.
     List,
     /// The same with the certifications.
@@ -35,13 +37,22 @@ pub enum Reply {
     Tally,
 }
 
+impl Reply {
+    /// Whether it is an `err` line.
+    pub fn is_err(&self) -> bool
+        ensures { result ≡ is_err self.now }
+    {
+        matches!(self, Reply::Refused(_))
+    }
+}
+
 /// What a command is answered with.
 #[derive(Debug, Drop)]
-pub struct Answer {
-    pub reply: Reply,
-    /// Whether it is an `err` line.
-    pub refused: bool,
-    pub effect: Effect,
+pub enum Answer {
+    /// A reply of the engine's state, and what is done to the store before it is told.
+    Told(Reply, Effect),
+    /// A query of the state after the first so many edits since the base, which is read from the store first. Nothing is done to the store.
+    Earlier(u64, Query),
 }
 
 /// A refused command's `err` line; the engine stays.
@@ -49,30 +60,19 @@ pub fn refuse(alloc: Global, engine: Engine, refusal: Refusal) -> Result<Answere
     ensures reply { IfOk result (λ answered. IsReply answered engine (refuse refusal)) }
     ensures division { IfOk result (λ answered. answered.division ≡ Between) }
 {
-    Ok(Answered {
-        engine,
-        answer: Answer {
-            reply: Reply::Text(refused(alloc, &refusal)?),
-            refused: true,
-            effect: Effect::Nothing,
-        },
-        division: Division::Between,
-    })
+    let line = refused(alloc, &refusal)?;
+    Ok(answered(engine, Answer::Told(Reply::Refused(line), Effect::Nothing)))
 }
 
-/// A reply that is no `err` line; the engine is the one that it speaks of.
-pub fn answered(engine: Engine, reply: Reply, effect: Effect) -> Answered
+/// The answer to a whole command, and the engine as the command leaves it.
+pub fn answered(engine: Engine, answer: Answer) -> Answered
     ensures engine { result.engine ≡ engine }
-    ensures answer { result.answer ≡ record { reply = reply; refused = false; effect = effect } }
+    ensures answer { result.answer ≡ answer }
     ensures division { result.division ≡ Between }
 {
     Answered {
         engine,
-        answer: Answer {
-            reply,
-            refused: false,
-            effect,
-        },
+        answer,
         division: Division::Between,
     }
 }
@@ -84,11 +84,7 @@ pub fn say_nothing(alloc: Global, engine: Engine, division: Division) -> Answere
 {
     Answered {
         engine,
-        answer: Answer {
-            reply: Reply::Text(Vec::new(alloc)),
-            refused: false,
-            effect: Effect::Nothing,
-        },
+        answer: Answer::Told(Reply::Text(Vec::new(alloc)), Effect::Nothing),
         division,
     }
 }

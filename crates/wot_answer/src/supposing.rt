@@ -2,7 +2,7 @@
 //! same state.
 
 ghost use Rattle.std.specs.Prelude.{◌≡◌, ◌-◌, ◌<◌, ◌≤◌, IfOk};
-ghost use Rattle.wot_types.specs.Outcome.{state_after};
+ghost use Rattle.wot_types.specs.StateAfter.{state_after};
 ghost use Rattle.wot_types.specs.Payload.{IsProper};
 ghost use Rattle.wot_types.specs.Supposing as supposed;
 ghost use Rattle.wot_types.specs.Supposing.{IsSupposable};

@@ -1,5 +1,5 @@
 -- How far bytes have been fed to a session.
-use Rattle.std.proofs.Common.{◌≡◌, ℕ, List, [], ◌∷◌, ◌++◌, Option, Some, None, refl, sym, ap, ◌∙◌, append_assoc, subst}
+use Rattle.std.proofs.Common.{◌≡◌, ℕ, Bool, false, List, [], ◌∷◌, ◌++◌, Option, Some, None, refl, sym, ap, ◌∙◌, append_assoc, subst}
 use Rattle.std.proofs.lemmas.List.{append-nil}
 use Rattle.std.specs.List.{slice_split}
 use Rattle.wot_types.specs.Lines.{is_newline}
@@ -11,14 +11,16 @@ use Rattle.wot_types.proofs.Divisions.{after_one, lines_append, none_over, one_l
 use Rattle.wot_answer.specs.Answer.{IsDivision}
 use Rattle.wot_answer.proofs.Answering as answering
 use Rattle.wot_answer.specs.declared.division.Division.{Division}
+use Rattle.wot_answer.specs.declared.reply.Answer.{Answer}
 use Rattle.wot_answer.specs.declared.division.Division.TheVariants.{Between, Over, Within}
 use Rattle.wot_site.specs.Seen.{Seen, Honestly, IfHonest}
 use Rattle.wot_site.proofs.Honest.{honest_then, honest_weaker}
 use Rattle.wot_types.specs.Store.{Store}
+use Rattle.wot_store.specs.Shows.{IsStored}
 use Rattle.wot_store.specs.declared.place.Place.{Place}
 use Rattle.wot_session.specs.declared.session.Session.{Session}
 use Rattle.wot_session.specs.OpenLine.{more, whole_from, open_from}
-use Rattle.wot_session.specs.SessionState.{Holds, IsAt, IsHere, IsOver}
+use Rattle.wot_session.specs.SessionState.{Holds, IsAt, IsDue, IsDueHere, IsHere, IsOver, KnowsRefused}
 use Rattle.wot_session.specs.declared.stop.Stop.{Stop}
 use Rattle.wot_session.specs.declared.stop.Stop.TheVariants.{Memory}
 use Rattle.wot_session.specs.Answering.{Said, SaidPrefix}
@@ -57,8 +59,40 @@ commands_push p xs line = whole_append p.division xs (line ∷ []) ∙ ap (λ la
 pub holds_at : {place other : Place} (seen : Option Seen) (store : Store) → other ≡ place → Holds place seen store → Holds other seen store
 holds_at seen store same holds = subst (λ (place : Place). Holds place seen store) (sym same) holds
 
-pub here_at : {place : Place} (session : Session) (seen : Option Seen) (p : Position) → session.place ≡ place → IsAt session p → Holds place seen p.progress.store → IsHere session seen p
-here_at session seen p same at holds = record { at = at; holds = holds_at seen p.progress.store same holds }
+pub here_at : {place : Place} (session : Session) (seen : Option Seen) (p : Position) → session.place ≡ place → IsAt session p → Holds place seen p.progress.store
+    → KnowsRefused session seen p.progress.refused → IsHere session seen p
+here_at session seen p same at holds known = record { at = at; holds = holds_at seen p.progress.store same holds; refused = known }
+
+-- a session that has answered nothing knows of no refusal
+pub knows_start : (session : Session) (seen : Option Seen) → session.refused ≡ false → KnowsRefused session seen false
+knows_start session None none = tt
+knows_start session (Some x) none = none
+
+-- and what it knows it knows while it reads on
+knows_at : (old held : Session) (seen : Option Seen) (refused : Bool) → held.refused ≡ old.refused → KnowsRefused old seen refused → KnowsRefused held seen refused
+knows_at old held None refused same known = tt
+knows_at old held (Some x) refused same known = same ∙ known
+
+-- a session that is where another was, with the same store and as many refusals
+pub here_as : (old held : Session) (seen : Option Seen) (p : Position) → held.place ≡ old.place → held.refused ≡ old.refused → IsAt held p → IsHere old seen p → IsHere held seen p
+here_as old held seen p place refused at here = here_at held seen p place at here.holds (knows_at old held seen p.progress.refused refused here.refused)
+
+-- an answer that is due there
+pub due_here : (old held : Session) (answer : Answer) (seen : Option Seen) (p after : Position) (text : List ℕ) → held.place ≡ old.place → held.refused ≡ old.refused
+    → IsHere old seen p → IsDue held answer p.progress after text → IsDueHere held answer seen p.progress after text
+due_here old held answer seen p after text place refused here due = record {
+  due = due;
+  holds = holds_at seen p.progress.store place here.holds;
+  refused = knows_at old held seen p.progress.refused refused here.refused;
+}
+
+-- what a site that tells has where a session is
+abbrev pub Known : Session → Position → Seen → Type 0
+Known session p s = IsStored session.place p.progress.store s.disks × (session.refused ≡ p.progress.refused)
+
+pub known_here : (session : Session) (seen : Option Seen) (p : Position) → IsHere session seen p → IfHonest seen (Known session p)
+known_here session None p here = tt
+known_here session (Some x) p here = (here.holds, here.refused)
 
 -- these bytes were given to a session at its start, the rest of them is to be fed, and the lines before it are done
 pub record Feeding (first now : Option Seen) (start session : Session) (bytes rest : List ℕ) : Type 0 where
@@ -157,10 +191,11 @@ module _ {first now : Option Seen} {start session : Session} {bytes rest : List 
     all_done =
         sym (append-nil feeding.done) ∙ ap (λ lines. feeding.done ++ lines) (sym (whole_none session.line rest unended)) ∙ feeding.whole
 
-    pub fed_at : (held : Session) → ((p : Position) → IsAt session p → IsAt held p) → held.place ≡ session.place
+    pub fed_at : (held : Session) → ((p : Position) → IsAt session p → IsAt held p) → held.place ≡ session.place → held.refused ≡ session.refused
         → (p : Position) → IsHere start first p → IsHere held now (after_lines p (whole_from start.line bytes))
-    fed_at held held_at held_place p here =
-        subst (λ lines. IsHere held now (after_lines p lines)) all_done (here_at held now (after_lines p feeding.done) held_place (held_at _ (feeding.at p here).at) (feeding.at p here).holds)
+    fed_at held held_at held_place held_refused p here =
+        subst (λ lines. IsHere held now (after_lines p lines)) all_done
+        (here_as session held now (after_lines p feeding.done) held_place held_refused (held_at _ (feeding.at p here).at) (feeding.at p here))
 
     pub fed_line : open_from start.line bytes ≡ more session.line rest
     fed_line = sym feeding.line ∙ open_none session.line rest unended

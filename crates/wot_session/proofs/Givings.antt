@@ -1,9 +1,13 @@
 -- What an answer does to the store, and then its reply.
-use Rattle.std.proofs.Common.{◌≡◌, inl, inr, ℕ, ◌+◌, Bool, true, false, List, [], ◌++◌, length, Option, Some, None, refl, sym, ap, ◌∙◌, subst, append_assoc, arith}
+use Rattle.std.proofs.Common.{◌≡◌, inl, inr, ℕ, ◌+◌, Bool, true, false, List, [], ◌++◌, length, Option, Some, None, ◌||◌, refl, sym, ap, ◌∙◌, subst, append_assoc, arith}
 use Rattle.std.specs.Prelude.{nat_eq}
-use Rattle.std.proofs.lemmas.List.{append-nil}
+use Rattle.std.proofs.lemmas.List.{append-nil, length_push}
+use Rattle.std.proofs.lemmas.Bool.Decides.{nat_tests}
 use Rattle.std.proofs.lemmas.Option.{same_Some}
 use Rattle.wot_types.specs.LineByLine.{Position}
+use Rattle.wot_types.specs.Numbers.{capped}
+use Rattle.wot_types.specs.Session.{Progress}
+use Rattle.wot_types.proofs.Capped.{capped_add}
 use Rattle.wot_types.specs.Store.{Store}
 use Rattle.wot_types.specs.State.{State}
 use Rattle.wot_types.specs.declared.edit.Edit.{Edit}
@@ -12,9 +16,10 @@ use Rattle.wot_types.specs.Outcome.{edited_store}
 use Rattle.wot_types.specs.WellFormedState.{IsWellFormedState}
 use Rattle.wot_types.proofs.WellFormedStates.{makes_sound}
 use Rattle.wot_journal.specs.Record.{Framed}
-use Rattle.wot_answer.specs.Answer.{Does, Leads, reply_of}
-use Rattle.wot_answer.specs.declared.reply.Answer.{Answer}
+use Rattle.wot_answer.specs.Answer.{Does, Leads, is_err, reply_of}
+use Rattle.wot_answer.specs.declared.reply.Answer.TheVariants.{Told as Replied}
 use Rattle.wot_answer.specs.declared.reply.Effect.{Effect}
+use Rattle.wot_answer.specs.declared.reply.Reply.{Reply}
 use Rattle.wot_answer.specs.declared.reply.Effect.TheVariants.{Nothing, Append, Compact}
 use Rattle.wot_site.specs.Seen.{Honestly, IfHonest, Moment, Seen}
 use Rattle.wot_site.specs.Disk.{Disks}
@@ -31,6 +36,9 @@ use Rattle.wot_store.proofs.Written.{stored_side}
 use Rattle.wot_store.specs.declared.place.Place.{Place}
 use Rattle.wot_session.specs.SessionState.{Holds, IsDue, IsHere, IsPlace, Performs}
 use Rattle.wot_session.specs.declared.session.Session.{Session}
+use Rattle.wot_session.specs.declared.stop.Stop.{Stop}
+use Rattle.wot_session.specs.declared.stop.Stop.TheVariants.{TellFault}
+use Rattle.wot_session.specs.Stop.{IsNoBadStore}
 use Rattle.wot_session.specs.CrashImages.{AllShow, AllShowEither, IsAround}
 use Rattle.wot_session.specs.Written.{IsAnswered, WritesTo}
 use Rattle.wot_tell.specs.Telling.{IsTelling, Telling, TellingPrefix}
@@ -70,10 +78,21 @@ leads_next place built s t (Some x) leads holds = record { shown = s; edit = lea
 pub leads_on : (built : Framed) (s t : Store) → Leads built s t → t ≡ s → ⊥
 leads_on built s t leads same = omega (arith, ap (λ (store : Store). store.end) (sym leads.after ∙ same))
 
+-- one more, counted from a number that is known as far as 64 bits can tell
+capped_more : (n : ℕ) → capped (n + 1) ≡ capped (capped n + 1)
+capped_more n = sym (capped_add n 1)
+
+capped_next : (m n : ℕ) → capped m ≡ capped n → capped (capped (capped m + 1)) ≡ capped (n + 1)
+capped_next m n same = grind (arith, nat_tests)
+
 -- the place after it is that of the store after it
 pub appended_place : (place : Place) (built : Framed) (s t : Store) → IsPlace place s → Leads built s t → IsPlace (place_after place built) t
 appended_place place built s t at leads =
-    subst (IsPlace (place_after place built)) (sym leads.after) (record { epoch = at.epoch; end = omega (arith, leads.place, ap length leads.payload.is) })
+    subst (IsPlace (place_after place built)) (sym leads.after) (record {
+      epoch = at.epoch;
+      end = omega (arith, leads.place, ap length leads.payload.is);
+      records = ap capped (capped_more place.records) ∙ capped_next place.records (length s.edits) at.records ∙ ap capped (sym (length_push s.edits leads.edit));
+    })
 
 -- what leads the store from the one to the other
 abbrev pub Leading : Store → Store → Seen → Seen → Type 0
@@ -95,7 +114,7 @@ writes_between place built s t d e leads stored between = record {
       shown = stored_side place s d stored;
       between = subst (λ n. WritesBetween place.side n (t.end + 1) d e) stored.end
           (subst (λ n. WritesBetween place.side place.end (n + 1) d e)
-          (appended_place place built s t (record { epoch = stored.epoch; end = stored.end }) leads).end between);
+          (appended_place place built s t (record { epoch = stored.epoch; end = stored.end; records = ap capped stored.records }) leads).end between);
     },
   ));
 }
@@ -200,9 +219,10 @@ module _ (s t : Store) (reply : List ℕ) (x y : Seen) (works : ShowsEither s t 
       since_weaker (Quiet (WritesTo s t x.disks) x.told) (IsAnswered (WritesTo s t x.disks) reply x.told left) x y
       (λ m at. record { prefix = []; is_prefix = (reply, refl); told = at.told ∙ sym (append-nil x.told); sides = inr (refl, at.disks) }) leading.since
 
-  -- the store failed
-  pub given_none : GivenPrefix s t reply x y
-  given_none = record {
+  -- nothing of the reply was told
+  pub given_none : (stop : Stop) → IsNoBadStore stop → GivenPrefix s t reply stop x y
+  given_none stop sound = record {
+    sound = sound;
     told = record {
       prefix = [];
       is_prefix = (reply, refl);
@@ -250,10 +270,11 @@ module _ (s t : Store) (reply : List ℕ) (x y : Seen) (works : ShowsEither s t 
     }
 
     -- a prefix of it
-    pub given_prefix : TellingPrefix reply y z → GivenPrefix s t reply x z
+    pub given_prefix : TellingPrefix reply y z → GivenPrefix s t reply TellFault x z
     given_prefix part =
         let telling = part.telling in
         record {
+          sound = tt;
           told = record {
             prefix = part.prefix;
             is_prefix = part.is_prefix;
@@ -287,32 +308,42 @@ module _ (place : Place) (s t : Store) (a b c : Option Seen) (holds : Holds plac
       (honest_with (λ y. IsStored place t y.disks) (Telling text) (λ y z. IsStored place t y.disks × Telling text y z) b c holds tells (λ y z stored tells. (stored, tells)))
       (λ x y z does told. subst (λ reply. Given s t reply x z) same (given_all s t text x y does.0 does.1 z told.0 told.1))
 
-  pub giving_prefix : (text reply : List ℕ) → text ≡ reply → Honestly b c (TellingPrefix text) → Honestly a c (GivenPrefix s t reply)
+  pub giving_prefix : (text reply : List ℕ) → text ≡ reply → Honestly b c (TellingPrefix text) → Honestly a c (GivenPrefix s t reply TellFault)
   giving_prefix text reply same tells =
       honest_then _ _ _ a b c does
       (honest_with (λ y. IsStored place t y.disks) (TellingPrefix text) (λ y z. IsStored place t y.disks × TellingPrefix text y z) b c holds tells (λ y z stored tells. (stored, tells)))
-      (λ x y z does told. subst (λ reply. GivenPrefix s t reply x z) same (given_prefix s t text x y does.0 does.1 z told.0 told.1))
+      (λ x y z does told. subst (λ reply. GivenPrefix s t reply TellFault x z) same (given_prefix s t text x y does.0 does.1 z told.0 told.1))
 
--- an answer that is due, by the engine that the session has
-module _ (session : Session) (engine : State) (answer : Answer) (s : Store) (after : Position) (reply : List ℕ) (is : session.engine ≡ Some engine) (due : IsDue session answer s after reply) where
+-- what is known of a site that tells stays known
+pub still_known : (K : Type 0) (P : Seen → Seen → Type 0) (a b : Option Seen) → IfHonest a (λ x. K) → Honestly a b P → IfHonest b (λ x. K)
+still_known K P a b known step = honest_after (λ x. K) (λ x. K) P a b known step (λ x y known step. known)
+
+-- a reply that is due, by the engine that the session has
+module _ (session : Session) (engine : State) (reply : Reply) (effect : Effect) (p : Progress) (after : Position) (text : List ℕ)
+    (is : session.engine ≡ Some engine) (due : IsDue session (Replied reply effect) p after text) where
   engine_is : engine ≡ after.progress.store.state
   engine_is = same_Some engine after.progress.store.state (sym is ∙ due.engine)
 
-  pub due_performs : Performs session.place engine answer.effect s after.progress.store
+  pub due_performs : Performs session.place engine effect p.store after.progress.store
   due_performs = record { at = due.place; sound = due.sound; does = due.does; state = engine_is }
 
-  pub due_text : reply_of answer.reply engine ≡ reply
-  due_text = ap (reply_of answer.reply) engine_is ∙ due.text
+  pub due_text : reply_of reply engine ≡ text
+  due_text = ap (reply_of reply) engine_is ∙ due.text
 
   -- it was given
-  pub given_here : (place : Place) (seen : Option Seen) → IsPlace place after.progress.store → Holds place seen after.progress.store → IsHere (record session { place = place }) seen after
-  given_here place seen at holds = record {
+  pub given_here : (place : Place) (refused : Bool) (seen : Option Seen) → refused ≡ (session.refused || is_err reply) → IsPlace place after.progress.store → Holds place seen after.progress.store
+      → IfHonest seen (λ s. session.refused ≡ p.refused) → IsHere (record session { place = place; refused = refused }) seen after
+  given_here place refused seen same at holds known = record {
     at = record {
       engine = due.engine;
-      sound = does_sound answer.effect s after.progress.store due.sound due.does;
+      sound = does_sound effect p.store after.progress.store due.sound due.does;
       place = at;
-      refused = due.refused;
       division = due.division;
     };
     holds = holds;
+    refused = knows seen known;
   }
+    where
+      knows : (seen : Option Seen) → IfHonest seen (λ s. session.refused ≡ p.refused) → IfHonest seen (λ s. refused ≡ after.progress.refused)
+      knows None known = tt
+      knows (Some x) known = same ∙ ap (λ b. b || is_err reply) known ∙ sym due.refused

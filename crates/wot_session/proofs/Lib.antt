@@ -1,4 +1,5 @@
 mod Compactings
+mod EarlierReplies
 mod Feeds
 mod Givings
 mod Inputs

@@ -9,11 +9,11 @@ use Rattle.wot_session.specs.declared.session.Session.{Session}
 use Rattle.wot_session.specs.declared.stop.Stop.{Stop}
 use Rattle.wot_session.specs.AtEnd.{at_end, last_commands}
 use Rattle.wot_session.specs.OpenLine.{whole_from, open_from}
-use Rattle.wot_session.specs.SessionState.{Holds, IsAt, IsHere, IsOver}
+use Rattle.wot_session.specs.SessionState.{Holds, IsHere, IsOver}
 use Rattle.wot_session.specs.Answering.{IsAnswering, Said, SaidPrefix}
 use Rattle.wot_session.specs.Turn.{StoppedTurn, TookAll, Turned, division_fed}
 use Rattle.wot_session.specs.Input.{SessionEnded, SessionStopped}
-use Rattle.wot_session.proofs.Feeds.{is_over, not_over, said_known}
+use Rattle.wot_session.proofs.Feeds.{is_over, known_here, not_over, said_known}
 use Rattle.wot_session.proofs.Parts.{open_append}
 use Rattle.wot_session.proofs.Inputs.{position_after, position_append}
 use Rattle.wot_session.proofs.Runs.{Reached, ReachedEnd, end_run, heard_more, over_run, reached_end, reached_more, reached_start, stop_end, stop_turn}
@@ -70,11 +70,11 @@ module _ {s : Position} {first now : Option Seen} {session : Session} {most room
 
     -- `quit` came
     pub running_over : (n : ℕ) (refused : Bool) → length piece ≡ n → n ≤ room → IsOver turned
-        → ((p : Position) → IsAt turned p → refused ≡ p.progress.refused) → Honestly first next (SessionEnded s most refused)
+        → refused ≡ turned.refused → Honestly first next (SessionEnded s most refused)
     running_over n refused size within ended refusals =
-        honest_then _ _ _ first now next running.reached (said_known _ _ now next turned_here turned_at.holds)
+        honest_then _ _ _ first now next running.reached (said_known _ _ now next turned_here (known_here turned next _ turned_at))
         (λ x y z reached both. over_run s most refused (running.fed ++ piece) x z (omega (arith, fed_size n size, within, running.bound))
-        (is_over turned _ turned_at.at ended) (refusals _ turned_at.at) (heard_more s (y.taken + 1) running.fed piece x y z (omega arith) reached both.0) both.1)
+        (is_over turned _ turned_at.at ended) (refusals ∙ both.1.1) (heard_more s (y.taken + 1) running.fed piece x y z (omega arith) reached both.0) both.1.0)
 
     module _ (goes : IsOver turned → ⊥) (line : IsOver turned ⊎ (turned.line ≡ open_from session.line piece)) where
       turned_line : turned.line ≡ open_from (Some []) (running.fed ++ piece)
@@ -119,12 +119,12 @@ module _ {s : Position} {first now : Option Seen} {session : Session} {most : �
   pub ending_ok : (next : Option Seen) (ended : Session) (refused : Bool)
       → ((p : Position) → IsHere session now p → IsHere ended next (at_end p session.line))
       → ((p : Position) → IsHere session now p → Honestly now next (Said p.progress (last_commands p session.line)))
-      → ((p : Position) → IsAt ended p → refused ≡ p.progress.refused)
+      → refused ≡ ended.refused
       → Honestly first next (SessionEnded s most refused)
   ending_ok next ended refused at said refusals =
       let here = rw ending.line at (at (position_after s ending.fed) ending.at) in
-      honest_then _ _ _ first now next ending.reached (said_known _ _ now next (rw ending.line at (said (position_after s ending.fed) ending.at)) here.holds)
-      (λ x y z end both. end_run s most refused ending.fed x y z ending.bound (refusals _ here.at) end both.0 both.1)
+      honest_then _ _ _ first now next ending.reached (said_known _ _ now next (rw ending.line at (said (position_after s ending.fed) ending.at)) (known_here ended next _ here))
+      (λ x y z end both. end_run s most refused ending.fed x y z ending.bound (refusals ∙ both.1.1) end both.0 both.1.0)
 
   pub ending_stop : (next : Option Seen) (stop : Stop) → IsAnswering stop
       → ((p : Position) → IsHere session now p → Honestly now next (SaidPrefix p.progress (last_commands p session.line) stop))

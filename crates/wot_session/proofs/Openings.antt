@@ -1,8 +1,12 @@
 -- The opening, and then the session.
 use Rattle.std.proofs.Common.{◌≡◌, ◌⊎◌, inl, inr, ℕ, Bool, true, false, List, [], ◌∷◌, ◌++◌, length, map, if◌then◌else◌, Option, Some, None, refl, sym, ap, ◌∙◌, subst, append_assoc, ◌==◌, arith}
-use Rattle.std.proofs.lemmas.List.{append-nil}
+use Rattle.std.specs.Prelude.{replicate}
+use Rattle.std.proofs.lemmas.List.{append-nil, length-replicate}
 use Rattle.std.proofs.lemmas.List.Elements.{All-append, All-nil, All-weaker}
+use Rattle.wot_types.specs.declared.edit.Edit.TheVariants.{Date}
 use Rattle.wot_types.specs.Grammar.{has_block}
+use Rattle.wot_types.specs.Numbers.{capped}
+use Rattle.wot_types.specs.WellFormedState.{IsWellFormedState}
 use Rattle.wot_types.specs.Lines.{lines, read_line}
 use Rattle.wot_types.specs.Store.{Store}
 use Rattle.wot_types.specs.Commands.{Command, begun_command, commands_from, first_division, takes_input}
@@ -13,6 +17,7 @@ use Rattle.wot_site.specs.Seen.{Honestly, Moment, Seen}
 use Rattle.wot_site.specs.Work.{Quiet, Since, Works, moment_of}
 use Rattle.wot_site.proofs.Works.{since_then, since_weaker}
 use Rattle.wot_site.proofs.Honest.{And, honest_and, honest_weaker}
+use Rattle.wot_store.specs.declared.opening.Opened.{Opened}
 use Rattle.wot_store.specs.declared.place.Place.{Place}
 use Rattle.wot_store.specs.declared.error.BadStore.{BadStore}
 use Rattle.wot_store.specs.Opening.{AreBlank, AreUnwritten, FindsBad, Keeps, Opening, Opens, WritesOnlyBlank}
@@ -24,19 +29,20 @@ use Rattle.wot_answer.specs.Answer.{IsDivision}
 use Rattle.wot_answer.specs.Block.{IsBlockOf}
 use Rattle.wot_answer.specs.declared.division.Division.TheVariants.{Within}
 use Rattle.wot_answer.specs.declared.block.Block.{Block}
-use Rattle.wot_session.specs.SessionState.{Holds}
+use Rattle.wot_session.specs.SessionState.{Holds, IsOpened}
 use Rattle.wot_session.specs.Input as input
 use Rattle.wot_session.specs.Input.{HasQuit, IsFurther, IsOnTime, IsPunctual, IsRead, commands_at}
 use Rattle.wot_tell.specs.Telling.{IsPrefixOf}
 use Rattle.wot_session.specs.CrashImages.{IsSafe, IsWhole, Kept}
 use Rattle.wot_session.specs.OpenStore.{IsOpen}
 use Rattle.wot_session.specs.Run.{RunEnded, IsCrashSafe, IsUntouched, IsWritten, Ran, RunStopped, Unopened, WritesForChanges}
-use Rattle.wot_session.specs.Stop.{status_of}
+use Rattle.wot_session.specs.Stop.{IsNoBadStore, status_of}
 use Rattle.wot_session.specs.Answering.{IsAnswering, Said, SaidPrefix}
 use Rattle.wot_session.specs.Words.{IsUnread, Read, WordsEnded, WordsStopped}
 use Rattle.wot_session.specs.Written.{Trail, Written, change_count}
 use Rattle.wot_session.specs.declared.stop.Stop.{Stop}
 use Rattle.wot_session.specs.declared.stop.Stop.TheVariants.{DiskFault, Memory, ReadFault, TellFault, TooLong}
+use Rattle.wot_session.specs.declared.stop.Stop.TheVariants as stops
 use Rattle.wot_session.proofs.Keeping.{kept_here, stored_shows, whole_here}
 use Rattle.wot_session.proofs.Prefixes.{kept_safe, whole_exact}
 use Rattle.wot_session.proofs.Runs.{pairs_none}
@@ -127,7 +133,7 @@ unopened words x y opening written = record {
   untouched = λ there. untouched_opening x y there written;
 }
 
-module _ {place : Place} (store : Store) (words : List (List ℕ)) (x y : Seen) (opening : Opening x y) (opens : Opens place store x y) (wrote : Works (WritesOnlyBlank x.disks) x y) where
+module _ {place : Place} (store : Store) (words : List (List ℕ)) (x y : Seen) (opening : Opening x y) (before : Shows (reads_of x.disks) store) (stored : IsStored place store y.disks) (wrote : Works (WritesOnlyBlank x.disks) x y) where
   punctual_later : (z : Seen) → IsPunctual (at_first store words) y z → IsPunctual (at_first store words) x z
   punctual_later z punctual =
       record {
@@ -141,7 +147,7 @@ module _ {place : Place} (store : Store) (words : List (List ℕ)) (x y : Seen) 
 
   safe_later : (z : Seen) → Since (Kept (at_start store) (commands_of words y.left) y.told) y z → IsCrashSafe store (commands_of words x.left) x z
   safe_later z since =
-      safe_then store (commands_of words x.left) x y z opening.told (opening_safe store (commands_of words x.left) x y opens.before opening)
+      safe_then store (commands_of words x.left) x y z opening.told (opening_safe store (commands_of words x.left) x y before opening)
       (subst (λ left. Since (Kept (at_start store) (commands_of words left) y.told) y z) opening.left since)
 
   written_of : (z : Seen) → Written (at_start store) (commands_of words y.left) y z → Written (at_start store) (commands_of words x.left) y z
@@ -155,7 +161,7 @@ module _ {place : Place} (store : Store) (words : List (List ℕ)) (x y : Seen) 
     opened = y.disks;
     before = All-weaker (Quiet (WritesOnlyBlank x.disks) x.told) (λ m. WritesOnlyBlank x.disks m.disks) (λ m at. at.disks) wrote.since.moments wrote.since.each;
     left = wrote.last;
-    is_open = record { place = place; stored = opens.stored };
+    is_open = record { place = place; stored = stored };
     trail = subst (λ text. Trail (at_start store) (commands_of words x.left) text y.disks written.moments z.disks) opening.told written.trail;
   }
 
@@ -167,7 +173,7 @@ module _ {place : Place} (store : Store) (words : List (List ℕ)) (x y : Seen) 
   opened_ended most refused z ended =
       record {
         store = store;
-        shows = opens.before;
+        shows = before;
         told = rw (← opening.told, ← opening.left) ended.told;
         refusals = rw (← opening.left) ended.refusals;
         read = read_later opening (takes_input words) ended.read;
@@ -195,7 +201,7 @@ module _ {place : Place} (store : Store) (words : List (List ℕ)) (x y : Seen) 
       let here = subst (λ t. Kept (at_start store) (commands_of words x.left) t (moment_of z)) opening.told (subst (λ left. Kept (at_start store) (commands_of words left) y.told (moment_of z)) opening.left stopped.here) in
       record {
         store = store;
-        shows = opens.before;
+        shows = before;
         text = stopped.text;
         told = told;
         is_prefix = rw (← opening.left) stopped.is_prefix;
@@ -229,6 +235,7 @@ module _ (store : Store) (words : List (List ℕ)) (takes : takes_input words �
 
   pub input_stopped : (most : ℕ) (stop : Stop) → input.SessionStopped (at_first store words) most stop y z → WordsStopped store words most stop y z
   input_stopped most stop stopped = record {
+    sound = stopped.sound;
     text = stopped.text;
     told = stopped.told;
     is_prefix = subst (λ commands. IsPrefixOf stopped.text (replies (at_start store) commands)) (same_input y.left) stopped.is_prefix;
@@ -275,6 +282,7 @@ module _ (store : Store) (words : List (List ℕ)) (some : words ≡ [] → ⊥)
       let same = sym (same_one words y.left some none) in
       let told = said.told.told in
       record {
+        sound = said.sound;
         text = said.told.prefix;
         told = told.told;
         is_prefix = subst (λ commands. IsPrefixOf said.told.prefix (replies (at_start store) commands)) same said.told.is_prefix;
@@ -293,6 +301,7 @@ words_nothing_at : {place : Place} (store : Store) (words : List (List ℕ)) (mo
 words_nothing_at store words most x stored =
     let here = kept_here (at_start store) (commands_of words x.left) x.told (moment_of x) refl (stored_shows store x.disks stored) in
     record {
+      sound = tt;
       text = [];
       told = sym (append-nil x.told);
       is_prefix = (output_of store words x.left, refl);
@@ -310,19 +319,57 @@ pub words_nothing : (place : Place) (store : Store) (words : List (List ℕ)) (m
 words_nothing place store words most None holds = tt
 words_nothing place store words most (Some x) holds = words_nothing_at store words most x holds
 
--- the opening, and what follows it
-pub opens_holds : (place : Place) (store : Store) (a b : Option Seen) → Honestly a b (Opens place store) → Holds place b store
-opens_holds place store None None opens = tt
-opens_holds place store None (Some y) opens = absurd opens
-opens_holds place store (Some x) None opens = absurd opens
-opens_holds place store (Some x) (Some y) opens = opens.stored
+-- what an opening writes
+abbrev pub WritingBlank : Seen → Seen → Type 0
+WritingBlank x y = Works (WritesOnlyBlank x.disks) x y
 
-pub stopped_ran : (words : List (List ℕ)) (most : ℕ) (stop : Stop) (x z : Seen) → RunStopped words most stop x z → Ran words most (status_of stop) x z
-stopped_ran words most ReadFault x z stopped = stopped
-stopped_ran words most TellFault x z stopped = stopped
-stopped_ran words most DiskFault x z stopped = inr stopped
-stopped_ran words most Memory x z stopped = inr (inr stopped)
-stopped_ran words most TooLong x z stopped = stopped
+-- a store that this may be, where the site tells nothing
+abbrev some_store : Opened → Store
+some_store opened = record {
+  state = opened.engine;
+  epoch = opened.place.epoch;
+  end = opened.place.end;
+  base = opened.engine;
+  edits = replicate opened.place.records (Date 0);
+}
+
+-- the store that was opened
+opened_is : (opened : Opened) (store : Store) (y : Seen) → store.state ≡ opened.engine → IsWellFormedState opened.engine → IsStored opened.place store y.disks → IsOpened opened store
+opened_is opened store y same sound stored = record {
+  engine = sym same;
+  sound = subst IsWellFormedState (sym same) sound;
+  place = record { epoch = stored.epoch; end = stored.end; records = ap capped stored.records };
+}
+
+pub some_opened : (opened : Opened) (a b : Option Seen) → IsWellFormedState opened.engine → Honestly a b (Opens opened.place opened.engine) → (store : Store) × IsOpened opened store × Holds opened.place b store
+some_opened opened None None sound opens =
+    (some_store opened, record { engine = refl; sound = sound; place = record { epoch = refl; end = refl; records = ap capped (sym (length-replicate opened.place.records (Date 0))) } }, tt)
+some_opened opened None (Some y) sound opens = absurd opens
+some_opened opened (Some x) None sound opens = absurd opens
+some_opened opened (Some x) (Some y) sound opens = (opens.shown, opened_is opened opens.shown y opens.is_state sound opens.stored, opens.stored)
+
+-- the opening, and what follows it
+pub opened_then : (opened : Opened) (P : Store → Seen → Seen → Type 0) (R : Seen → Seen → Type 0) (a b c : Option Seen) → IsWellFormedState opened.engine
+    → Honestly a b (And (And Opening (Opens opened.place opened.engine)) WritingBlank)
+    → ((store : Store) → IsOpened opened store → Holds opened.place b store → Honestly b c (P store))
+    → ((x y z : Seen) → Opening x y → (opens : Opens opened.place opened.engine x y) → WritingBlank x y → P opens.shown y z → R x z) → Honestly a c R
+opened_then opened P R None None None sound opens follows both = tt
+opened_then opened P R None None (Some z) sound opens follows both =
+    let known = some_opened opened None None sound opens in absurd (follows known.0 known.1 known.2)
+opened_then opened P R None (Some y) c sound opens follows both = absurd opens
+opened_then opened P R (Some x) None c sound opens follows both = absurd opens
+opened_then opened P R (Some x) (Some y) None sound opens follows both =
+    absurd (follows opens.0.1.shown (opened_is opened opens.0.1.shown y opens.0.1.is_state sound opens.0.1.stored) opens.0.1.stored)
+opened_then opened P R (Some x) (Some y) (Some z) sound opens follows both =
+    both x y z opens.0.0 opens.0.1 opens.1 (follows opens.0.1.shown (opened_is opened opens.0.1.shown y opens.0.1.is_state sound opens.0.1.stored) opens.0.1.stored)
+
+pub stopped_ran : (words : List (List ℕ)) (most : ℕ) (stop : Stop) (x z : Seen) → IsNoBadStore stop → RunStopped words most stop x z → Ran words most (status_of stop) x z
+stopped_ran words most ReadFault x z sound stopped = stopped
+stopped_ran words most TellFault x z sound stopped = stopped
+stopped_ran words most DiskFault x z sound stopped = inr stopped
+stopped_ran words most (stops.BadStore bad) x z sound stopped = absurd sound
+stopped_ran words most Memory x z sound stopped = inr (inr stopped)
+stopped_ran words most TooLong x z sound stopped = stopped
 
 pub no_words : (words : List (List ℕ)) → (length words == 0) ≡ true → words ≡ []
 no_words [] none = refl
@@ -332,10 +379,6 @@ no_words (name ∷ words) none = absurd (omega (arith, eqb-true (length (name �
 pub first_block : (block : Block) (words : List (List ℕ)) → (words ≡ [] → ⊥) → IsBlockOf block (begun_command words) → IsDivision (Within block) (first_division words)
 first_block block [] some is = absurd (some refl)
 first_block block (name ∷ words) some is = is
-
--- what an opening writes
-abbrev pub WritingBlank : Seen → Seen → Type 0
-WritingBlank x y = Works (WritesOnlyBlank x.disks) x y
 
 -- the store is bad
 pub bad_ran : (words : List (List ℕ)) (bad : BadStore) (a b : Option Seen) → Honestly a b (And Opening WritingBlank) → Honestly a b (FindsBad bad)

@@ -267,6 +267,7 @@ module _ (s : Position) where
   stop_turn most room stop fed first now next bound reached stopped =
       let heard = reached.heard in
       record {
+        sound = stopped.sound;
         text = so_far_at s fed ++ stopped.text;
         is_prefix = (
           stopped.is_prefix.0 ++ whole.0,
@@ -358,6 +359,7 @@ module _ (s : Position) where
       let back = said.told.is_prefix.0 in
       let all = sym (end_commands fed first now end) in
       record {
+        sound = said.sound;
         text = so_far_at s fed ++ text;
         is_prefix = (back, append_assoc (so_far_at s fed) text back ∙ ap (λ text. so_far_at s fed ++ text) said.told.is_prefix.1 ∙ sym (output_is s fed) ∙ ap (λ input. replies s.progress (commands_at s input)) (sym input));
         told = joined fed text first now next heard.told said.told.told.told;

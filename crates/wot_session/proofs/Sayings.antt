@@ -94,8 +94,9 @@ given_said p commands x y one given = record {
 }
 
 pub given_said_prefix : (p : Progress) (commands : List Command) (stop : Stop) (x y : Seen) → AtMostOne commands → (stop ≡ Memory → IsWhole p commands x.told y)
-    → GivenPrefix p.store (after_all p commands).store (replies p commands) x y → SaidPrefix p commands stop x y
+    → GivenPrefix p.store (after_all p commands).store (replies p commands) stop x y → SaidPrefix p commands stop x y
 given_said_prefix p commands stop x y one whole given = record {
+  sound = given.sound;
   told = given.told;
   since = since_weaker _ _ x y (λ m. around_kept p commands x.told m one) given.since;
   here = around_kept p commands x.told (moment_of y) one given.here;
@@ -108,7 +109,7 @@ whole_still : {place : Place} (p : Progress) (commands : List Command) (x y : Se
 whole_still p commands x y stored same = subst (IsWhole p commands x.told) (sym same) (whole_here p commands x.told x refl stored)
 
 pub giving_said : (place : Place) (p : Progress) (commands : List Command) (stop : Stop) (a b : Option Seen) → AtMostOne commands → Holds place a p.store
-    → (stop ≡ Memory → Honestly a b Stays) → Honestly a b (GivenPrefix p.store (after_all p commands).store (replies p commands)) → Honestly a b (SaidPrefix p commands stop)
+    → (stop ≡ Memory → Honestly a b Stays) → Honestly a b (GivenPrefix p.store (after_all p commands).store (replies p commands) stop) → Honestly a b (SaidPrefix p commands stop)
 giving_said place p commands stop None None one holds memory given = tt
 giving_said place p commands stop None (Some y) one holds memory given = absurd given
 giving_said place p commands stop (Some x) None one holds memory given = absurd given
@@ -120,6 +121,7 @@ pub said_nothing : {place : Place} (p : Progress) (commands : List Command) (x :
 said_nothing p commands x stored =
     let here = kept_here p commands x.told (moment_of x) refl (stored_shows p.store x.disks stored) in
     record {
+      sound = tt;
       told = record { prefix = []; is_prefix = (replies p commands, refl); told = told_none x };
       since = since_start _ x here;
       here = here;
@@ -144,6 +146,7 @@ module _ (p : Progress) (xs ys : List Command) (x y : Seen) where
 
   pub said_then_prefix : (stop : Stop) (z : Seen) → Said p xs x y → SaidPrefix (after_all p xs) ys stop y z → SaidPrefix p (xs ++ ys) stop x z
   said_then_prefix stop z before after = record {
+    sound = after.sound;
     told = rw (commands_append p xs ys) (told_then_prefix _ _ x y z before.told after.told);
     since = since_then _ x y z (since_weaker _ _ x y (kept_more p xs ys x.told) before.since) (since_weaker _ _ y z (later before.told.told) after.since);
     here = later before.told.told (moment_of z) after.here;
@@ -157,6 +160,7 @@ module _ (p : Progress) (xs ys : List Command) (x y : Seen) where
 
   pub said_prefix_more : (stop : Stop) → SaidPrefix p xs stop x y → SaidPrefix p (xs ++ ys) stop x y
   said_prefix_more stop said = record {
+    sound = said.sound;
     told = rw (commands_append p xs ys) (prefix_more _ _ x y said.told);
     since = since_weaker _ _ x y (kept_more p xs ys x.told) said.since;
     here = kept_more p xs ys x.told (moment_of y) said.here;
@@ -191,7 +195,7 @@ given_one p command x y given =
     given_said p (command ∷ []) x y (one_only command) (subst (λ reply. Given p.store (after_command p command).store reply x y) (sym (append-nil (reply_to p command))) given)
 
 pub giving_one : (place : Place) (p : Progress) (command : Command) (stop : Stop) (a b : Option Seen) → Holds place a p.store
-    → (stop ≡ Memory → Honestly a b Stays) → Honestly a b (GivenPrefix p.store (after_command p command).store (reply_to p command)) → Honestly a b (SaidPrefix p (command ∷ []) stop)
+    → (stop ≡ Memory → Honestly a b Stays) → Honestly a b (GivenPrefix p.store (after_command p command).store (reply_to p command) stop) → Honestly a b (SaidPrefix p (command ∷ []) stop)
 giving_one place p command stop a b holds memory given =
     giving_said place p (command ∷ []) stop a b (one_only command) holds memory
-    (subst (λ reply. Honestly a b (GivenPrefix p.store (after_command p command).store reply)) (sym (append-nil (reply_to p command))) given)
+    (subst (λ reply. Honestly a b (GivenPrefix p.store (after_command p command).store reply stop)) (sym (append-nil (reply_to p command))) given)

@@ -16,7 +16,7 @@ use Rattle.wot_store.specs.declared.place.Place.{Place}
 use Rattle.wot_types.specs.Commands.{Command}
 use Rattle.std.proofs.lemmas.List.Elements.{All-nil}
 use Rattle.wot_session.specs.declared.stop.Stop.{Stop}
-use Rattle.wot_session.specs.declared.stop.Stop.TheVariants.{ReadFault, Memory, TooLong}
+use Rattle.wot_session.specs.declared.stop.Stop.TheVariants.{BadStore, DiskFault, ReadFault, TellFault, Memory, TooLong}
 use Rattle.wot_session.specs.declared.session.Session.{Session}
 use Rattle.wot_session.specs.SessionState.{Holds, IsHere}
 use Rattle.wot_session.specs.CrashImages.{IsWhole, Kept}
@@ -37,14 +37,20 @@ still_taken place store n buf a b holds takes =
 
 -- why answering stops is no fault of reading and no bound
 pub no_read : (stop : Stop) → IsAnswering stop → stop ≡ ReadFault → ⊥
-no_read stop (inl tell) is = cc
-no_read stop (inr (inl disk)) is = cc
-no_read stop (inr (inr memory)) is = cc
+no_read ReadFault kind is = kind
+no_read TellFault kind is = cc
+no_read DiskFault kind is = cc
+no_read (BadStore bad) kind is = cc
+no_read Memory kind is = cc
+no_read TooLong kind is = cc
 
 pub no_long : (stop : Stop) → IsAnswering stop → stop ≡ TooLong → ⊥
-no_long stop (inl tell) is = cc
-no_long stop (inr (inl disk)) is = cc
-no_long stop (inr (inr memory)) is = cc
+no_long ReadFault kind is = cc
+no_long TellFault kind is = cc
+no_long DiskFault kind is = cc
+no_long (BadStore bad) kind is = cc
+no_long Memory kind is = cc
+no_long TooLong kind is = kind
 
 pub is_memory : (stop : Stop) → IsAnswering stop → IsBetween stop → stop ≡ Memory
 is_memory stop kind (inl read) = absurd (no_read stop kind read)
@@ -58,6 +64,7 @@ turn_failed p line room x y stored nothing =
     let after = disks_asked _ p.progress.store x y stored nothing in
     let commands = commands_fed p line [] in
     record {
+      sound = tt;
       piece = [];
       input = (x.left, refl);
       text = [];
@@ -150,6 +157,7 @@ module _ (n : ℕ) (buf : List ℕ) {x y : Seen} (takes : Takes n buf x y) where
     pub turn_broken : (room : ℕ) (stop : Stop) (z : Seen) → IsAnswering stop
         → SaidPrefix p.progress (commands_fed p line (take m buf)) stop y z → StoppedTurn p line room stop x z
     turn_broken room stop z kind said = record {
+      sound = said.sound;
       piece = take m buf;
       input = (drop m x.left, piece_rest m within);
       text = said.told.prefix;
@@ -173,6 +181,7 @@ module _ (n : ℕ) (buf : List ℕ) {x y : Seen} (takes : Takes n buf x y) where
         let told = said.told.told ∙ ap (λ told. told ++ replies p.progress commands) told_same in
         let whole = whole_all p.progress commands x.told z told stored in
         record {
+          sound = tt;
           piece = take m buf;
           input = (drop m x.left, piece_rest m within);
           text = replies p.progress commands;
@@ -204,7 +213,11 @@ less_room n room m is less = grind (arith, is)
 
 -- a session stays where it is
 pub taken_here : (session : Session) (p : Position) (n : ℕ) (buf : List ℕ) (a b : Option Seen) → IsHere session a p → Honestly a b (Takes n buf) → IsHere session b p
-taken_here session p n buf a b here takes = record { at = here.at; holds = still_taken session.place p.progress.store n buf a b here.holds takes }
+taken_here session p n buf a b here takes = record {
+  at = here.at;
+  holds = still_taken session.place p.progress.store n buf a b here.holds takes;
+  refused = honest_after (λ x. session.refused ≡ p.progress.refused) (λ y. session.refused ≡ p.progress.refused) (Takes n buf) a b here.refused takes (λ x y known took. known);
+}
 
 -- no fewer than came: all of it
 pub all_read : (n room m : ℕ) → m ≡ min n room → n ≤ m → n ≡ m

@@ -13,6 +13,7 @@ use Rattle.wot_session.specs.CrashImages.{IsWhole, Kept}
 use Rattle.wot_session.specs.OpenStore.{IsOpen}
 use Rattle.wot_session.specs.Written.{Written}
 use Rattle.wot_session.specs.Turn.{IsBetween}
+use Rattle.wot_session.specs.Stop.{IsNoBadStore}
 use Rattle.wot_session.specs.declared.stop.Stop.{Stop}
 use Rattle.wot_session.specs.declared.stop.Stop.TheVariants.{ReadFault, TooLong}
 
@@ -74,6 +75,7 @@ pub record SessionEnded (s : Position) (most : ℕ) (refused : Bool) (old new : 
 
 -- it stopped, and a prefix of the replies was told. The input is too long only where more bytes than the bound were taken
 pub record SessionStopped (s : Position) (most : ℕ) (stop : Stop) (old new : Seen) : Type 0 where
+  pub sound : IsNoBadStore stop
   pub text : List ℕ
   pub is_prefix : IsPrefixOf text (replies s.progress (commands_at s old.left))
   pub told : new.told ≡ old.told ++ text

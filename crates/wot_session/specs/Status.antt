@@ -1,7 +1,7 @@
 -- The exit status and the line on standard error of each way to end.
 use Rattle.std.specs.Prelude.{ℕ, List, [], codes}
 use Rattle.wot_store.specs.declared.error.BadStore as bad
-use Rattle.wot_store.specs.declared.error.BadStore.TheVariants.{Magic, SameEpoch, Short, Seal, Spelling, Row, BadPayload, BadEdit}
+use Rattle.wot_store.specs.declared.error.BadStore.TheVariants.{Magic, SameEpoch, Short, Seal, Spelling, Row, BadPayload, BadEdit, Lost}
 use Rattle.wot_session.specs.declared.status.Status.{Status}
 use Rattle.wot_session.specs.declared.status.Status.TheVariants.{Done, Refused, Usage, ReadFault, TellFault, DiskFault, BadStore, Memory, TooLong}
 
@@ -26,6 +26,7 @@ bad_store_line Spelling = codes "wot: bad store: Spelling"
 bad_store_line (Row fault) = codes "wot: bad store: Row"
 bad_store_line (BadPayload number) = codes "wot: bad store: BadPayload"
 bad_store_line (BadEdit number) = codes "wot: bad store: BadEdit"
+bad_store_line (Lost number) = codes "wot: bad store: Lost"
 
 abbrev pub line_of : Status → List ℕ
 line_of Done = []

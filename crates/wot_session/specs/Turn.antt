@@ -11,6 +11,7 @@ use Rattle.wot_session.specs.OpenLine.{whole_from}
 use Rattle.wot_tell.specs.Telling.{IsPrefixOf}
 use Rattle.wot_session.specs.CrashImages.{IsWhole, Kept}
 use Rattle.wot_session.specs.Written.{Written}
+use Rattle.wot_session.specs.Stop.{IsNoBadStore}
 use Rattle.wot_session.specs.declared.stop.Stop.{Stop}
 use Rattle.wot_session.specs.declared.stop.Stop.TheVariants.{Memory, ReadFault, TooLong}
 
@@ -43,6 +44,7 @@ pub record Turned (p : Position) (line : Option (List ℕ)) (piece : List ℕ) (
 
 -- it stopped: a piece of the input was taken, and a prefix of the replies to its commands was told
 pub record StoppedTurn (p : Position) (line : Option (List ℕ)) (room : ℕ) (stop : Stop) (old new : Seen) : Type 0 where
+  pub sound : IsNoBadStore stop
   pub piece : List ℕ
   pub input : IsPrefixOf piece old.left
   pub text : List ℕ

@@ -13,6 +13,7 @@ use Rattle.wot_session.specs.CrashImages.{IsWhole, Kept}
 use Rattle.wot_session.specs.OpenStore.{IsOpen}
 use Rattle.wot_session.specs.Written.{Written}
 use Rattle.wot_session.specs.Turn.{IsBetween}
+use Rattle.wot_session.specs.Stop.{IsNoBadStore}
 use Rattle.wot_session.specs.declared.stop.Stop.{Stop}
 use Rattle.wot_session.specs.declared.stop.Stop.TheVariants.{ReadFault, TooLong}
 
@@ -39,6 +40,7 @@ pub record WordsEnded (store : Store) (words : List (List ℕ)) (most : ℕ) (re
 
 -- it stopped. A run of one command without a block took nothing, and an input is too long only where more bytes than the bound were taken
 pub record WordsStopped (store : Store) (words : List (List ℕ)) (most : ℕ) (stop : Stop) (old new : Seen) : Type 0 where
+  pub sound : IsNoBadStore stop
   pub text : List ℕ
   pub told : new.told ≡ old.told ++ text
   pub is_prefix : IsPrefixOf text (output_of store words old.left)

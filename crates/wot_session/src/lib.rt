@@ -3,6 +3,7 @@
 //! `run` is the whole program over a site. What it promises stands in `specs/Run.antt`.
 #![tactic(auto)]
 
+mod earlier; // the reply to a query of an earlier state
 mod lines; // where a line ends
 mod open_line; // the line that no newline has ended yet
 mod opened; // a session over an opened store, or one command

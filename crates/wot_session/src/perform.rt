@@ -1,6 +1,6 @@
 //! What an answer does to the store, before it is told.
 
-ghost use Rattle.std.specs.Prelude.{◌≡◌, IfOk, IsErrOf};
+ghost use Rattle.std.specs.Prelude.{◌≡◌, IfOk, IfErr, IsErrOf};
 ghost use Rattle.wot_types.specs.Store.{Store};
 ghost use Rattle.wot_site.specs.Seen.{Honestly};
 ghost use Rattle.wot_site.specs.Site.{Stays};
@@ -8,6 +8,7 @@ ghost use Rattle.wot_site.specs.Work.{Works};
 ghost use Rattle.wot_store.specs.Changing.{ShowsEither};
 ghost use Rattle.wot_session.specs.SessionState.{Holds, IsPlace, IsReadyFor, Performs};
 ghost use Rattle.wot_session.specs.Answering.{StopsTelling};
+ghost use Rattle.wot_session.specs.Stop.{IsNoBadStore};
 ghost use Rattle.wot_session.specs.Written.{WritesTo};
 
 use crate::stop::Stop;
@@ -34,6 +35,7 @@ pub fn do_effect<S: Site>(
     ensures written { (s t : Store) → Performs place engine.now effect.now s t → Holds place (S.seen site.old) s
         → Honestly (S.seen site.old) (S.seen site.new) (λ old new. Works (WritesTo s t old.disks) old new) }
     ensures memory { IsErrOf result Stop.Memory → Honestly (S.seen site.old) (S.seen site.new) Stays }
+    ensures sound { IfErr result IsNoBadStore }
     ensures cause { StopsTelling (S.faults site.old) (S.faults site.new) result }
 {
     match effect {

@@ -36,7 +36,7 @@ pub fn make_ready<'a, R: Threads + Sync, G: Gate + Sync>(
     ensures { IfOk result (λ ready. text_of ready ≡ reply_of reply engine.now) }
 {
     match reply {
-        Reply::Text(text) => Ok(Ready::Text(text)),
+        Reply::Text(text) | Reply::Refused(text) => Ok(Ready::Text(text)),
         Reply::List => listing_of(alloc, engine, false),
         Reply::Sigs => listing_of(alloc, engine, true),
         Reply::Tally => {

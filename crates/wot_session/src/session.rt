@@ -1,22 +1,22 @@
 //! A session: what was read and not answered yet, and what the answered lines led to.
 
-ghost use Rattle.std.specs.Prelude.{◌≡◌, ◌⊎◌, ◌↔◌, ◌<◌, ◌≤◌, ◌||◌, ℕ, true, false, List, [], ◌∷◌, length, take, min, Some, None, Ok, OnOk, OnErr, IfOk, IfErr, IsErrOf, IsTrue};
+ghost use Rattle.std.specs.Prelude.{◌≡◌, ◌⊎◌, ◌↔◌, ◌<◌, ◌≤◌, ◌||◌, ℕ, true, false, List, [], ◌∷◌, length, take, min, Some, None, Ok, OnOk, IfOk, IfErr, IsErrOf, IsTrue};
 ghost use Rattle.wot_types.specs.Store.{Store};
 ghost use Rattle.wot_types.specs.WellFormedState.{IsWellFormedState};
 ghost use Rattle.wot_types.specs.Commands.{Command, begun_command, made_by, unfinished_commands};
 ghost use Rattle.wot_types.specs.LineByLine.{Position, after_line, after_lines, closing_reply, commands_in, reply_to_line};
-ghost use Rattle.wot_types.specs.Session.{after_command, at_start, reply_to};
-ghost use Rattle.wot_types.specs.State.{State};
+ghost use Rattle.wot_types.specs.Session.{Progress, after_command, reply_to};
 ghost use Rattle.wot_answer.specs.Block.{IsBlockOf};
-ghost use Rattle.wot_answer.specs.Answer.{IsDivision, reads_on, reply_of};
+ghost use Rattle.wot_answer.specs.Answer.{IsAsked, IsDivision, answer_text, effect_of, is_err, is_refusal, reads_on};
 ghost use Rattle.wot_site.specs.Site.{Stays};
-ghost use Rattle.wot_site.specs.Seen.{Honestly, IfHonest};
+ghost use Rattle.wot_site.specs.Seen.{Honestly};
 ghost use Rattle.wot_session.specs.AtEnd.{at_end, closed_at, last_commands};
 ghost use Rattle.wot_session.specs.OpenLine.{more, whole_from, open_from, last_lines};
-ghost use Rattle.wot_session.specs.SessionState.{CanGive, Holds, IsAt, IsDue, IsHere, IsOver, IsPlace, IsSomewhere};
+ghost use Rattle.wot_session.specs.SessionState.{CanGive, IsAt, IsDue, IsDueHere, IsHere, IsOver, IsPlace, IsSomewhere};
 ghost use Rattle.wot_session.specs.Answering.{Given, GivenPrefix, HasStopCause, Said, SaidPrefix, StopsTelling};
 ghost use Rattle.wot_session.specs.Turn.{Turned, StoppedTurn};
 
+use crate::earlier::read_earlier;
 use crate::lines::split_line;
 use crate::open_line::OpenLine;
 use crate::perform::do_effect;
@@ -32,7 +32,7 @@ use wot_answer::{
 use wot_live::Engine;
 use wot_site::{Failed, Site};
 use wot_store::{Opened, Place};
-use wot_types::{Mem, Words};
+use wot_types::{Mem, Query, Words};
 use wot_workers::{Gate, Workers};
 
 /// A session over a site.
@@ -52,7 +52,8 @@ impl Session {
     /// The session at its start, over the store that was opened; a run of one command with a block begins within that block.
     pub fn new(alloc: Global, opened: Opened, division: Division) -> Session
         ensures at { (p : Position) → opened.engine ≡ p.progress.store.state → IsWellFormedState p.progress.store.state → IsPlace opened.place p.progress.store
-            → p.progress.refused ≡ false → IsDivision division p.division → IsAt result p }
+            → IsDivision division p.division → IsAt result p }
+        ensures refused { result.refused ≡ false }
         ensures line { result.line ≡ Some [] }
         ensures place { result.place ≡ opened.place }
         ensures division { result.division ≡ division }
@@ -69,9 +70,16 @@ impl Session {
 
     /// Whether some command was refused.
     pub fn is_refused(&self) -> bool
-        ensures { (p : Position) → IsAt self.now p → result ≡ p.progress.refused }
+        ensures { result ≡ self.now.refused }
     {
         self.refused
+    }
+
+    // The same, once this is the reply to one more.
+    fn is_refused_after(&self, reply: &Reply) -> bool
+        ensures { result ≡ (self.now.refused || is_err reply.now) }
+    {
+        self.refused || reply.is_err()
     }
 
     /// Whether no further line is read: `quit` was answered, or the input is at its end.
@@ -85,6 +93,7 @@ impl Session {
     fn hold(&mut self, bytes: &[u8]) -> Result<(), Mem>
         ensures at { (p : Position) → IsAt self.old p → IsAt self.new p }
         ensures place { self.new.place ≡ self.old.place }
+        ensures refused { self.new.refused ≡ self.old.refused }
         ensures line { OnOk result (self.new.line ≡ more self.old.line bytes.now) }
     {
         self.line.extend(bytes)
@@ -95,6 +104,7 @@ impl Session {
         ensures at { result ≡ Ok true → (p : Position) → IsAt self.old p → IsAt self.new (after_line p self.old.line) }
         ensures quiet { result ≡ Ok true → (p : Position) → IsAt self.old p → made_by p.division self.old.line ≡ [] }
         ensures place { self.new.place ≡ self.old.place }
+        ensures refused { self.new.refused ≡ self.old.refused }
         ensures line { result ≡ Ok true → self.new.line ≡ Some [] }
         ensures left { result ≡ Ok false → self.new ≡ self.old }
         ensures ended { result ≡ Ok false → reads_on self.new.division self.new.line ≡ false }
@@ -111,6 +121,7 @@ impl Session {
         ensures at { result ≡ Ok true → (p : Position) → IsAt self.old p → IsAt self.new (after_line p (more self.old.line bytes.now)) }
         ensures quiet { result ≡ Ok true → (p : Position) → IsAt self.old p → made_by p.division (more self.old.line bytes.now) ≡ [] }
         ensures place { self.new.place ≡ self.old.place }
+        ensures refused { self.new.refused ≡ self.old.refused }
         ensures line { result ≡ Ok true → self.new.line ≡ Some [] }
         ensures left { result ≡ Ok false → self.new ≡ self.old }
     {
@@ -125,11 +136,10 @@ impl Session {
         ensures answer { result ≡ answered.answer }
         ensures engine { self.new.engine ≡ Some answered.engine }
         ensures place { self.new.place ≡ self.old.place }
-        ensures refused { self.new.refused ≡ (self.old.refused || answered.answer.refused) }
+        ensures refused { self.new.refused ≡ self.old.refused }
         ensures division { self.new.division ≡ self.old.division }
     {
         self.engine = Some(answered.engine);
-        self.refused = self.refused || answered.answer.refused;
         answered.answer
     }
 
@@ -138,8 +148,9 @@ impl Session {
         requires at { (p : Position) × IsAt self.old p }
         requires ended { reads_on self.old.division self.old.line ≡ false }
         ensures due { IfOk result (λ answer. (p : Position) → IsAt self.old p
-            → IsDue self.new answer p.progress.store (after_line p self.old.line) (reply_to_line p self.old.line)) }
+            → IsDue self.new answer p.progress (after_line p self.old.line) (reply_to_line p self.old.line)) }
         ensures place { self.new.place ≡ self.old.place }
+        ensures refused { self.new.refused ≡ self.old.refused }
         ensures line { OnOk result (self.new.line ≡ Some []) }
     {
         let Some(engine) = self.engine.take() else {
@@ -150,6 +161,7 @@ impl Session {
             self.alloc,
             engine,
             self.place.end,
+            self.place.records,
             division,
             self.line.get(),
         )?;
@@ -159,7 +171,7 @@ impl Session {
         Ok(answer)
     }
 
-    // Does to the store what the answer asks for, and only then tells the reply. Memory is taken before either.
+    // Gives an answer: the store is changed where it asks for that, or an earlier state is read, and only then the reply is told.
     fn give<R: Threads + Sync, S: Site, G: Gate + Sync>(
         &mut self,
         workers: &Workers<'_, R, G>,
@@ -167,20 +179,45 @@ impl Session {
         answer: Answer,
     ) -> Result<(), Stop>
         requires { CanGive self.old answer (S.seen site.old) }
-        ensures here { OnOk result ((s : Store) (after : Position) (reply : List ℕ) → IsDue self.old answer s after reply
-            → Holds self.old.place (S.seen site.old) s → IsHere self.new (S.seen site.new) after) }
+        ensures here { OnOk result ((p : Progress) (after : Position) (reply : List ℕ) → IsDueHere self.old answer (S.seen site.old) p after reply
+            → IsHere self.new (S.seen site.new) after) }
         ensures line { self.new.line ≡ self.old.line }
-        ensures given { OnOk result ((s : Store) (after : Position) (reply : List ℕ) → IsDue self.old answer s after reply
-            → Holds self.old.place (S.seen site.old) s → Honestly (S.seen site.old) (S.seen site.new) (Given s after.progress.store reply)) }
-        ensures prefix { OnErr result ((s : Store) (after : Position) (reply : List ℕ) → IsDue self.old answer s after reply
-            → Holds self.old.place (S.seen site.old) s → Honestly (S.seen site.old) (S.seen site.new) (GivenPrefix s after.progress.store reply)) }
+        ensures given { OnOk result ((p : Progress) (after : Position) (reply : List ℕ) → IsDueHere self.old answer (S.seen site.old) p after reply
+            → Honestly (S.seen site.old) (S.seen site.new) (Given p.store after.progress.store reply)) }
+        ensures prefix { IfErr result (λ stop. (p : Progress) (after : Position) (reply : List ℕ) → IsDueHere self.old answer (S.seen site.old) p after reply
+            → Honestly (S.seen site.old) (S.seen site.new) (GivenPrefix p.store after.progress.store reply stop)) }
         ensures memory { IsErrOf result Stop.Memory → Honestly (S.seen site.old) (S.seen site.new) Stays }
         ensures cause { StopsTelling (S.faults site.old) (S.faults site.new) result }
     {
+        match answer {
+            Answer::Told(reply, effect) => self.give_reply(workers, site, reply, effect),
+            Answer::Earlier(n, query) => self.give_earlier(workers, site, n, query),
+        }
+    }
+
+    // Does to the store what is asked for, and only then tells the reply. Memory is taken before either.
+    fn give_reply<R: Threads + Sync, S: Site, G: Gate + Sync>(
+        &mut self,
+        workers: &Workers<'_, R, G>,
+        site: &mut S,
+        reply: Reply,
+        effect: Effect,
+    ) -> Result<(), Stop>
+        requires { CanGive self.old (Answer.Told reply effect) (S.seen site.old) }
+        ensures here { OnOk result ((p : Progress) (after : Position) (text : List ℕ) → IsDueHere self.old (Answer.Told reply effect) (S.seen site.old) p after text
+            → IsHere self.new (S.seen site.new) after) }
+        ensures line { self.new.line ≡ self.old.line }
+        ensures given { OnOk result ((p : Progress) (after : Position) (text : List ℕ) → IsDueHere self.old (Answer.Told reply effect) (S.seen site.old) p after text
+            → Honestly (S.seen site.old) (S.seen site.new) (Given p.store after.progress.store text)) }
+        ensures prefix { IfErr result (λ stop. (p : Progress) (after : Position) (text : List ℕ) → IsDueHere self.old (Answer.Told reply effect) (S.seen site.old) p after text
+            → Honestly (S.seen site.old) (S.seen site.new) (GivenPrefix p.store after.progress.store text stop)) }
+        ensures memory { IsErrOf result Stop.Memory → Honestly (S.seen site.old) (S.seen site.new) Stays }
+        ensures cause { StopsTelling (S.faults site.old) (S.faults site.new) result }
+    {
+        let refused = self.is_refused_after(&reply);
         let Some(engine) = &self.engine else {
             return Err(Stop::Memory);
         };
-        let Answer { reply, effect, .. } = answer;
         let ready = match make_ready(workers, self.alloc, engine, reply) {
             Ok(ready) => ready,
             Err(Mem::Memory) => return Err(Stop::Memory),
@@ -189,7 +226,42 @@ impl Session {
             Ok(place) => self.place = place,
             Err(stop) => return Err(stop),
         }
+        self.refused = refused;
         match tell_ready(site, ready) {
+            Ok(()) => Ok(()),
+            Err(Failed) => Err(Stop::TellFault),
+        }
+    }
+
+    // Answers a query in the state after the first `n` edits since the base, which is read from the store, and tells the reply.
+    fn give_earlier<R: Threads + Sync, S: Site, G: Gate + Sync>(
+        &mut self,
+        workers: &Workers<'_, R, G>,
+        site: &mut S,
+        n: u64,
+        query: Query,
+    ) -> Result<(), Stop>
+        requires { CanGive self.old (Answer.Earlier n query) (S.seen site.old) }
+        ensures here { OnOk result ((p : Progress) (after : Position) (text : List ℕ) → IsDueHere self.old (Answer.Earlier n query) (S.seen site.old) p after text
+            → IsHere self.new (S.seen site.new) after) }
+        ensures line { self.new.line ≡ self.old.line }
+        ensures given { OnOk result ((p : Progress) (after : Position) (text : List ℕ) → IsDueHere self.old (Answer.Earlier n query) (S.seen site.old) p after text
+            → Honestly (S.seen site.old) (S.seen site.new) (Given p.store after.progress.store text)) }
+        ensures prefix { IfErr result (λ stop. (p : Progress) (after : Position) (text : List ℕ) → IsDueHere self.old (Answer.Earlier n query) (S.seen site.old) p after text
+            → Honestly (S.seen site.old) (S.seen site.new) (GivenPrefix p.store after.progress.store text stop)) }
+        ensures memory { IsErrOf result Stop.Memory → Honestly (S.seen site.old) (S.seen site.new) Stays }
+        ensures cause { StopsTelling (S.faults site.old) (S.faults site.new) result }
+    {
+        let (engine, reply) = match read_earlier(workers, self.alloc, site, self.place, n, query) {
+            Ok(read) => read,
+            Err(stop) => return Err(stop),
+        };
+        self.refused = self.is_refused_after(&reply);
+        let reply = match make_ready(workers, self.alloc, &engine, reply) {
+            Ok(reply) => reply,
+            Err(Mem::Memory) => return Err(Stop::Memory),
+        };
+        match tell_ready(site, reply) {
             Ok(()) => Ok(()),
             Err(Failed) => Err(Stop::TellFault),
         }
@@ -309,8 +381,9 @@ impl Session {
     fn close(&mut self) -> Result<Answer, Mem>
         requires { (p : Position) × IsAt self.old p }
         ensures due { IfOk result (λ answer. (p : Position) → IsAt self.old p
-            → IsDue self.new answer p.progress.store (closed_at p) (closing_reply p)) }
+            → IsDue self.new answer p.progress (closed_at p) (closing_reply p)) }
         ensures place { self.new.place ≡ self.old.place }
+        ensures refused { self.new.refused ≡ self.old.refused }
     {
         match mem::replace(&mut self.division, Division::Over) {
             Division::Within(block) => self.end_block(block),
@@ -322,8 +395,9 @@ impl Session {
     fn end_block(&mut self, block: Block) -> Result<Answer, Mem>
         requires { (command : Command) × IsBlockOf block command }
         ensures due { IfOk result (λ answer. (p : Position) (command : Command) → IsAt self.old p → IsBlockOf block command
-            → IsDue self.new answer p.progress.store (record p { progress = after_command p.progress command }) (reply_to p.progress command)) }
+            → IsDue self.new answer p.progress (record p { progress = after_command p.progress command }) (reply_to p.progress command)) }
         ensures place { self.new.place ≡ self.old.place }
+        ensures refused { self.new.refused ≡ self.old.refused }
     {
         let Some(engine) = self.engine.take() else {
             return Err(Mem::Memory);
@@ -334,14 +408,12 @@ impl Session {
 
     // No reply.
     fn nothing(&self) -> Answer
-        ensures text { (s : State) → reply_of result.reply s ≡ [] }
-        ensures effect { result.effect ≡ Effect.Nothing }
+        ensures text { (s : Store) → answer_text result s ≡ [] }
+        ensures refused { (s : Store) → is_refusal result s ≡ false }
+        ensures asked { (s : Store) → IsAsked result s }
+        ensures effect { effect_of result ≡ Effect.Nothing }
     {
-        Answer {
-            reply: Reply::Text(Vec::new(self.alloc)),
-            refused: false,
-            effect: Effect::Nothing,
-        }
+        Answer::Told(Reply::Text(Vec::new(self.alloc)), Effect::Nothing)
     }
 
     // The same, and gives it.
@@ -389,13 +461,20 @@ impl Session {
     fn reply_to_words(&mut self, words: &Words) -> Result<Answer, Mem>
         requires some { 0 < length words.now }
         ensures due { IfOk result (λ answer. (p : Position) → IsAt self.old p
-            → IsDue self.new answer p.progress.store (record p { progress = after_command p.progress (begun_command words.now) }) (reply_to p.progress (begun_command words.now))) }
+            → IsDue self.new answer p.progress (record p { progress = after_command p.progress (begun_command words.now) }) (reply_to p.progress (begun_command words.now))) }
         ensures place { self.new.place ≡ self.old.place }
+        ensures refused { self.new.refused ≡ self.old.refused }
     {
         let Some(engine) = self.engine.take() else {
             return Err(Mem::Memory);
         };
-        let answered = answer_words(self.alloc, engine, self.place.end, words)?;
+        let answered = answer_words(
+            self.alloc,
+            engine,
+            self.place.end,
+            self.place.records,
+            words,
+        )?;
         Ok(self.keep(answered))
     }
 

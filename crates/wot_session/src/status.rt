@@ -76,5 +76,6 @@ fn bad_store_line(fault: &BadStore) -> &'static str
         BadStore::Row(_) => "wot: bad store: Row",
         BadStore::BadPayload(_) => "wot: bad store: BadPayload",
         BadStore::BadEdit(_) => "wot: bad store: BadEdit",
+        BadStore::Lost(_) => "wot: bad store: Lost",
     }
 }

@@ -6,6 +6,8 @@ mod bounds; // runs whose input is bounded
 #[cfg(test)]
 mod compactions; // a sample that is compacted, stopped at each call of the disk
 #[cfg(test)]
+mod earlier; // queries of the states between the edits of a session
+#[cfg(test)]
 mod faults; // no call after one that failed
 #[cfg(test)]
 mod files; // runs over real files

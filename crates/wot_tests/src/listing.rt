@@ -9,7 +9,7 @@ use wot_store::open_store;
 use wot_workers::{NoGate, Workers};
 
 /// The keyring without certifications.
-const LISTED: &[u8] = b"tru::1:0:0:3:1:5
+pub const LISTED: &[u8] = b"tru::1:0:0:3:1:5
 pub:u:255:22:00000000000000AA:1000:::u:::scSC:
 fpr:::::::::00000000000000000000000000000000000000AA:
 uid:u::::1000::::A <a@example.org>:

@@ -16,7 +16,7 @@ pub returns-in-Between : goal.returns-in-Between
 returns-in-Between c = record {
   answers =
       IfOk-weaker c.answer_command.result _ _
-      (λ answered is p same at division. is p same at (is_between p.division (subst (λ held. IsDivision held p.division) c.in-Between.is division)))
+      (λ answered is p same at many division. is p same at many (is_between p.division (subst (λ held. IsDivision held p.division) c.in-Between.is division)))
       c.answer_command.ensures.answers;
 }
 
@@ -24,7 +24,7 @@ pub returns-in-Within : goal.returns-in-Within
 returns-in-Within c = record {
   answers =
       IfOk-weaker c.answer_body.result _ _
-      (λ answered both p same at division.
+      (λ answered both p same at many division.
       let known = within_division c.in-Within.block p.division (subst (λ held. IsDivision held p.division) c.in-Within.is division) in
       let line = option_copied c.args.line in
       let ended = is_ended c.in-Within.block known.0 line known.2 (subst (λ held. reads_on held line ≡ false) c.in-Within.is c.requires.ended) in
@@ -34,6 +34,6 @@ returns-in-Within c = record {
 
 pub returns-in-Over : goal.returns-in-Over
 returns-in-Over c = record {
-  answers = λ p same at division.
+  answers = λ p same at many division.
       answers_over c.say_nothing.result p (option_copied c.args.line) c.args.engine same (is_over p.division (subst (λ held. IsDivision held p.division) c.in-Over.is division)) c.say_nothing.ensures.reply c.say_nothing.ensures.division;
 }

@@ -20,7 +20,7 @@ returns-then-has_block c =
       to_end = refl;
     } in
     record {
-      answers = λ p same at here.
+      answers = λ p same at many here.
           answers_opened c.say_nothing.result p (Some c.args.line.now) c.args.engine same here opens c.say_nothing.ensures.reply
           (subst (λ division. IsDivision division (within (opened_command (Some c.args.line.now)))) (sym c.say_nothing.ensures.division) block);
     }
@@ -31,11 +31,11 @@ returns c =
     let is : c.in_ok-words.words ≡ words = c.in_ok-words.ensures ∙ ap line_words c.without_return.ensures in
     let single : has_block words ≡ false = ap has_block (sym is) ∙ sym c.has_block.ensures ∙ c.if-has_block.false in
     record {
-      answers = λ p same at here.
+      answers = λ p same at many here.
           answers_line _ p (Some c.args.line.now) here single
           (subst (λ answered. Ends answered p.progress.store (outcome p.progress.store (of_line (Some c.args.line.now)))) (sym c.with_division.ensures)
           (redivided c.in_ok-answered.answered c.division_after.result p.progress.store _
-          (subst (λ w. Ends c.in_ok-answered.answered p.progress.store (outcome p.progress.store (begun_command w))) is (c.in_ok-answered.ensures.ends p.progress.store same at))))
+          (subst (λ w. Ends c.in_ok-answered.answered p.progress.store (outcome p.progress.store (begun_command w))) is (c.in_ok-answered.ensures.ends p.progress.store same at many))))
           (subst (λ division. IsDivision division (if is_quit (Some words) then over else between)) (sym (ap (λ (answered : Answered). answered.division) c.with_division.ensures))
           (subst (λ w. IsDivision c.division_after.result (if is_quit (Some w) then over else between)) is c.division_after.ensures));
     }

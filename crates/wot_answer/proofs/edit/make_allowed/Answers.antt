@@ -1,9 +1,8 @@
-use Rattle.std.proofs.Common.{Err, ap, ◌∙◌}
+use Rattle.std.proofs.Common.{Err, refl, ap, ◌∙◌}
 use Rattle.std.proofs.lemmas.Result.{IfOk-weaker}
-use Rattle.wot_types.specs.Outcome.{state_after}
-use Rattle.wot_answer.specs.Answer.{reply_of}
+use Rattle.wot_types.specs.StateAfter.{state_after}
 use Rattle.wot_answer.specs.EditReply.{reply_text}
-use Rattle.wot_answer.specs.declared.reply.Answer.{Answer}
+use Rattle.wot_answer.specs.declared.reply.Reply.TheVariants.{Text}
 use Rattle.wot_answer.proofs.Making.{edit_full, edit_made, has_room}
 use Rattle.wot_answer.proofs.edit.make_allowed.Goals as goal
 
@@ -21,8 +20,7 @@ pub returns-in_ok-engine-in-Ok-clause-ends : goal.returns-in_ok-engine-in-Ok-cla
 returns-in_ok-engine-in-Ok-clause-ends c s same at =
     let built = c.in-Ok.ensures.built in
     let made = c.in_ok-engine-in-Ok.ensures in
-    let answer = c.answered.ensures.answer in
-    edit_made (reply_text c.args.reply (state_after s.state c.args.edit)) s c.args.edit c.args.engine c.args.end same at c.answered.result c.in-Ok.built c.requires.allowed
+    edit_made (reply_text c.args.reply (state_after s.state c.args.edit)) s c.args.edit c.args.engine c.args.end same at c.answered.result (Text c.in_ok-engine-in-Ok.text) c.in-Ok.built c.requires.allowed
     built.2 built.0 built.1 (c.answered.ensures.engine ∙ made.engine)
-    (ap (λ a. reply_of a.reply c.answered.result.engine) answer ∙ made.text ∙ ap (λ state. reply_text c.args.reply (state_after state c.args.edit)) same)
-    (ap (λ (a : Answer). a.refused) answer) (ap (λ (a : Answer). a.effect) answer)
+    (made.text ∙ ap (λ state. reply_text c.args.reply (state_after state c.args.edit)) same)
+    refl c.answered.ensures.answer

@@ -1,6 +1,6 @@
 use Rattle.std.proofs.Common.{sym, ◌∙◌}
 use Rattle.std.proofs.lemmas.Result.{IfOk-weaker}
-use Rattle.wot_types.specs.Outcome.{state_after}
+use Rattle.wot_types.specs.StateAfter.{state_after}
 use Rattle.wot_answer.specs.EditReply.{reply_text}
 use Rattle.wot_answer.proofs.Making.{edit_refused}
 use Rattle.wot_answer.proofs.edit.make_edit.Goals as goal

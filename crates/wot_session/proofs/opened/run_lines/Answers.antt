@@ -3,7 +3,7 @@ use Rattle.std.proofs.lemmas.Result.{IfOk-weaker}
 use Rattle.wot_site.proofs.Honest.{honest_weaker}
 use Rattle.wot_types.specs.LineByLine.{at_first}
 use Rattle.wot_session.specs.SessionState.{IsPlace}
-use Rattle.wot_session.proofs.Feeds.{here_at}
+use Rattle.wot_session.proofs.Feeds.{here_at, knows_start}
 use Rattle.wot_session.proofs.Outcomes.{if_err_weaker}
 use Rattle.wot_session.proofs.Openings.{input_ended, input_stopped, words_nothing}
 use Rattle.wot_session.proofs.opened.run_lines.Goals as goal
@@ -13,7 +13,7 @@ run_session-ended-requires g c =
     let store = c.requires.opened.0 in
     let there = subst (λ place. IsPlace place store) (sym c.in-Ok.ensures.place) c.requires.opened.1.place in
     let somewhere = here_at c.new-session.result _ _ (c.new-session.ensures.place ∙ c.in-Ok.ensures.place)
-    (c.new-session.ensures.at (at_first store []) (c.in-Ok.ensures.engine ∙ c.requires.opened.1.engine) c.requires.opened.1.sound there refl tt) c.requires.opened.2 in
+    (c.new-session.ensures.at (at_first store []) (c.in-Ok.ensures.engine ∙ c.requires.opened.1.engine) c.requires.opened.1.sound there tt) c.requires.opened.2 (knows_start c.new-session.result _ c.new-session.ensures.refused) in
     (search rules, (search rules, ((_, somewhere), (search rules, search rules))))
 
 pub returns-clause-ended : goal.returns-clause-ended
@@ -21,7 +21,7 @@ returns-clause-ended g c =
     IfOk-weaker c.run_session-ended.result _ _
     (λ refused all store opened holds. honest_weaker _ _ _ _ (all (at_first store [])
     (here_at c.new-session.result _ _ (c.new-session.ensures.place ∙ c.in-Ok.ensures.place)
-    (c.new-session.ensures.at (at_first store []) (c.in-Ok.ensures.engine ∙ opened.engine) opened.sound (subst (λ place. IsPlace place store) (sym c.in-Ok.ensures.place) opened.place) refl tt) holds))
+    (c.new-session.ensures.at (at_first store []) (c.in-Ok.ensures.engine ∙ opened.engine) opened.sound (subst (λ place. IsPlace place store) (sym c.in-Ok.ensures.place) opened.place) tt) holds (knows_start c.new-session.result _ c.new-session.ensures.refused)))
     (λ y z ended. input_ended store [] refl y z c.args.most refused ended))
     c.run_session-ended.ensures.ended
 
@@ -30,7 +30,7 @@ returns-clause-stopped g c =
     if_err_weaker _ _ c.run_session-ended.result c.run_session-ended.ensures.stopped
     (λ stop all store opened holds. honest_weaker _ _ _ _ (all (at_first store [])
     (here_at c.new-session.result _ _ (c.new-session.ensures.place ∙ c.in-Ok.ensures.place)
-    (c.new-session.ensures.at (at_first store []) (c.in-Ok.ensures.engine ∙ opened.engine) opened.sound (subst (λ place. IsPlace place store) (sym c.in-Ok.ensures.place) opened.place) refl tt) holds))
+    (c.new-session.ensures.at (at_first store []) (c.in-Ok.ensures.engine ∙ opened.engine) opened.sound (subst (λ place. IsPlace place store) (sym c.in-Ok.ensures.place) opened.place) tt) holds (knows_start c.new-session.result _ c.new-session.ensures.refused)))
     (λ y z stopped. input_stopped store [] refl y z c.args.most stop stopped))
 
 pub returns-in-Err-Memory-clause-stopped : goal.returns-in-Err-Memory-clause-stopped

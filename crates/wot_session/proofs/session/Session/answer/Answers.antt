@@ -6,13 +6,13 @@ use Rattle.wot_answer.specs.declared.reply.Answer.{Answer}
 use Rattle.wot_session.specs.declared.session.Session.{Session}
 use Rattle.wot_session.specs.SessionState.{IsAt, IsDue}
 use Rattle.wot_session.specs.Answering.{Said}
-use Rattle.wot_session.proofs.Feeds.{holds_at, start_said}
+use Rattle.wot_session.proofs.Feeds.{due_here, start_said}
 use Rattle.wot_session.proofs.Outcomes.{if_err_memory}
 use Rattle.wot_session.proofs.Sayings.{one_made, given_said, giving_said, no_memory}
 use Rattle.wot_session.proofs.session.Session.answer.Goals as goal
 
 abbrev Due : Session → Session → Answer → Type 0
-Due old new answer = (p : Position) → IsAt old p → IsDue new answer p.progress.store (after_line p old.line) (reply_to_line p old.line)
+Due old new answer = (p : Position) → IsAt old p → IsDue new answer p.progress (after_line p old.line) (reply_to_line p old.line)
 
 -- a session that no block changed
 due_left : (old held new : Session) (answer : Answer) → held ≡ old → Due held new answer → Due old new answer
@@ -37,24 +37,24 @@ returns-in-Err-Memory-reply-clause-prefix g c p here = no_memory _ p.progress _ 
 pub give-requires : goal.give-requires
 give-requires g c =
     let left = c.read_on.ensures.left (c.in-Ok-false.is ∙ ap Ok c.in-Ok-false.field-0-test) in
-    (search rules, (search rules, (_, _, _, due_left _ _ _ _ left c.in-Ok.ensures.due c.requires.0 c.requires.1.at, holds_at _ _ (c.reply.ensures.place ∙ c.read_on.ensures.place) c.requires.1.holds)))
+    (search rules, (search rules, (_, _, _, due_here c.args.self.now c.reply.new.self c.in-Ok.answer _ c.requires.0 _ _ (c.reply.ensures.place ∙ c.read_on.ensures.place) (c.reply.ensures.refused ∙ c.read_on.ensures.refused) c.requires.1 (due_left _ _ _ _ left c.in-Ok.ensures.due c.requires.0 c.requires.1.at))))
 
 pub returns-clause-at : goal.returns-clause-at
 returns-clause-at g c =
     let left = c.read_on.ensures.left (c.in-Ok-false.is ∙ ap Ok c.in-Ok-false.field-0-test) in
-    on_ok_weaker c.give.result (λ all p here. all _ _ _ (due_left _ _ _ _ left c.in-Ok.ensures.due p here.at) (holds_at _ _ (c.reply.ensures.place ∙ c.read_on.ensures.place) here.holds)) c.give.ensures.here
+    on_ok_weaker c.give.result (λ all p here. all _ _ _ (due_here c.args.self.now c.reply.new.self c.in-Ok.answer _ p _ _ (c.reply.ensures.place ∙ c.read_on.ensures.place) (c.reply.ensures.refused ∙ c.read_on.ensures.refused) here (due_left _ _ _ _ left c.in-Ok.ensures.due p here.at))) c.give.ensures.here
 
 pub returns-clause-told : goal.returns-clause-told
 returns-clause-told g c =
     let left = c.read_on.ensures.left (c.in-Ok-false.is ∙ ap Ok c.in-Ok-false.field-0-test) in
     on_ok_weaker c.give.result
-    (λ all p here. honest_weaker _ _ _ _ (all _ _ _ (due_left _ _ _ _ left c.in-Ok.ensures.due p here.at) (holds_at _ _ (c.reply.ensures.place ∙ c.read_on.ensures.place) here.holds))
+    (λ all p here. honest_weaker _ _ _ _ (all _ _ _ (due_here c.args.self.now c.reply.new.self c.in-Ok.answer _ p _ _ (c.reply.ensures.place ∙ c.read_on.ensures.place) (c.reply.ensures.refused ∙ c.read_on.ensures.refused) here (due_left _ _ _ _ left c.in-Ok.ensures.due p here.at)))
     (λ x y. given_said p.progress _ x y (one_made p.division c.args.self.now.line)))
     c.give.ensures.given
 
 pub returns-clause-prefix : goal.returns-clause-prefix
 returns-clause-prefix g c =
     let left = c.read_on.ensures.left (c.in-Ok-false.is ∙ ap Ok c.in-Ok-false.field-0-test) in
-    if_err_memory _ c.give.result c.give.ensures.prefix c.give.ensures.memory
+    if_err_memory _ _ c.give.result c.give.ensures.prefix c.give.ensures.memory
     (λ stop all memory p here. giving_said _ p.progress _ stop _ _ (one_made p.division c.args.self.now.line) here.holds memory
-    (all _ _ _ (due_left _ _ _ _ left c.in-Ok.ensures.due p here.at) (holds_at _ _ (c.reply.ensures.place ∙ c.read_on.ensures.place) here.holds)))
+    (all _ _ _ (due_here c.args.self.now c.reply.new.self c.in-Ok.answer _ p _ _ (c.reply.ensures.place ∙ c.read_on.ensures.place) (c.reply.ensures.refused ∙ c.read_on.ensures.refused) here (due_left _ _ _ _ left c.in-Ok.ensures.due p here.at))))

@@ -28,7 +28,7 @@ returns-then-is_over-clause-told g c =
     c.in_default-end_line.ensures.at c.in_default-end_line.ensures.line c.in_default-end_line.ensures.told) ended
 
 pub returns-in-Ok-clause-at : goal.returns-in-Ok-clause-at
-returns-in-Ok-clause-at g c = fed_at c.loop-line.invariant.feeding c.in_default.ensures.unended c.hold.new.self (λ p at. c.hold.ensures.at p at) c.hold.ensures.place
+returns-in-Ok-clause-at g c = fed_at c.loop-line.invariant.feeding c.in_default.ensures.unended c.hold.new.self (λ p at. c.hold.ensures.at p at) c.hold.ensures.place c.hold.ensures.refused
 
 pub loop-line-preserved : goal.loop-line-preserved
 loop-line-preserved g c = record {

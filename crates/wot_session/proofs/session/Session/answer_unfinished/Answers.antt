@@ -1,7 +1,7 @@
 use Rattle.std.proofs.Common.{rules}
 use Rattle.std.proofs.lemmas.Result.{on_ok_weaker}
 use Rattle.wot_site.proofs.Honest.{honest_weaker}
-use Rattle.wot_session.proofs.Feeds.{holds_at}
+use Rattle.wot_session.proofs.Feeds.{due_here}
 use Rattle.wot_session.proofs.Outcomes.{if_err_memory}
 use Rattle.wot_session.proofs.Sayings.{one_unfinished, given_said, giving_said, no_memory}
 use Rattle.wot_session.proofs.session.Session.answer_unfinished.Goals as goal
@@ -10,19 +10,19 @@ pub returns-in-Err-Memory-clause-prefix : goal.returns-in-Err-Memory-clause-pref
 returns-in-Err-Memory-clause-prefix g c p here = no_memory _ p.progress _ _ here.holds
 
 pub give-requires : goal.give-requires
-give-requires g c = (search rules, (search rules, (_, _, _, c.in-Ok.ensures.due c.requires.0 c.requires.1.at, holds_at _ _ c.close.ensures.place c.requires.1.holds)))
+give-requires g c = (search rules, (search rules, (_, _, _, due_here c.args.self.now c.close.new.self c.in-Ok.answer _ c.requires.0 _ _ c.close.ensures.place c.close.ensures.refused c.requires.1 (c.in-Ok.ensures.due c.requires.0 c.requires.1.at))))
 
 pub returns-clause-at : goal.returns-clause-at
-returns-clause-at g c = on_ok_weaker c.give.result (λ all p here. all _ _ _ (c.in-Ok.ensures.due p here.at) (holds_at _ _ c.close.ensures.place here.holds)) c.give.ensures.here
+returns-clause-at g c = on_ok_weaker c.give.result (λ all p here. all _ _ _ (due_here c.args.self.now c.close.new.self c.in-Ok.answer _ p _ _ c.close.ensures.place c.close.ensures.refused here (c.in-Ok.ensures.due p here.at))) c.give.ensures.here
 
 pub returns-clause-told : goal.returns-clause-told
 returns-clause-told g c =
     on_ok_weaker c.give.result
-    (λ all p here. honest_weaker _ _ _ _ (all _ _ _ (c.in-Ok.ensures.due p here.at) (holds_at _ _ c.close.ensures.place here.holds)) (λ x y. given_said p.progress _ x y (one_unfinished p.division)))
+    (λ all p here. honest_weaker _ _ _ _ (all _ _ _ (due_here c.args.self.now c.close.new.self c.in-Ok.answer _ p _ _ c.close.ensures.place c.close.ensures.refused here (c.in-Ok.ensures.due p here.at))) (λ x y. given_said p.progress _ x y (one_unfinished p.division)))
     c.give.ensures.given
 
 pub returns-clause-prefix : goal.returns-clause-prefix
 returns-clause-prefix g c =
-    if_err_memory _ c.give.result c.give.ensures.prefix c.give.ensures.memory
+    if_err_memory _ _ c.give.result c.give.ensures.prefix c.give.ensures.memory
     (λ stop all memory p here. giving_said _ p.progress _ stop _ _ (one_unfinished p.division) here.holds memory
-    (all _ _ _ (c.in-Ok.ensures.due p here.at) (holds_at _ _ c.close.ensures.place here.holds)))
+    (all _ _ _ (due_here c.args.self.now c.close.new.self c.in-Ok.answer _ p _ _ c.close.ensures.place c.close.ensures.refused here (c.in-Ok.ensures.due p here.at))))
