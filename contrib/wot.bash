@@ -56,20 +56,24 @@ _wot() {
           '') command=$word ;;
           # an edit with its words stands behind it
           suppose) command="suppose $word" ;;
+          # how many edits, and then a query with its words
+          at) command='at N' ;;
+          'at N') command="at $word" ;;
           *) place=$((place + 1)) ;;
         esac ;;
     esac
   done
   case $command:$place in
     :*)
-      _wot_words 'trust disable enable delete date options import ownertrust list sigs export why suppose critical check compact quit'
+      _wot_words 'trust disable enable delete date options import ownertrust list sigs export why suppose critical at check compact quit'
       case ${COMP_WORDS[0]##*/} in
         wot-in) _wot_words '--help --store' ;;
         # a made key may be ultimately trusted, so none is offered where a store is
         *) _wot_words --workers; [ -e wot.0 ] || _wot_words sample ;;
       esac ;;
     suppose:0) _wot_words 'trust date options' ;;
-    trust:0 | 'suppose trust:0' | disable:0 | enable:0 | delete:0 | list:0 | sigs:0 | why:0 | critical:0)
+    'at N:0') _wot_words 'list why' ;;
+    trust:0 | 'suppose trust:0' | disable:0 | enable:0 | delete:0 | list:0 | sigs:0 | why:0 | critical:0 | 'at list:0' | 'at why:0')
       current=${current^^}
       _wot_words "$(_wot_fingerprints)" ;;
     trust:1 | 'suppose trust:1') _wot_words 'o q n m f u' ;;
@@ -93,10 +97,11 @@ _wot_programs() {
     # as the program itself tells its options
     *:*:-*) _wot_words "$(command "${COMP_WORDS[0]}" --help 2> /dev/null | sed -n 's/^  \(-h, \)\{0,1\}\(--[a-z-]*\).*/\2/p')" ;;
     wot-suppose:--date:*) _wot_words next ;;
+    wot-history:--since:* | wot-history:--until:*) ;;
     wot-suppose:*) _wot_whole_words "$(_wot_names) ultimate full marginal never none" "${2-$current}" ;;
-    wot-verify:--by:* | wot-report:--why:* | wot.py:* | wot-critical:* | wot-list:* | wot-why:* | wot-why-not:*) _wot_whole_words "$(_wot_names)" "${2-$current}" ;;
+    wot-verify:--by:* | wot-report:--why:* | wot.py:* | wot-critical:* | wot-history:* | wot-list:* | wot-why:* | wot-why-not:*) _wot_whole_words "$(_wot_names)" "${2-$current}" ;;
   esac
 }
 
 complete -F _wot wot wot-in
-complete -o default -F _wot_programs deb wot.py wot-critical wot-import wot-list wot-nightly wot-report wot-suppose wot-sync wot-verify wot-why wot-why-not
+complete -o default -F _wot_programs deb wot.py wot-critical wot-history wot-import wot-list wot-nightly wot-report wot-suppose wot-sync wot-verify wot-why wot-why-not

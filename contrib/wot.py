@@ -36,6 +36,8 @@ CHANGES_FILES = (*TAKES_BLOCK, "trust", "disable", "enable", "delete", "date", "
 FILES = ("wot.0", "wot.1")
 DAY = 86400
 BEYOND_ASCII = bytes(128) + b"x" * 128
+# no store has as many edits
+MOST_EDITS = 2**64 - 1
 # how long the files of a store must have rested before answers are kept: some file systems count in whole seconds
 RESTED = 2_000_000_000
 
@@ -123,6 +125,16 @@ class KeyIdTaken(Refused):
 
 class JournalFull(Refused):
     name = "journal-full"
+
+
+class NoSuchTime(Refused):
+    """There were not so many edits since the base; `count` is how many there were."""
+
+    name = "no-such-time"
+
+    @property
+    def count(self):
+        return int(self.details[0])
 
 
 REFUSALS = {kind.name: kind for kind in Refused.__subclasses__()}
@@ -429,6 +441,18 @@ class Wot:
         """On whose ownertrust the letter of a user ID hangs: each without whom it would be further back."""
         return [Loss(*line.split(":")[1:3]) for line in self.ask(f"critical {fingerprint} {place}")]
 
+    def count(self):
+        """How many edits were accepted since the base, which the last `compact` wrote, or an empty keyring where none did."""
+        try:
+            self.raw(f"at {MOST_EDITS} list")
+        except NoSuchTime as refusal:
+            return refusal.count
+        return MOST_EDITS
+
+    def at(self, count):
+        """The state after the first so many edits since the base, of which `listing`, `keyring` and `why` ask."""
+        return Earlier(self, count)
+
     def ask(self, command, block=None):
         """The lines of the reply before its last one; `block` has the lines of a block, for `import` and `ownertrust`."""
         return self.replied(command, block)[:-1]
@@ -490,6 +514,25 @@ class Wot:
             self.leave()
             raise Held() if held else self.fault
         self.child = self.begun()
+
+
+class Earlier:
+    """The state after the first so many edits since the base of an open store; it is read again for each question, and nothing is kept of it."""
+
+    def __init__(self, store, count):
+        self.store, self.count = store, count
+
+    def listing(self, fingerprint=None):
+        """The keys, or one of them, as they were printed; without certifications, which no command prints of an earlier state."""
+        return Listing(self.store.raw(f"at {self.count} list" if fingerprint is None else f"at {self.count} list {fingerprint}"))
+
+    def keyring(self, fingerprint=None):
+        """The keys, or one of them, with their letters, all as values."""
+        found = self.listing(fingerprint)
+        return found.head._replace(keys=list(found))
+
+    def why(self, fingerprint, place=1):
+        return parsed_why(self.store.ask(f"at {self.count} why {fingerprint} {place}"))
 
 
 def last_line(reply):

@@ -20,6 +20,8 @@ TRUSTED = {
     "u": "ultimately trusted", "f": "fully trusted", "m": "marginally trusted", "n": "never trusted", "q": "of undefined trust", "-": "of unknown trust",
 }
 COUNTS = "ufm"
+# the letters before and after, also of a user ID that wasn't there, or no longer is
+LABELS = {**wot.LABELS, "new": "[  new   ]", "gone": "[  gone  ]"}
 
 
 def read_letters(path):
