@@ -86,8 +86,8 @@ def last_epochs():
             yield from moved(sides, [COMPACT, histories.date(5), COMPACT, COMPACT, histories.trust("A", "m")])
 
 
-def supposed():
-    """A hundred questions what edits would change, and on whom letters hang, before each step: the files are those that the steps make without them."""
+def questions():
+    """A hundred questions what edits would change, on whom letters hang, and what was before, ahead of each step: the files are those that the steps make without them."""
     chance = random.Random(19)
     steps, _ = Steps(chance, made=8, compactions=0.2).some(histories.NEW, 20)
     with folder() as where:
@@ -105,7 +105,8 @@ def asked(chance, count):
     edits = [f"trust {fingerprint(name)} {letter}" for name in histories.NAMES for letter in "o-mfun"] + [f"date {date}" for date in (*histories.DATES, "x")]
     edits += ["options classic 1 3 5 2", "options pgp 2 2 1 1", "options pgp 1 2 40 3", f"delete {fingerprint('A')}"]
     users = [f"critical {fingerprint(name)} {place}" for name in histories.NAMES for place in (1, 1, 2)]
-    return "".join(f"{chance.choice((f'suppose {chance.choice(edits)}', chance.choice(users)))}\n" for _ in range(count))
+    states = [f"at {number} {query}" for number in (*range(22), 2**64 - 1, "x") for query in ("list", f"list {fingerprint('A')}", f"why {fingerprint('B')} 1", "sigs")]
+    return "".join(f"{chance.choice((f'suppose {chance.choice(edits)}', chance.choice(users), chance.choice(states)))}\n" for _ in range(count))
 
 
 def refused():
@@ -119,7 +120,7 @@ def refused():
 
 
 done = 0
-for check in (at_random, sizes, left_behind, last_epochs, supposed, refused):
+for check in (at_random, sizes, left_behind, last_epochs, questions, refused):
     for name, found, wanted in check():
         if found != wanted:
             sys.exit(f"compaction: {check.__name__}: {name}: {found!r} in place of {wanted!r}"[:4000])

@@ -18,7 +18,7 @@ from reference.program import PROGRAM, by, fingerprint, folder, imported, key, r
 TOP = pathlib.Path(__file__).resolve().parent.parent
 CONTRIB = TOP / "contrib"
 PROGRAMS = (
-    "deb", "git-gpg-wot", "gpg-wot", "wot-critical", "wot-import", "wot-in", "wot-list", "wot-nightly", "wot-report", "wot-suppose", "wot-sync", "wot-verify", "wot-why",
+    "deb", "git-gpg-wot", "gpg-wot", "wot-critical", "wot-history", "wot-import", "wot-in", "wot-list", "wot-nightly", "wot-report", "wot-suppose", "wot-sync", "wot-verify", "wot-why",
     "wot-why-not", "wot.py",
 )
 sys.path.insert(0, str(CONTRIB))

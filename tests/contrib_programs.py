@@ -86,7 +86,7 @@ def stale():
         ("too old", OLD.replace("expires=1000", "").replace(":1000:1000:", ":1000::"), ("--max-age", "3"), "which is more than 3 days ago: run wot-sync\n"),
     ):
         with store_of(given) as at:
-            for program in (("wot-list",), ("wot-why", address), ("wot-critical", address), ("wot-suppose", address, "full"), ("wot-report", "page")):
+            for program in (("wot-list",), ("wot-why", address), ("wot-critical", address), ("wot-history", address), ("wot-suppose", address, "full"), ("wot-report", "page")):
                 done = at.run(program[0], *words, *program[1:])
                 yield f"{name}: {program[0]}", (done.returncode, done.stderr), (0, f"{program[0]}: the store tells of 1970-01-01 00:08:20 UTC, {told}")
             yield f"{name}: the page", "These letters may be others now" in (at.here / "page").read_text(encoding="utf-8"), True
@@ -183,7 +183,7 @@ def names():
             ("ABCDEF01", "nobody of that name: ABCDEF01; a key ID of 8 digits is not looked for, as many keys can have it: gpg -k ABCDEF01 shows the fingerprint"),
             ("nobody", "nobody of that name: nobody"),
         ):
-            for program, *more in (("wot-list",), ("wot-why",), ("wot-why-not",), ("wot-critical",), ("wot-suppose", "full")):
+            for program, *more in (("wot-list",), ("wot-why",), ("wot-why-not",), ("wot-critical",), ("wot-history",), ("wot-suppose", "full")):
                 done = at.run(program, name, *more)
                 yield f"{program} {name}", (done.returncode, done.stderr), (1, f"{program}: {wanted}\n")
     with store_of(trust("A", "u") + imported(key("A"), key("B", "A", text="Bob <b@example.org>"), key("C", text="Bob <b@example.org>"), key("D", "B"))) as at:
@@ -253,6 +253,87 @@ def supposing():
         ]
 
 
+EDITS = [f"date {NOW}\n", trust("CC", "n"), f"disable {fingerprint('22')}\n", trust("CC", "m"), f"delete {fingerprint('11')}\n", "options classic 1 4 5 2\n", "options classic 1 4 5 3\n"]
+SINCE_SIX = f"""\
+from 1970-01-01 00:00:00 UTC, after 6 edits, to {wot.moment(int(NOW))}, after 13 of 13:
+[  full  ] -> [  gone  ] Gus <gus@example.org> {fingerprint("11")}
+[  full  ] -> [ unknown] Hana <hana@example.org> {fingerprint("22")}
+[  full  ] -> [marginal] Finn <finn@example.org> {fingerprint("FF")}
+3 letters changed
+"""
+ALL_OF_HANA = f"""\
+[ unknown] Hana <hana@example.org> {fingerprint("22")}
+  [  new   ] -> [  full  ] by edit 6 of 13, at 1970-01-01 00:00:00 UTC
+    the key came: Gus <gus@example.org>, Hana <hana@example.org>, Ada <ada@example.org>, Ben <ben@example.org>, Cleo <cleo@example.org> and 3 more
+    7 other letters changed with it
+  [  full  ] -> [marginal] by edit 8 of 13, at {wot.moment(int(NOW))}
+    the ownertrust went from marginal to never: Cleo <cleo@example.org>
+    1 other letter changed with it
+  [marginal] -> [  full  ] by edit 10 of 13, at {wot.moment(int(NOW))}
+    the ownertrust went from never to marginal: Cleo <cleo@example.org>
+    1 other letter changed with it
+  [  full  ] -> [ unknown] by edit 12 of 13, at {wot.moment(int(NOW))}
+    the options went from pgp 1 3 5 to classic 1 4 5, min-cert-level not shown
+    1 other letter changed with it
+"""
+
+
+def before():
+    """What changed since some edits, and by which; the store stays as it is, and a compaction forgets."""
+    today = wot.day(int(NOW))
+    with store_of(session("levels")) as at:
+        run("".join(EDITS), where=at.here)
+        files = [(at.here / name).read_bytes() for name in wot.FILES]
+        yield "since a number", at.run("wot-history", "--since", "6").stdout, SINCE_SIX
+        yield "since a day", [at.run("wot-history", "--since", "1970-01-01", *words).stdout for words in ((), ("--until", today))], [SINCE_SIX] * 2
+        done = at.run("wot-history", "--since", "7", "--until", "9")
+        yield "between two", done.stdout.splitlines()[1:], [f"[  full  ] -> [marginal] {name} {fingerprint(one)}" for name, one in (
+            ("Hana <hana@example.org>", "22"), ("Finn <finn@example.org>", "FF"))] + ["2 letters changed"]
+        yield "nothing", at.run("wot-history", "--since", "12", "--until", "12").stdout.splitlines()[1:], ["no letters changed"]
+        yield "each edit", at.run("wot-history", "--all", "hana@example.org").stdout, ALL_OF_HANA
+        found = at.run("wot-history", "hana@example.org").stdout.splitlines()
+        yield "one that led to the letter of now", (found[0], found[1] in ALL_OF_HANA.splitlines(), "-> [ unknown]" in found[1]), (ALL_OF_HANA.splitlines()[0], True, True)
+        yield "within some", at.run("wot-history", "--since", "8", "--until", "11", "hana@example.org").stdout.splitlines()[1:3], ALL_OF_HANA.splitlines()[7:9]
+        yield "the same before", at.run("wot-history", "--since", "6", "--until", "11", "hana@example.org").stdout.splitlines()[1:], ["  the same after 6 edits and after 11; --all looks at those between"]
+        yield "who is gone", at.run("wot-history", "--since", "6", "gus@example.org").stdout.splitlines(), [
+            f"[  gone  ] Gus <gus@example.org> {fingerprint('11')}", f"  [  full  ] -> [  gone  ] by edit 11 of 13, at {wot.moment(int(NOW))}", "    the key went: Gus <gus@example.org>"]
+        yield "a disabled key", at.run("wot-history", "--since", "8", "--until", "9").stdout.splitlines()[1:], ["no letters changed"]
+        yield "what no listing shows", at.run("wot-history", "--since", "12", "--all", "hana@example.org").stdout.splitlines()[1:], ["  the same after each from 12 to 13 edits"]
+        for words, said in (
+            (("--since", "14"), "no state after 14 edits: there are 13 since the base"), (("--since", "9", "--until", "8"), "the state after 9 edits is later than that after 8"),
+            (("--since", "20261130T101112"), "20261130T101112: neither a number of edits nor a day of the form 2026-12-31"),
+        ):
+            done = at.run("wot-history", *words)
+            yield said, (done.returncode, done.stdout, done.stderr), (2, "", f"wot-history: {said}\n")
+        yield "no usage", [at.status("wot-history", *words) for words in (("--all",), ("a", "b"))], [2, 2]
+        page = at.run("wot-report", "--since", "6", "-").stdout
+        yield "on the page", re.findall(r">([\w ]+)</span></td><td><span[^>]*>([\w ]+)</span></td><td>(\w+) ", page.partition("<h2>Letters")[0]), [
+            ("full", "gone", "Gus"), ("full", "unknown", "Hana"), ("full", "marginal", "Finn")]
+        yield "not on the page", (at.run("wot-report", "--since", "14", "-").stderr), "wot-report: no state after 14 edits: there are 13 since the base\n"
+        yield "as it was", [(at.here / name).read_bytes() for name in wot.FILES], files
+        yield from asked_before(at)
+        run(f"compact\ndisable {fingerprint('AA')}\n", where=at.here)
+        yield "a compaction forgets", at.run("wot-history", "hana@example.org").stdout.splitlines()[1:], ["  the same after no edits and after 1"]
+        yield "a day before the base", at.run("wot-history", "--since", "1970-01-01").stderr, f"wot-history: 1970-01-01: the base is of a later day, {today}\n"
+
+
+def asked_before(at):
+    """The module's methods."""
+    hana, gus = fingerprint("22"), fingerprint("11")
+    with wot.Wot(at.here, PROGRAM) as store:
+        yield "the module: how many", store.count(), 13
+        yield "the module: all keys", [len(store.at(number).keyring().keys) for number in (0, 5, 6, 13)], [0, 0, 8, 7]
+        yield "the module: one key", [store.at(number).keyring(hana).keys[0].letter for number in (6, 8, 10, 13)], list("fmf-")
+        yield "the module: as it came", store.at(13).listing().raw, store.listing().raw
+        yield "the module: why", (store.at(8).why(hana).letter, store.at(13).why(hana), sorted(store.at(6).why(gus).by)), ("m", store.why(hana), [key_id("BB")])
+        calls = (lambda: store.at(14).listing(), lambda: store.at(2**64).listing(), lambda: store.at(3).listing(hana), lambda: store.at(6).why(hana, 2))
+        yield "the module: refusals", [raised(call)[:2] for call in calls], [
+            ("NoSuchTime", "no-such-time 13"), ("BadArgument", "bad-argument 1"), ("NoSuchKey", "no-such-key"), ("NoSuchUser", "no-such-user")]
+        store.ask("trust " + hana + " f")
+        yield "the module: one more", store.count(), 14
+        store.ask("trust " + hana + " o")
+
+
 def kept():
     """An answer by fingerprint is kept until the store is another, and no longer."""
     with store_of(session("levels")) as at:
@@ -311,7 +392,7 @@ def interrupted():
     with store_of(session("levels")) as at:
         (at.tools / "slow").write_text(f"#!/bin/sh\necho > {at.here}/began\nexec sleep 60\n", encoding="utf-8")
         (at.tools / "slow").chmod(0o755)
-        for words in (("wot-list",), ("wot-why", "x"), ("wot-why-not", "x"), ("wot-critical", "x"), ("wot-suppose", "x", "full"), ("wot-report", "page"), ("wot.py", "x@example.org")):
+        for words in (("wot-list",), ("wot-why", "x"), ("wot-why-not", "x"), ("wot-critical", "x"), ("wot-history", "x"), ("wot-suppose", "x", "full"), ("wot-report", "page"), ("wot.py", "x@example.org")):
             environment = {**at.environment, "WOT": str(at.tools / "slow")}
             with subprocess.Popen(words, cwd=at.here, env=environment, stderr=subprocess.PIPE, start_new_session=True) as child:
                 while not (at.here / "began").exists() and child.poll() is None:
@@ -408,7 +489,7 @@ def ended_keys(at, signed, said):
 
 
 def alone():
-    checks, left = [outputs, stale, signers, held, names, supposing, kept, later_forms, interrupted], []
+    checks, left = [outputs, stale, signers, held, names, supposing, before, kept, later_forms, interrupted], []
     if not WITHOUT_RIGHTS or shutil.which("setpriv"):
         checks.append(denied)
     else:

@@ -6,7 +6,9 @@ A store that was moved to its other side twice, with edits before, between and a
 exchanged, and has one file replaced by an older copy of itself, by zeros and by bytes of any kind; images, rows, payloads and records are changed, and
 written as they were before, under seals and lengths that are right. Each run ends with the fault that a second reader finds first, and leaves both files
 as they were, or with the state that it finds, and an edit then goes to the place that it finds. Each fault of a store is made on purpose too, and so
-is damage that no run notices. Of a kind of which there is more a sample is tried, and all with --all.
+is damage that no run notices. While a run has a store open its shown side is damaged too, and an earlier state is asked: the run ends with the fault that
+a second reader finds then, what it told stays told, and the next opening finds what the files show. Of a kind of which there is more a sample is
+tried, and all with --all.
 """
 import argparse
 import collections
@@ -19,10 +21,10 @@ import sys
 import tempfile
 from concurrent.futures import ThreadPoolExecutor
 
-from reference import histories, keyring, listing, store
+from reference import earlier, histories, keyring, listing, store
 from reference.histories import COMPACT
 from reference.keyring import Options, Row
-from reference.program import REAL, by, fingerprint, folder, key, run, short
+from reference.program import PROGRAM, REAL, by, fingerprint, folder, key, run, short
 
 BLOCK = (
     REAL
@@ -76,6 +78,36 @@ def opened(sides, words=()):
     return None if store.shown(*left) == wanted and kept else (found, "is not where it should be", left)
 
 
+def meanwhile(given):
+    """What differs where the shown side of a store that a run has open becomes another, and an earlier state is asked."""
+    count, data = given
+    found, told = store.shown(ZERO, ONE), histories.shows(STATE)
+    sides = tuple(data if number == found.side else side for number, side in enumerate((ZERO, ONE)))
+    with folder() as where:
+        store.write_sides(where, (ZERO, ONE))
+        with subprocess.Popen([PROGRAM], cwd=where, stdin=subprocess.PIPE, stdout=subprocess.PIPE, stderr=subprocess.PIPE) as child:
+            child.stdin.write(b"sigs\nexport\n")
+            child.stdin.flush()
+            before = child.stdout.read(len(told))
+            store.write_sides(where, sides)
+            rest, errors = child.communicate(b"at %d list\nat %d list\n" % (count, len(EDITS) + 1), timeout=60)
+        left = store.read_sides(where)
+    state = earlier.read_again(data, found.epoch, PAGES, count)
+    if isinstance(state, store.Bad):
+        wanted = told, b"", b"wot: bad store: %s\n" % state.name.encode(), 6
+    else:
+        wanted = told, earlier.reply(state, "list") + b"err no-such-time %d\n" % len(EDITS), b"", 1
+    done = before, rest, errors, child.returncode
+    return (state, done) if done != wanted or left != sides else opened(sides)
+
+
+def told_by_name(given):
+    """What differs where a fault of an earlier state is made on purpose: it is told by its name."""
+    name, (count, data) = given
+    found, differs = earlier.read_again(data, EPOCH, PAGES, count), meanwhile((count, data))
+    return None if found == store.Bad(name) and differs is None else (name, found, differs)
+
+
 def fault(given):
     """What differs where a fault is made on purpose: it is told by its name, over any number of workers."""
     name, sides = given
@@ -105,7 +137,13 @@ STEPS = [
 STAGES = histories.files((b"", b""), STEPS)
 ZERO, ONE = STAGES[-1]
 STATE = store.shown(ZERO, ONE).state
+# the edits since the base, which is of one page, and the place of each record's gate and of the last one
+EDITS, PAGES = STEPS[-3:], 1
+GATES = [store.base_end(PAGES) + sum(len(step.payload) + 5 for step in EDITS[:count]) for count in range(len(EDITS) + 1)]
+SIDE, EPOCH = (ZERO, ONE)[store.shown(ZERO, ONE).side], store.shown(ZERO, ONE).epoch
 IMAGE = store.image_bytes(STATE, keyring.rows_of(STATE))
+BASE_STATE = store.shown(*STAGES[-1 - len(EDITS)]).state
+BASE = store.image_bytes(BASE_STATE, keyring.rows_of(BASE_STATE))
 MADE = store.sampled(7, 60)(keyring.opening())
 # a side of several pages
 LONG = store.side_for(1, MADE)
@@ -280,7 +318,35 @@ def passed():
     yield store.shown(*STAGES[8]).state, (b"", ONE)
 
 
-FAULTS = ("Magic", "SameEpoch", "Short", "Seal", "Spelling", "Row", "BadPayload", "BadEdit")
+def damaged():
+    """How many edits are asked of, and the shown side with a bit turned, a byte replaced, cut, or with other pages or records."""
+    end, given = GATES[-1] + 3, [step.payload for step in EDITS]
+    sides = [SIDE[:size] for size in (0, 23, 24, 100, *range(store.base_end(PAGES) - 1, end))]
+    sides += [with_bit(SIDE, bit) for bit in (*range(8 * store.HEADER), *range(8 * store.HEADER, 8 * store.base_end(PAGES), 1237), *range(8 * store.base_end(PAGES), 8 * end))]
+    sides += [with_byte(SIDE, place, byte) for place in GATES for byte in (0, 0x5A, store.GATE)]
+    # without its rows a base is as good for an earlier state, whose rows are counted
+    sides += [store.side_of(EPOCH, image, given) for image in (with_byte(IMAGE, 8, 0xFF), IMAGE + b"\1", BASE, store.image_bytes(BASE_STATE, {}), IMAGE)]
+    others = ([], [b""], [b"\5" + bytes(8)], [histories.date(77).payload])
+    sides += [store.side_of(epoch, BASE, given[:count] + more) for epoch in (EPOCH, EPOCH + 1) for count in range(4) for more in others]
+    sides += [SIDE + b"\xa5" * 9, bytes(len(SIDE)), b"\xa5" * len(SIDE)]
+    yield from ((count, data) for data in sides for count in range(len(EDITS) + 1))
+
+
+def lost():
+    """Each fault that an earlier state can have, made on purpose while a run has the store open."""
+    given = [step.payload for step in EDITS]
+    yield from (("Lost", (number, with_byte(SIDE, gate, byte))) for number, gate in enumerate(GATES[:-1], 1) for byte in (0, 1, 0xA4))
+    yield "Lost", (3, with_byte(with_byte(SIDE, GATES[0], 0), GATES[2], 0))
+    yield from (("Short", (0, SIDE[:size])) for size in (0, 24, GATES[0] - 1, GATES[0]))
+    yield from (("Short", (2, SIDE[:size])) for size in (GATES[1] + 1, GATES[1] + 5, GATES[2]))
+    yield from (("Seal", (count, with_bit(SIDE, 8 * 100))) for count in range(4))
+    yield "Seal", (1, store.side_of(EPOCH + 1, BASE, given))
+    yield from (("Spelling", (count, store.side_of(EPOCH, image, given))) for count in (0, 3) for image in (with_byte(IMAGE, 8, 0xFF), IMAGE + b"\1"))
+    yield from (("BadPayload", (3, store.side_of(EPOCH, BASE, [*given[:2], bad]))) for bad in (b"", b"\xff", b"\6\0\0\0"))
+    yield "BadEdit", (2, store.side_of(EPOCH, BASE, [given[0], given[0], b"\xff"]))
+
+
+FAULTS = ("Magic", "SameEpoch", "Short", "Seal", "Spelling", "Row", "BadPayload", "BadEdit", "Lost")
 KINDS = (turned, turned_where_it_counts, replaced, cut, exchanged, images, rows, older, payloads, numbers, bytes_of_any_kind)
 
 
@@ -288,6 +354,8 @@ def tries():
     """What is tried, kind after kind: its name, how each is looked at, and all that there are."""
     yield "faults made on purpose", fault, purposes()
     yield "damage that is not noticed", unnoticed, passed()
+    yield "faults while a run has the store open", told_by_name, lost()
+    yield "damage while a run has the store open", meanwhile, damaged()
     yield "stages of a store", written, range(len(STAGES))
     yield "cuts of a listing", cut_listing, range(len(BLOCK) + 1)
     yield "cuts of a session", cut_session, range(len(SESSION) + 1)
@@ -309,7 +377,7 @@ def some(things, most):
 def batches(check, things):
     """What is taken of a kind, in batches, each with how many there are of it."""
     if not asked.all:
-        yield some(things, asked.sample if check not in (fault, unnoticed, written) else sys.maxsize)
+        yield some(things, asked.sample if check not in (fault, told_by_name, unnoticed, written) else sys.maxsize)
         return
     things = iter(things)
     while batch := list(itertools.islice(things, 1000)):
@@ -318,7 +386,12 @@ def batches(check, things):
 
 def outcomes(check, batch):
     """What the tries of a batch come to, by a second reader."""
-    found = [store.shown(*sides) for sides in batch] if check is opened else [store.Bad(name) for name, _ in batch] if check is fault else []
+    if check is opened:
+        found = [store.shown(*sides) for sides in batch]
+    elif check is meanwhile:
+        found = [earlier.read_again(data, EPOCH, PAGES, count) for count, data in batch]
+    else:
+        found = [store.Bad(name) for name, _ in batch] if check in (fault, told_by_name) else []
     return collections.Counter(one.name if isinstance(one, store.Bad) else "a state" for one in found)
 
 

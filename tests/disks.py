@@ -30,6 +30,8 @@ STEPS = [
     histories.options(Options(True, 1, 2, 5, 1)), histories.keys(key("C", by("B", trusts="1 60"))), COMPACT, histories.date(5000),
 ]
 SESSION = "".join(step.given for step in STEPS).encode()
+# at the end it asks of an earlier state, for which the shown side is read again
+ASKING = SESSION + b"at 1 list\n"
 REACHED = histories.states(NEW, STEPS)
 STREAMS = {0: "standard input", 1: "standard output"}
 PLACES = {"standard input": 3, "standard output": 4, "the current folder": 5, "wot.0": 5, "wot.1": 5}
@@ -52,7 +54,7 @@ def session(where, limits=None, told=subprocess.PIPE, given=SESSION, words=(), *
 
 def kept(sides, told, reached=tuple(REACHED)):
     """How many steps a store holds, which are all that were acknowledged and at most one more, to a second reader and to the program."""
-    found, count = store.shown(*sides), histories.acknowledged(told)
+    found, count = store.shown(*sides), min(histories.acknowledged(told), len(reached) - 1)
     places = [place for place in (count, count + 1) if place < len(reached) and reached[place] == found]
     need(places, count, "steps are acknowledged, and a second reader finds", found)
     with folder() as other:
@@ -88,14 +90,14 @@ ERRORS = {"openat": errno.EACCES, "flock": errno.EAGAIN, "write": errno.ENOSPC}
 def failing(name, number, error, where, log):
     """The session with one call failing."""
     traced = ["strace", "-f", "-o", log, "-e", f"trace={name}", "-e", f"inject={name}:error={errno.errorcode[error]}:when={number}"]
-    return session(where, front=traced)
+    return session(where, given=ASKING, front=traced)
 
 
 def calls_of_a_session():
     """The calls of the session from the first on a file on: the name, the number among those of this name, and what it is on, as it is told."""
     counts, found, begun, places = collections.Counter(), [], False, dict(STREAMS)
     with folder() as where, tempfile.NamedTemporaryFile() as log:
-        well(session(where, front=["strace", "-f", "-o", log.name, "-e", "trace=openat,flock,fsync,fdatasync,fstat,newfstatat,statx,lseek,read,write"]))
+        well(session(where, given=ASKING, front=["strace", "-f", "-o", log.name, "-e", "trace=openat,flock,fsync,fdatasync,fstat,newfstatat,statx,lseek,read,write"]))
         for line in log.read().decode(errors="replace").splitlines():
             call = CALL.match(line)
             if call:

@@ -3,8 +3,8 @@
 
 edits.py PROGRAM [--time SECONDS] [--edits NUMBER] [--seed NUMBER]: sessions are made until the time is over or there were so many edits. After
 each edit, and each `compact` between them, the state, as `sigs` and `export` print it, is given to another process with an empty store and to a second
-reading of the rules, and what `list`, `sigs`, `export`, `check` and some `why`, `suppose` and `critical` tell is compared with both. A session's store is
-reopened too. The first difference ends the check and leaves the session's commands in a file.
+reading of the rules, and what `list`, `sigs`, `export`, `check` and some `why`, `suppose` and `critical` tell is compared with both. Some `at`
+ask of states before, which are listed as they were then. A session's store is reopened too. The first difference ends the check and leaves the session's commands in a file.
 """
 import argparse
 import os
@@ -14,7 +14,7 @@ import tempfile
 import time
 from concurrent.futures import ThreadPoolExecutor
 
-from reference import histories, keyring, supposing
+from reference import earlier, histories, keyring, supposing
 from reference.program import folder, run
 
 # no store here has to outlive a stop of the machine; a session that is left may
@@ -133,6 +133,11 @@ class Edits:
         asked += [f"critical {fingerprint(self.name())} {self.chance.choice((1, 1, 1, 2))}\n" for _ in range(2)]
         return "".join(asked) + "check\nlist\nexport\n"
 
+    def earlier(self, most):
+        """Questions of states before, after up to one more edit than there can be: how many there are since the base, the replies tell."""
+        asked = ["list", "list", *(f"why {fingerprint(self.name())} {self.chance.choice((1, 1, 2))}" for _ in range(2))]
+        return "".join(f"at {self.chance.randrange(most + 2)} {query}\n" for query in asked)
+
 
 def replies(told):
     """Replies, each up to the line that ends it."""
@@ -168,6 +173,23 @@ def read_again(date, options, sigs, export, questions):
     return [reply.decode() for reply in found]
 
 
+def asked_before(commands, states, groups):
+    """What differs in the replies of earlier states: each is listed as it was then, and explained as a second reading explains it."""
+    since = [(keyring.opening(), keyring.listed(keyring.opening()).decode() + "ok\n")]
+    for number, (command, (date, options, questions, asked), group) in enumerate(zip(commands, states, groups), 1):
+        state = histories.printed(group[1].encode(), group[2].encode(), date, options)
+        now = state, group[2 + questions.count("\n") - 1]
+        since = since if group[0].startswith("err") else [now] if command.startswith("compact\n") else [*since, now]
+        for question, told in zip(asked.splitlines(), group[3 + questions.count("\n"):]):
+            _, count, *query = question.split()
+            if query == ["list"] and int(count) < len(since):
+                wanted = since[int(count)][1]
+            else:
+                wanted = earlier.at([state for state, _ in since], int(count), *query).decode()
+            if told != wanted:
+                yield f"after edit {number}, {question}", [told], [wanted]
+
+
 def session(seed, pool):
     """One session; its commands, how many edits were refused, explanations that have an introducer and supposed edits that change a letter, and what differs."""
     edits = Edits(random.Random(seed))
@@ -175,20 +197,21 @@ def session(seed, pool):
     begun = edits.begun()
     for number in range(EDITS):
         edit = begun[number] if number < len(begun) else edits.next()
-        states.append((edits.date, edits.options, edits.questions()))
-        commands.append(edit + "sigs\nexport\n" + states[-1][2])
+        states.append((edits.date, edits.options, edits.questions(), edits.earlier(number + 1)))
+        commands.append(edit + "sigs\nexport\n" + "".join(states[-1][2:]))
     with folder() as store:
         told = replies(run("".join(commands), where=store).stdout)
-        again = replies(run("sigs\nexport\n" + states[-1][2], where=store).stdout)
-    count = 3 + states[0][2].count("\n")
+        again = replies(run("sigs\nexport\n" + "".join(states[-1][2:]), where=store).stdout)
+    count, more = 3 + "".join(states[0][2:]).count("\n"), states[0][3].count("\n")
     if len(told) != EDITS * count:
         return commands, 0, 0, 0, [("the session", [f"{len(told)} replies\n"], [f"{EDITS * count} replies\n"])]
     groups = [told[i * count : (i + 1) * count] for i in range(EDITS)]
     counted = pool.map(lambda both: recounted(*both[0][:2], both[1][1], both[1][2], both[0][2]), zip(states, groups))
-    wrong = [(f"after edit {i + 1}", group[1:], wanted) for i, (group, wanted) in enumerate(zip(groups, counted)) if group[1:] != wanted]
+    wrong = [(f"after edit {i + 1}", group[1:-more], wanted) for i, (group, wanted) in enumerate(zip(groups, counted)) if group[1:-more] != wanted]
     for number, (state, group) in enumerate(zip(states, groups), 1):
         wanted = read_again(*state[:2], *group[1:3], state[2])
-        wrong += [(f"after edit {number}, by a second reading", group[1:], wanted)] if group[1:] != wanted else []
+        wrong += [(f"after edit {number}, by a second reading", group[1:-more], wanted)] if group[1:-more] != wanted else []
+    wrong += asked_before(commands, states, groups)
     if again != groups[-1][1:]:
         wrong.append(("reopened", again, groups[-1][1:]))
     refused = sum(group[0].startswith("err") for group in groups)

@@ -16,6 +16,8 @@ TURNS = [
     (f"trust {A} u\n", "ok\n"),
     ("frob\n", "err unknown-command\n"),
     ("# a comment\nexport\n", f"{A}:6:\nok\n"),
+    ("at 0 list\n", "tru::1:0:0:3:1:5\nok\n"),
+    ("at 2 list\n", "err no-such-time 1\n"),
     ("export", ""),  # no newline yet: no reply
     ("\n", f"{A}:6:\nok\n"),
 ]

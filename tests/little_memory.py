@@ -15,8 +15,8 @@ from reference.program import PROGRAM, folder, run, short
 # no store here has to outlive a stop of the machine
 tempfile.tempdir = "/dev/shm" if os.path.isdir("/dev/shm") else None
 STEPS = [histories.trust("A", "u"), histories.sample(7, 800), COMPACT, histories.date(1650000000), histories.options(histories.keyring.Options(level=1)), COMPACT]
-# each step has a query behind it
-GIVEN = "".join(step.given + "check\n" for step in STEPS).encode()
+# each step has two queries behind it, of which the second needs a state more than that of now
+GIVEN = "".join(step.given + "check\nat 0 list\n" for step in STEPS).encode()
 FIRST, FACTOR, MOST = 3_000_000, 1.02, 10**9
 NO_MEMORY = (7, b"wot: out of memory\n")
 
@@ -34,7 +34,7 @@ def runs(workers, whole, reached):
         with folder() as where:
             done = subprocess.run([PROGRAM, "--workers", str(workers)], input=GIVEN, capture_output=True, cwd=where, timeout=120, preexec_fn=limited(int(size)), check=False)
             sides = store.read_sides(where)
-        count = (histories.acknowledged(done.stdout) + 1) // 2
+        count = (histories.acknowledged(done.stdout) + 2) // 3
         if done.returncode != 127 or done.stdout:
             is_end = (done.returncode, done.stderr) == NO_MEMORY or (done.returncode, done.stdout, done.stderr) == (0, whole, b"")
             if not is_end or not whole.startswith(done.stdout) or store.shown(*sides) != reached[count]:

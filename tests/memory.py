@@ -52,6 +52,10 @@ SESSIONS = {
         [trust("A", "u"), trust("B", "m"), imported(key("A"), key("B", "A"), key("C", "B"))],
         f"suppose trust {fingerprint('B')} f\ncritical {fingerprint('C')} 1\nsuppose options classic 1 3 1 2\nsuppose date 5000\n",
     ),
+    "earlier states": (
+        [trust("A", "u"), imported(key("A"), key("B", "A")), trust("B", "m"), imported(key("C", "B"))],
+        f"at 2 list\nat 4 why {fingerprint('C')} 1\nat 5 list\ncompact\nat 0 list {fingerprint('B')}\n",
+    ),
     "a compaction": ([trust("A", "u"), trust("B", "f")], "compact\n"),
 }
 

@@ -65,6 +65,14 @@ SHOWN = {
         r"\A\[  full  \] Bob <bob@example.org> [0-9A-F]{40}\n(  \[ unknown\] without the ownertrust of Me <me@example.org>, ultimately trusted\n"
         r"|  \[  undef \] without the ownertrust of Alice <alice@example.org>, fully trusted\n){2}\Z"
     ],
+    "What was it last week?": [
+        r"\A(ok.*\n){5}from .* UTC, after 3 edits, to .* UTC, after 5 of 5:\n\[  full  \] -> \[  undef \] Bob <bob@example.org> [0-9A-F]{40}\n1 letter changed\n"
+        r"tru:(.*\n)*uid:f:[^\n]*:Bob <bob@example.org>:\n(.*\n)*ok\n\Z"
+    ],
+    "Which edit made Bob invalid?": [
+        r"\A\[  undef \] Bob <bob@example.org> [0-9A-F]{40}\n  \[  full  \] -> \[  undef \] by edit 5 of 5, at .* UTC\n"
+        r"    the ownertrust went from full to never: Alice <alice@example.org>\nwhy:f:(.*\n)*ok\n\Z"
+    ],
     "What expires next, and what falls with it": [
         r"\A(at .* UTC:\n\[  full  \] -> \[ expired\] Bob <bob@example.org> [0-9A-F]{40}\n1 letter would change\n){2}\Z",
         r"\A[1-9][0-9]*\nchange:[0-9A-F]{16}:1:f:e:\nok changes 1\n\Z",

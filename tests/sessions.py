@@ -42,6 +42,8 @@ OTHER_A = f"pub:-:255:22:00000000000000AA:1000:::-:::scSC:\nfpr:::::::::{ANOTHER
 # B is valid and marginally trusted, and certifies C
 MARGINAL = TWO_KEYS + trust("B", "m") + imported(key("C", "B"))
 MARGINAL_TOLD = TWO_TOLD + "ok\nok keys 1 kept 1 passed 0\n"
+MARGINAL_LISTED = listed(("A", "u", "u"), ("B", "f", "m"), ("C", "m", "-"))
+WHY_B = "why:f:00000000000000BB:1:1:0:0:0:\nrow:00000000000000AA:0:u:0:::\nby:00000000000000AA:u:\ncut:f:\nok\n"
 # four who are valid and marginally trusted
 FOUR = trust("A", "u") + "".join(trust(name, "m") for name in "BCDE") + imported(key("A"), *(key(name, "A") for name in "BCDE"))
 FOUR_TOLD = "ok\n" * 5 + "ok keys 5 kept 4 passed 0\n"
@@ -52,6 +54,12 @@ WRONGLY_SUPPOSED = (
     ("trust", 2), ("trust AA f", 2), (f"trust {A}", 3), (f"trust {A} x", 3), (f"trust {A} F", 3), (f"trust {A} f f", 4), ("date", 2), ("date x", 2), ("date 4294967296", 2), ("date 5 5", 3),
     ("options", 2), ("options tofu 1 3 5 2", 2), ("options pgp 0 3 5 2", 3), ("options pgp 1 1 5 2", 4), ("options pgp 1 3 0 2", 5), ("options pgp 1 3 256 2", 5), ("options pgp 1 3 5 4", 6),
     ("options pgp 1 3 5", 6), ("options pgp 1 3 5 2 1", 7),
+)
+# the words behind `at`, and the place of the first bad one
+WRONGLY_ASKED = (
+    ("", 1), ("list", 1), ("x list", 1), ("-1 list", 1), ("0x1 list", 1), ("1.0 list", 1), ("18446744073709551616 list", 1), ("x sigs zz", 1), ("1", 2), ("1 sigs", 2), (f"1 sigs {A}", 2),
+    ("1 export", 2), ("1 List", 2), ("1 1", 2), ("1 at 1 list", 2), (f"0 trust {A} u", 2), (f"1 critical {A} 1", 2), ("1 list zz", 3), ("1 list list", 3), (f"1 list {A[1:]}", 3),
+    (f"1 list {A} 1", 4), ("1 why", 3), ("1 why zz 0", 3), (f"1 why {A}", 4), (f"1 why {A} 0", 4), (f"1 why {A} x", 4), (f"1 why {A} 4294967296", 4), (f"1 why {A} 1 1", 5),
 )
 QUOTED = "a\\x3ab\\\\c\\n".encode() + bytes([0xC3, 0xA9])
 EXAMPLES = pathlib.Path(__file__).resolve().parent.parent / "examples"
@@ -272,6 +280,31 @@ SESSIONS = {
         TWO_TOLD + "".join(f"err {reason}\n" for reason in ("bad-argument 1",) * 2 + ("bad-argument 2",) * 4 + ("bad-argument 3",) + ("no-such-key",) * 2 + ("no-such-user",) * 2),
         1,
     ),
+    "earlier states": (
+        MARGINAL + f"list\nat 2 list\nat 5 list\nat 1 why {B} 1\nat 0 list\nat 3 list {C}\nat 4 list {C.lower()}\nat 2 why {B} 1\nat 2 why {B} 2\nat 4 list\n"
+        f"compact\nat 0 list\nat 1 list\nat 0 why {B} 1\nat 2 sigs\ndelete {C}\nat 1 list\nat 0 list {C}\nat 1 list {C}\n",
+        MARGINAL_TOLD + MARGINAL_LISTED + TWO_LISTED + "err no-such-time 4\nerr no-such-key\n" + listed() + "err no-such-key\n" + listed(("C", "m", "-")) + WHY_B + "err no-such-user\n"
+        + MARGINAL_LISTED + "ok\n" + MARGINAL_LISTED + "err no-such-time 0\n" + WHY_B + "err bad-argument 2\nok\n" + listed(("A", "u", "u"), ("B", "f", "m")) + listed(("C", "m", "-"))
+        + "err no-such-key\n",
+        1,
+    ),
+    "what is refused is no edit": (
+        TWO_KEYS + trust("A", "x") + f"delete {C}\n" + imported(OTHER_A) + f"suppose trust {B} m\nlist\ncompact now\nat 3 list\nat 18446744073709551615 list\nat 0000000000000000000000002 list\n",
+        TWO_TOLD + "err bad-argument 2\nerr no-such-key\nerr key-id-taken 00000000000000AA\nok changes 0\n" + TWO_LISTED + "err bad-argument 1\nerr no-such-time 2\nerr no-such-time 2\n" + TWO_LISTED,
+        1,
+    ),
+    "an edit that changes nothing is an edit": (
+        trust("A", "-") + "date 0\nimport\n.\nownertrust\n.\noptions pgp 1 3 5 2\nat 5 list\nat 6 list\n",
+        "ok\nok\nok keys 0 kept 0 passed 0\nok entries 0\nok\n" + listed() + "err no-such-time 5\n",
+        1,
+    ),
+    "bad words of at": (
+        TWO_KEYS + "".join(f"at {words}\n" for words, _ in WRONGLY_ASKED),
+        TWO_TOLD + "".join(f"err bad-argument {place}\n" for _, place in WRONGLY_ASKED),
+        1,
+    ),
+    "of at a bad word comes before a number too great, and this before a key": (
+        f"at 1 why {A} 0\nat 1 why {A} 1\nat 0 why {A} 1\nat 0 list {A}\n", "err bad-argument 4\nerr no-such-time 0\nerr no-such-key\nerr no-such-key\n", 1),
     "compact and check take no word": ("compact now\ncheck 1\nlist\n", "err bad-argument 1\nerr bad-argument 1\n" + listed(), 1),
     "nothing after quit": ("list\nquit\nlist\nfrob\n", listed() + "ok\n", 0),
     "quit with an argument ends nothing": ("quit now\nlist\n", "err bad-argument 1\n" + listed(), 1),
@@ -394,6 +427,9 @@ WORDS = {
     "check": (["--workers", "4", "check"], "frob\n", "tally:0:0:0:0:0:0:0:0:\nok\n", "", 0),
     "what an edit would change": (["suppose", "trust", A, "o"], "frob\n", "ok changes 0\n", "", 0),
     "on whom a letter hangs": (["--workers", "2", "critical", A, "1"], "", "err no-such-key\n", "", 1),
+    "an earlier state": (["at", "0", "list"], "frob\n", listed(), "", 0),
+    "one that isn't there": (["--workers", "64", "at", "1", "why", A, "1"], "", "err no-such-time 0\n", "", 1),
+    "a number of edits with a dash": (["at", "-1", "list"], "", "", USAGE, 2),
     "a dash as a letter": (["suppose", "trust", A, "-"], "", "", USAGE, 2),
     "check with a word": (["check", A], "", "err bad-argument 1\n", "", 1),
     "a dash word after --": (["--", "-x"], "", "err unknown-command\n", "", 1),

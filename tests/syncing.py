@@ -339,6 +339,9 @@ def completed():
         yield "an edit that is supposed", [offered("wot-in", "suppose", *words) for words in (("",), ("trust", "0" * 38 + "b"), ("trust", fingerprint("B"), "f"), ("options", "c"), ("date", ""))], [
             ["trust", "date", "options"], [fingerprint("B")], ["f"], ["classic"], []]
         yield "on whom a letter hangs", (offered("wot-critical", "Ca"), offered("wot-in", "critical", "0" * 38 + "b")), (["Carol"], [fingerprint("B")])
+        yield "of an earlier state", [offered("wot-in", "at", *words) for words in (("",), ("1", ""), ("1", "list", "0" * 38 + "b"), ("1", "why", "0" * 38 + "b"), ("1", "list", fingerprint("B"), ""))], [
+            [], ["list", "why"], [fingerprint("B")], [fingerprint("B")], []]
+        yield "whose history", [offered("wot-history", *words) for words in (("Ca",), ("--since", ""), ("--al",))], [["Carol"], [], ["--all"]]
         yield "options", [offered(name, "--sto") for name in ("wot-nightly", "wot-sync", "wot-import", "wot.py")], [["--store"]] * 4
         yield "of the package", offered("deb", "--"), ["--version", "--help"]
         yield "a command there", offered("wot-in", "ex"), ["export"]

@@ -311,11 +311,11 @@ def printed_key(state, rows, k, with_certs):
         yield from map(printed_cert, user.certs if with_certs else ())
 
 
-def listed(state, with_certs=False):
-    """What `list` prints of the whole keyring, before its last line."""
+def listed(state, with_certs=False, of=None):
+    """What `list` prints of the whole keyring, or of the key of one key ID, before its last line."""
     rows, options = rows_of(state), state.options
     head = (options.pgp, state.date, next_check(state), options.marginals, options.completes, options.depth)
-    lines = (line for k in sorted(state.keys) for line in printed_key(state, rows, k, with_certs))
+    lines = (line for k in (sorted(state.keys) if of is None else [of]) for line in printed_key(state, rows, k, with_certs))
     return b"tru::%d:%d:%d:%d:%d:%d\n" % head + b"".join(lines)
 
 

@@ -288,22 +288,27 @@ def shown_base(data, epoch, pages):
     return state if rows is None or rows == rows_of(state) else Bad("Row")
 
 
+def after_record(data, state, at):
+    """The state after the record behind an open gate, and the place of the next gate; or the first fault."""
+    limit = min(len(data), MOST)
+    end = at + 5 + int.from_bytes(data[at + 1:at + 5], "big")
+    if at + 5 > limit or end >= limit:
+        return Bad("Short")
+    try:
+        edit = read_edit(data[at + 5:end])
+    except NoSpelling:
+        return Bad("BadPayload")
+    state = edit(state)
+    return Bad("BadEdit") if state is None else (state, end)
+
+
 def replayed(data, state, at):
     """The state after the records from a place on and the journal's end, or the first fault."""
-    limit = min(len(data), MOST)
     while data[at] == GATE:
-        end = at + 5 + int.from_bytes(data[at + 1:at + 5], "big")
-        if at + 5 > limit or end >= limit:
-            return Bad("Short")
-        payload = data[at + 5:end]
-        try:
-            edit = read_edit(payload)
-        except NoSpelling:
-            return Bad("BadPayload")
-        state = edit(state)
-        if state is None:
-            return Bad("BadEdit")
-        at = end
+        found = after_record(data, state, at)
+        if isinstance(found, Bad):
+            return found
+        state, at = found
     return state, at
 
 
