@@ -1,22 +1,23 @@
 -- What comes next from marks together.
-use Rattle.std.proofs.Common.{◌≡◌, ◌≢◌, ℕ, suc, zero, ◌+◌, ◌/◌, ◌%◌, ◌<◌, ◌≤◌, ◌==◌, ◌⊎◌, inl, inr, Bool, true, false, ◌&&◌, ◌||◌, List, [], ◌∷◌, ◌++◌, length, get_or, set, take, replicate, refl, sym, ap, ap₂, ◌∙◌, subst, arith}
+use Rattle.std.proofs.Common.{◌≡◌, ◌≢◌, ℕ, suc, zero, ◌+◌, ◌/◌, ◌%◌, ◌<◌, ◌≤◌, ◌==◌, ◌⊎◌, inl, inr, Bool, true, false, ◌&&◌, ◌||◌, List, [], ◌∷◌, ◌++◌, length, get_or, drop, set, take, replicate, refl, sym, ap, ap₂, ◌∙◌, subst, arith}
 use Rattle.std.specs.Int.{bit_at}
 use Rattle.std.proofs.lemmas.Bool.{cases_eq}
 use Rattle.std.proofs.lemmas.Grind.{get_or-set_at}
-use Rattle.std.proofs.lemmas.List.{get_or-set_other, get_or_default, same_lists}
+use Rattle.std.proofs.lemmas.List.{get_or-set_other, get_or-take, get_or_default, same_lists}
 use Rattle.std.proofs.lemmas.Nat.Bits.{bit_at-zero}
 use Rattle.wot_types.specs.Expression.{Tree}
-use Rattle.wot_regex.specs.Following.{Holds, IsFollowers, IsRow, entered, has, only, open_node, opened, taking}
+use Rattle.wot_regex.specs.Following.{Holds, IsMeet, IsRow, IsRows, entered, front, has, only, open_node, opened, taking}
 use Rattle.wot_regex.specs.Gathering.{Back, all_gathered, all_noted, all_spread, back_start, spread_by}
 use Rattle.wot_regex.specs.Knowing.{found_at, moved_by}
 use Rattle.wot_regex.specs.Reaching.{marked, nowhere, top}
 use Rattle.wot_regex.specs.Searching.{Searching}
-use Rattle.wot_regex.specs.declared.followers.Followers.{Followers}
+use Rattle.wot_regex.specs.Table.{nodes_of}
 use Rattle.wot_regex.specs.declared.followers.Row.{Row}
 use Rattle.wot_regex.specs.declared.node.Node.{Node}
 use Rattle.wot_regex.specs.declared.node.Node.TheVariants.{Any, AnyNumber, AtLeastOne, AtMostOne, Byte, Either, End, Followed, Member, Nothing, Range, Start}
 use Rattle.wot_regex.specs.declared.reach.Reach.{Reach}
 use Rattle.wot_regex.proofs.Joins.{AllJoin, BacksJoin, Joins, all_gathered_joins, all_noted_joins, all_spread_joins, exits_join, more, none, nowhere_joins, top_joins}
+use Rattle.wot_regex.proofs.Searches.{at_byte, at_text_end, found_at_end, found_here, search_on}
 use Rattle.wot_regex.proofs.Meets.{AllMeet, meet_at, meet_one, meet_other, spread_meets, spread_plain}
 
 -- lists that are filled from their start
@@ -69,8 +70,8 @@ pub opened_append : (ns ms : List Node) → opened (ns ++ ms) ≡ opened ns ++ o
 opened_append [] ms = refl
 opened_append (n ∷ ns) ms = ap (λ x. open_node n ∷ x) (opened_append ns ms)
 
-pub entered_length : (nodes : List Node) (cells : List Reach) → length (entered nodes cells) ≡ length nodes
-entered_length nodes cells = spread_length 0 (opened nodes) (all_noted (record { start = false; end = false }) nodes cells []) ∙ opened_length nodes
+pub entered_length : (nodes : List Node) (start : Bool) (cells : List Reach) → length (entered nodes start cells) ≡ length nodes
+entered_length nodes start cells = spread_length 0 (opened nodes) (all_noted (record { start = start; end = false }) nodes cells []) ∙ opened_length nodes
 
 -- sets of marks
 
@@ -114,11 +115,6 @@ holds_spread w b ns cs cells is h i lt =
 
 -- the marks of the first places
 
-abbrev pub front : ℕ → List Reach → List Reach
-front i [] = []
-front zero (c ∷ cs) = nowhere ∷ front zero cs
-front (suc i) (c ∷ cs) = c ∷ front i cs
-
 pub front_none : (cs : List Reach) → front 0 cs ≡ replicate (length cs) nowhere
 front_none [] = refl
 front_none (c ∷ cs) = ap (λ x. nowhere ∷ x) (front_none cs)
@@ -132,6 +128,13 @@ front_skips : (i : ℕ) (cs : List Reach) → get_or cs i nowhere ≡ nowhere �
 front_skips i [] e = refl
 front_skips zero (c ∷ cs) e = ap (λ x. x ∷ front 0 cs) e
 front_skips (suc i) (c ∷ cs) e = ap (λ x. c ∷ x) (front_skips i cs e)
+
+-- places behind that are not marked
+pub front_over : (i n : ℕ) (cs : List Reach) → ((j : ℕ) → i ≤ j → j < i + n → get_or cs j nowhere ≡ nowhere) → front (i + n) cs ≡ front i cs
+front_over i zero cs h = let none : i + 0 ≡ i = omega arith in ap (λ k. front k cs) none
+front_over i (suc n) cs h =
+    let up : i + suc n ≡ suc (i + n) = omega arith in
+    ap (λ k. front k cs) up ∙ front_skips (i + n) cs (h (i + n) (omega arith) (omega arith)) ∙ front_over i n cs (λ j le lt. h j le (omega (arith, lt)))
 
 front_length : (i : ℕ) (cs : List Reach) → length (front i cs) ≡ length cs
 front_length i [] = refl
@@ -159,7 +162,7 @@ front_joins (suc i) (c ∷ cs) plain lt e =
 start_joins : BacksJoin back_start back_start back_start
 start_joins = record { entries = more (record { one = refl; other = refl; ended = refl }) none; cells = none; one = refl; other = refl }
 
-entered_joins : (nodes : List Node) {rs qs bs : List Reach} → AllJoin rs qs bs → AllJoin (entered nodes rs) (entered nodes qs) (entered nodes bs)
+entered_joins : (nodes : List Node) {rs qs bs : List Reach} → AllJoin rs qs bs → AllJoin (entered nodes false rs) (entered nodes false qs) (entered nodes false bs)
 entered_joins nodes t = (all_spread_joins 0 (opened nodes) (all_noted_joins (record { start = false; end = false }) nodes t none) start_joins).cells
 
 found_joins : (nodes : List Node) {rs qs bs : List Reach} → AllJoin rs qs bs → found_at nodes false false rs ≡ (found_at nodes false false qs || found_at nodes false false bs)
@@ -172,62 +175,87 @@ found_joins nodes {rs = rs} {qs = qs} {bs = bs} t =
     ∙ exits_join true true r.passes q.ended b.ended
     ∙ ap₂ (λ x y. (x || q.ended) || (y || b.ended)) j.one j.other
 
-row_joined : (nodes : List Node) (new old other : Row) {rs qs bs : List Reach} → length nodes ≤ 512 → AllJoin rs qs bs → IsRow nodes qs old → IsRow nodes bs other
-    → ((i : ℕ) → i < 512 → has new.next.words i ≡ (has old.next.words i || has other.next.words i)) → new.found ≡ (old.found || other.found) → IsRow nodes rs new
+row_joined : (nodes : List Node) (new old other : Row) {rs qs bs : List Reach} → length nodes ≤ 512 → AllJoin rs qs bs → IsRow nodes false qs old → IsRow nodes false bs other
+    → ((i : ℕ) → i < 512 → has new.next.words i ≡ (has old.next.words i || has other.next.words i)) → new.found ≡ (old.found || other.found) → IsRow nodes false rs new
 row_joined nodes new old other {rs = rs} room t q b next found = record {
-  next = holds_joined new.next.words old.next.words other.next.words (entered_joins nodes t) (omega (arith, entered_length nodes rs)) q.next b.next next;
+  next = holds_joined new.next.words old.next.words other.next.words (entered_joins nodes t) (omega (arith, entered_length nodes false rs)) q.next b.next next;
   found = found ∙ ap₂ (λ x y. x || y) q.found b.found ∙ sym (found_joins nodes t);
 }
 
-module _ (nodes : List Node) (followers : Followers) (words : List ℕ) (cells : List Reach) (i : ℕ) (known : IsFollowers nodes followers) (same : length cells ≡ length nodes) (holds : Holds words cells) (lt : i < length nodes) where
+module _ (nodes : List Node) (first : Row) (rows : List Row) (words : List ℕ) (cells : List Reach) (i : ℕ) (known : IsRows nodes first rows) (same : length cells ≡ length nodes) (holds : Holds words cells) (lt : i < length nodes) where
   -- a place that is marked
-  pub row_more : (row new other : Row) → length nodes ≤ 512 → other ≡ get_or followers.rows i other → has words i ≡ true → IsRow nodes (front i cells) row
-      → ((j : ℕ) → j < 512 → has new.next.words j ≡ (has row.next.words j || has other.next.words j)) → new.found ≡ (row.found || other.found) → IsRow nodes (front (i + 1) cells) new
+  pub row_more : (row new other : Row) → length nodes ≤ 512 → other ≡ get_or rows i other → has words i ≡ true → IsRow nodes false (front i cells) row
+      → ((j : ℕ) → j < 512 → has new.next.words j ≡ (has row.next.words j || has other.next.words j)) → new.found ≡ (row.found || other.found) → IsRow nodes false (front (i + 1) cells) new
   row_more row new other room is on old next found =
-      let P : Row → Type 0 = λ r. IsRow nodes (only (length cells) i) r in
-      let Q : ℕ → Type 0 = λ k. IsRow nodes (only k i) (get_or followers.rows i other) in
-      let R : ℕ → Type 0 = λ k. IsRow nodes (front k cells) new in
+      let P : Row → Type 0 = λ r. IsRow nodes false (only (length cells) i) r in
+      let Q : ℕ → Type 0 = λ k. IsRow nodes false (only k i) (get_or rows i other) in
+      let R : ℕ → Type 0 = λ k. IsRow nodes false (front k cells) new in
       let up : suc i ≡ i + 1 = omega arith in
       let here : i < length cells = omega (arith, lt, same) in
       subst R up
       (row_joined nodes new row other room
       (front_joins i cells (holds_plain words cells holds) here (holds i here ∙ ap marked on))
       old
-      (subst P (sym is) (subst Q (sym same) (known.each_row i other lt)))
+      (subst P (sym is) (subst Q (sym same) (known.each i other lt)))
       next found)
 
-  -- one that is not
-  pub row_same : (row : Row) → has words i ≡ false → IsRow nodes (front i cells) row → IsRow nodes (front (i + 1) cells) row
-  row_same row off old =
-      let P : List Reach → Type 0 = λ x. IsRow nodes x row in
-      let up : suc i ≡ i + 1 = omega arith in
-      let here : i < length cells = omega (arith, lt, same) in
-      subst P (sym (front_skips i cells (holds i here ∙ ap marked off)) ∙ ap (λ k. front k cells) up) old
-
 -- no place so far, and all of them
-pub row_none : (nodes : List Node) (followers : Followers) (cells : List Reach) → IsFollowers nodes followers → length cells ≡ length nodes → IsRow nodes (front 0 cells) followers.first
-row_none nodes followers cells known same =
-    let P : List Reach → Type 0 = λ x. IsRow nodes x followers.first in
-    subst P (ap (λ k. replicate k nowhere) (sym same) ∙ sym (front_none cells)) known.first
+pub row_none : (nodes : List Node) (first : Row) (rows : List Row) (cells : List Reach) → IsRows nodes first rows → length cells ≡ length nodes → IsRow nodes false (front 0 cells) first
+row_none nodes first rows cells known same =
+    let P : List Reach → Type 0 = λ x. IsRow nodes false x first in
+    subst P (ap (λ k. replicate k nowhere) (sym same) ∙ sym (front_none cells)) known.none
 
-pub row_all : (nodes : List Node) (cells : List Reach) (i : ℕ) (row : Row) → length cells ≤ i → IsRow nodes (front i cells) row → IsRow nodes cells row
+-- the rows of a table that has fewer parts
+pub rows_taken : (nodes : List Node) (first : Row) (rows : List Row) → IsRows nodes first rows → IsRows nodes first (take (length nodes) rows)
+rows_taken nodes first rows is = record {
+  none = is.none;
+  each = λ i d lt.
+      let P : Row → Type 0 = λ r. IsRow nodes false (only (length nodes) i) r in
+      subst P (sym (get_or-take (length nodes) rows i d lt)) (is.each i d lt);
+}
+
+pub row_all : (nodes : List Node) (cells : List Reach) (i : ℕ) (row : Row) → length cells ≤ i → IsRow nodes false (front i cells) row → IsRow nodes false cells row
 row_all nodes cells i row le is =
-    let P : List Reach → Type 0 = λ x. IsRow nodes x row in
+    let P : List Reach → Type 0 = λ x. IsRow nodes false x row in
     subst P (front_all i cells le) is
 
 -- one byte more
-pub holds_moved : (nodes : List Node) (cells : List Reach) (row : Row) (b : ℕ) (mask new : List ℕ) → length nodes ≤ 512 → IsRow nodes cells row → Holds mask (taking nodes b)
-    → ((i : ℕ) → i < 512 → has new i ≡ (has row.next.words i && has mask i)) → Holds new (moved_by nodes false cells b)
-holds_moved nodes cells row b mask new room is takes met =
-    let noted = all_noted (record { start = false; end = false }) nodes cells [] in
+pub holds_moved : (nodes : List Node) (start : Bool) (cells : List Reach) (row : Row) (b : ℕ) (mask new : List ℕ) → length nodes ≤ 512 → IsRow nodes start cells row → Holds mask (taking nodes b)
+    → IsMeet new row.next.words mask → Holds new (moved_by nodes start cells b)
+holds_moved nodes start cells row b mask new room is takes met =
+    let noted = all_noted (record { start = start; end = false }) nodes cells [] in
     holds_met new row.next.words mask (spread_meets b nodes noted) (omega (arith, spread_length b nodes noted)) is.next takes met
 
 -- a search that goes on from marks
-pub record Going (tree : Tree) (nodes : List Node) (words : List ℕ) (rest : List ℕ) (found : Bool) : Type 0 where
+pub record Going (tree : Tree) (nodes : List Node) (start : Bool) (words : List ℕ) (rest : List ℕ) (found : Bool) : Type 0 where
   pub cells : List Reach
   pub same : length cells ≡ length nodes
   pub holds : Holds words cells
-  pub searching : Searching tree cells false rest found
+  pub searching : Searching tree cells start rest found
+
+-- a match ends at marks by which this comes next
+pub going_ends : (tree : Tree) (nodes : List Node) (start : Bool) (words rest : List ℕ) (found : Bool) (b : ℕ) (row : Row) → nodes ≡ nodes_of tree → (g : Going tree nodes start words (b ∷ rest) found) → IsRow nodes start g.cells row → row.found ≡ true → true ≡ found
+going_ends tree nodes start words rest found b row is g next h =
+    found_here tree nodes g.cells start b rest found (top (all_gathered (record { start = start; end = false }) nodes g.cells [])) is g.searching refl (sym next.found ∙ h)
+
+-- none ends there, and a byte leads on
+pub going_on : (tree : Tree) (nodes : List Node) (start : Bool) (words new mask rest : List ℕ) (found : Bool) (b : ℕ) (row : Row) → length nodes ≤ 512 → nodes ≡ nodes_of tree → (g : Going tree nodes start words (b ∷ rest) found) → IsRow nodes start g.cells row → row.found ≡ false
+    → Holds mask (taking nodes b) → IsMeet new row.next.words mask → Going tree nodes false new rest found
+going_on tree nodes start words new mask rest found b row room is g next h takes met =
+    let noted = all_noted (record { start = start; end = false }) nodes g.cells [] in record {
+      cells = moved_by nodes start g.cells b;
+      same = spread_length b nodes noted;
+      holds = holds_moved nodes start g.cells row b mask new room next takes met;
+      searching = search_on tree nodes g.cells noted (moved_by nodes start g.cells b) start b rest found (top (all_gathered (record { start = start; end = false }) nodes g.cells [])) is g.searching refl (sym next.found ∙ h) refl refl;
+    }
+
+-- the next byte of a text, and its end
+pub going_byte : (tree : Tree) (nodes : List Node) (start : Bool) (words text : List ℕ) (i : ℕ) (found : Bool) → i < length text → Going tree nodes start words (drop i text) found → Going tree nodes start words (get_or text i 0 ∷ drop (i + 1) text) found
+going_byte tree nodes start words text i found lt g = record { cells = g.cells; same = g.same; holds = g.holds; searching = at_byte tree nodes g.cells start text i found lt g.searching }
+
+pub going_over : (tree : Tree) (nodes : List Node) (start : Bool) (words text : List ℕ) (i : ℕ) (found : Bool) → nodes ≡ nodes_of tree → length text ≤ i → (g : Going tree nodes start words (drop i text) found) → found_at nodes start true g.cells ≡ found
+going_over tree nodes start words text i found is le g =
+    found_at_end tree nodes g.cells start found (top (all_gathered (record { start = start; end = true }) nodes g.cells [])) is (at_text_end tree nodes g.cells start text i found le g.searching) refl
 
 -- the cells with one mark
 pub only_made : (m n i : ℕ) → n ≤ m → i < n → take n (set (replicate m nowhere) i (marked true)) ≡ only n i

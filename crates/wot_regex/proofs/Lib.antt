@@ -8,7 +8,6 @@ pub mod Stacks
 pub mod Tables
 pub mod Spreads
 pub mod Searches
-pub mod Knowns
 pub mod Takings
 pub mod Admitting
 pub mod Suffixes
@@ -18,3 +17,5 @@ pub mod Joins
 pub mod Meets
 pub mod SetLemmas
 pub mod Followings
+pub mod WordWalks
+pub mod Knowns

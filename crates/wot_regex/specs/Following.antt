@@ -1,11 +1,12 @@
 -- Sets of a table's places, and where matches may go on from these.
-use Rattle.std.specs.Prelude.{◌≡◌, ℕ, ◌<◌, ◌==◌, ◌/◌, ◌%◌, suc, zero, Bool, true, false, List, [], ◌∷◌, get_or, length, replicate}
+use Rattle.std.specs.Prelude.{◌≡◌, ℕ, ◌<◌, ◌≤◌, ◌==◌, ◌&&◌, ◌/◌, ◌%◌, suc, zero, Bool, true, false, List, [], ◌∷◌, get_or, length, replicate, None, Some}
 use Rattle.std.specs.Int.{bit_at}
 use Rattle.wot_regex.specs.Gathering.{all_noted, all_spread, back_start}
 use Rattle.wot_regex.specs.Knowing.{found_at}
 use Rattle.wot_regex.specs.Reaching.{marked, nowhere}
 use Rattle.wot_regex.specs.declared.followers.Followers.{Followers}
 use Rattle.wot_regex.specs.declared.followers.Row.{Row}
+use Rattle.wot_regex.specs.declared.masks.Masks.{Masks}
 use Rattle.wot_regex.specs.declared.node.Node.{Node}
 use Rattle.wot_regex.specs.declared.node.Node.TheVariants.{Any, Byte, Member, Range}
 use Rattle.wot_regex.specs.declared.reach.Reach.{Reach}
@@ -30,9 +31,9 @@ abbrev pub opened : List Node → List Node
 opened [] = []
 opened (node ∷ nodes) = open_node node ∷ opened nodes
 
--- the cells behind one byte more inside a text, whatever the byte
-abbrev pub entered : List Node → List Reach → List Reach
-entered nodes cells = (all_spread 0 (opened nodes) (all_noted (record { start = false; end = false }) nodes cells []) back_start).cells
+-- the cells behind one byte more, whatever the byte, at the start of a text or inside it
+abbrev pub entered : List Node → Bool → List Reach → List Reach
+entered nodes start cells = (all_spread 0 (opened nodes) (all_noted (record { start = start; end = false }) nodes cells []) back_start).cells
 
 abbrev pub everywhere : Reach
 everywhere = record { passes = true; ended = true }
@@ -41,9 +42,14 @@ everywhere = record { passes = true; ended = true }
 abbrev pub taking : List Node → ℕ → List Reach
 taking nodes b = (all_spread b nodes (replicate (length nodes) everywhere) back_start).cells
 
-pub record IsRow (nodes : List Node) (cells : List Reach) (row : Row) : Type 0 where
-  pub next : Holds row.next.words (entered nodes cells)
-  pub found : row.found ≡ found_at nodes false false cells
+-- the places in a set are those in both others
+abbrev pub IsMeet : List ℕ → List ℕ → List ℕ → Type 0
+IsMeet new one other = (i : ℕ) → i < 512 → has new i ≡ (has one i && has other i)
+
+-- what comes next by these cells, and whether a match ends there
+pub record IsRow (nodes : List Node) (start : Bool) (cells : List Reach) (row : Row) : Type 0 where
+  pub next : Holds row.next.words (entered nodes start cells)
+  pub found : row.found ≡ found_at nodes start false cells
 
 -- one place is marked
 abbrev pub only : ℕ → ℕ → List Reach
@@ -51,7 +57,28 @@ only zero i = []
 only (suc n) zero = marked true ∷ replicate n nowhere
 only (suc n) (suc i) = nowhere ∷ only n i
 
+-- what comes next inside a text where no place is marked, and where one is
+pub record IsRows (nodes : List Node) (first : Row) (rows : List Row) : Type 0 where
+  pub none : IsRow nodes false (replicate (length nodes) nowhere) first
+  pub each : (i : ℕ) (d : Row) → i < length nodes → IsRow nodes false (only (length nodes) i) (get_or rows i d)
+
+-- the marks of the first places alone
+abbrev pub front : ℕ → List Reach → List Reach
+front i [] = []
+front zero (c ∷ cs) = nowhere ∷ front zero cs
+front (suc i) (c ∷ cs) = c ∷ front i cs
+
+-- the rows, and the symbols that take each byte
 pub record IsFollowers (nodes : List Node) (followers : Followers) : Type 0 where
-  pub first : IsRow nodes (replicate (length nodes) nowhere) followers.first
-  pub each_row : (i : ℕ) (d : Row) → i < length nodes → IsRow nodes (only (length nodes) i) (get_or followers.rows i d)
+  pub rows : IsRows nodes followers.first followers.rows
   pub each_mask : (b : ℕ) (d : Set) → b < 256 → Holds (get_or followers.masks b d).words (taking nodes b)
+
+-- a list keeps what it had
+pub record Keeps {X : Type 0} (old new : List X) : Type 0 where
+  pub grown : length old ≤ length new
+  pub same : (i : ℕ) (d : X) → i < length old → get_or new i d ≡ get_or old i d
+
+-- the class that is noted of a byte is one, and its set are the symbols that take the byte
+pub record IsMasks (nodes : List Node) (masks : Masks) : Type 0 where
+  pub within : (b k : ℕ) → get_or masks.classes b None ≡ Some k → k < length masks.sets.items
+  pub takes : (b k : ℕ) (d : Set) → get_or masks.classes b None ≡ Some k → Holds (get_or masks.sets.items k d).words (taking nodes b)

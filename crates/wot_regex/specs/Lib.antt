@@ -7,3 +7,4 @@ pub mod TreeCode
 pub mod Searching
 pub mod Knowing
 pub mod Following
+pub mod States

@@ -1,12 +1,12 @@
-//! Where matches may go on from each symbol of a table, so that a long text is searched by sets of symbols.
+//! Where matches may go on from each symbol of a table, so that a text is searched by sets of symbols.
 //!
 //! What is reached from marks together is what is reached from each of them. So from each place of a table alone, and from none, the walks are
 //! made once, whatever the byte, and beside that the symbols that take each byte. A byte of the text is then the union of the rows of the places
 //! that are marked, of which those stay that take the byte.
 
-ghost use Rattle.std.specs.Prelude.{◌≡◌, ◌≤◌, ◌<◌, ◌||◌, ℕ, Bool, false, true, List, length, get_or};
+ghost use Rattle.std.specs.Prelude.{◌≡◌, ◌≤◌, ◌<◌, ◌||◌, ◌+◌, ◌*◌, ℕ, Bool, false, true, List, length, get_or, replicate};
 ghost use Rattle.wot_types.specs.Expression.{Tree};
-ghost use Rattle.wot_regex.specs.Following.{Holds, IsFollowers, IsRow, entered, has, only, open_node, opened, taking};
+ghost use Rattle.wot_regex.specs.Following.{Holds, IsFollowers, IsRow, IsRows, entered, front, has, only, open_node, opened, taking};
 ghost use Rattle.wot_regex.specs.Knowing.{found_at};
 ghost use Rattle.wot_regex.specs.Reaching.{marked, nowhere};
 ghost use Rattle.wot_regex.specs.Searching.{Searching};
@@ -29,6 +29,7 @@ pub struct Row {
     pub found: bool,
 }
 
+/// What a long text is searched by, of an expression of which nothing is kept.
 #[derive(Drop)]
 pub struct Followers {
     /// Where no place is marked.
@@ -63,27 +64,24 @@ fn search_sets(nodes: &[Node], followers: &Followers, marks: Set, rest: &[u8]) -
 {
     let mut marks = marks;
     for b in rest {
-        let row = row_from(nodes.len(), followers, &marks);
+        let row = row_from(&followers.first, &followers.rows[..nodes.len()], &marks);
         if row.found {
             return true;
         }
         marks = row.next;
         marks.meet(&followers.masks[*b as usize]);
     }
-    ends(nodes, &marks)
+    ends(nodes, &marks, false)
 }
 
 /// Whether a match ends at these marks where the text ends.
-fn ends(nodes: &[Node], marks: &Set) -> bool
+pub fn ends(nodes: &[Node], marks: &Set, start: bool) -> bool
     requires room { length nodes.now ≤ PLACES }
-    ensures { (cells : List Reach) → length cells ≡ length nodes.now → Holds marks.now.words cells → result ≡ found_at nodes.now false true cells }
+    ensures { (cells : List Reach) → length cells ≡ length nodes.now → Holds marks.now.words cells → result ≡ found_at nodes.now start true cells }
 {
     let mut cells = [Reach::NONE; PLACES];
     mark(marks, &mut cells[..nodes.len()]);
-    let place = Place {
-        start: false,
-        end: true,
-    };
+    let place = Place { start, end: true };
     reach_at(nodes, &cells[..nodes.len()], place).exits(true)
 }
 
@@ -98,28 +96,50 @@ fn mark(marks: &Set, cells: &mut [Reach])
 }
 
 /// What comes next by the marks.
-fn row_from(count: usize, followers: &Followers, marks: &Set) -> Row
-    requires { count ≤ PLACES }
-    ensures { (nodes : List Node) (cells : List Reach) → length nodes ≡ count → IsFollowers nodes followers.now → length cells ≡ length nodes → Holds marks.now.words cells → IsRow nodes cells result }
+pub fn row_from(first: &Row, rows: &[Row], marks: &Set) -> Row
+    requires { length rows.now ≤ PLACES }
+    ensures { (nodes : List Node) (cells : List Reach) → length nodes ≡ length rows.now → IsRows nodes first.now rows.now → length cells ≡ length nodes → Holds marks.now.words cells → IsRow nodes false cells result }
 {
-    let mut row = followers.first;
-    for i in 0..count {
-        row.join(&followers.rows[i], marks.has(i));
+    let mut row = *first;
+    for i in 0..8 {
+        row.join_word(rows, 64 * i, marks.words[i]);
     }
     row
 }
 
 impl Row {
-    /// Adds what comes next by another, if so.
-    fn join(&mut self, other: &Row, on: bool)
-        ensures next { on ≡ true → (i : ℕ) → i < PLACES → has self.new.next.words i ≡ (has self.old.next.words i || has other.now.next.words i) }
-        ensures found { on ≡ true → self.new.found ≡ (self.old.found || other.now.found) }
-        ensures kept { on ≡ false → self.new ≡ self.old }
+    /// Adds what comes next by the marks of a word, whose first place this is.
+    fn join_word(&mut self, rows: &[Row], from: usize, word: u64)
+        requires rows { length rows.now ≤ PLACES }
+        requires from { from < PLACES }
+        ensures { (nodes : List Node) (first : Row) (words : List ℕ) (cells : List Reach) (i : ℕ) → length nodes ≡ length rows.now → IsRows nodes first rows.now → length cells ≡ length nodes → Holds words cells → from ≡ 64 * i → word ≡ get_or words i 0 → IsRow nodes false (front from cells) self.old → IsRow nodes false (front (from + 64) cells) self.new }
     {
-        if on {
-            self.next.unite(&other.next);
-            self.found = self.found | other.found;
+        let mut left = word;
+        while left != 0 {
+            let bit = left.trailing_zeros();
+            self.join_place(rows, from + bit as usize);
+            left &= !(1 << bit);
         }
+    }
+
+    /// Adds what comes next by a place, if there is one.
+    fn join_place(&mut self, rows: &[Row], place: usize)
+        ensures next { place < length rows.now → (d : Row) (i : ℕ) → i < PLACES → has self.new.next.words i ≡ (has self.old.next.words i || has (get_or rows.now place d).next.words i) }
+        ensures found { place < length rows.now → (d : Row) → self.new.found ≡ (self.old.found || (get_or rows.now place d).found) }
+        ensures kept { length rows.now ≤ place → self.new ≡ self.old }
+    {
+        if place < rows.len() {
+            self.join(&rows[place]);
+        }
+    }
+
+    /// Adds what comes next by another.
+    fn join(&mut self, other: &Row)
+        ensures next { (i : ℕ) → i < PLACES → has self.new.next.words i ≡ (has self.old.next.words i || has other.now.next.words i) }
+        ensures found { self.new.found ≡ (self.old.found || other.now.found) }
+    {
+        self.next.unite(&other.next);
+        self.found = self.found | other.found;
     }
 }
 
@@ -128,8 +148,7 @@ fn followers_of(nodes: &[Node]) -> Followers
     ensures { IsFollowers nodes.now result }
 {
     let free = opened(nodes);
-    let mut cells = [Reach::NONE; PLACES];
-    let first = row_of(nodes, free.as_slice(), &mut cells[..nodes.len()]);
+    let first = blank_row(nodes, free.as_slice(), false);
     let mut rows = [first; PLACES];
     note_rows(nodes, free.as_slice(), &mut rows);
     let mut masks = [Set::NONE; 256];
@@ -137,10 +156,12 @@ fn followers_of(nodes: &[Node]) -> Followers
     Followers { first, rows, masks }
 }
 
-fn note_rows(nodes: &[Node], free: &[Node], rows: &mut [Row; PLACES])
+/// Notes what comes next for each place alone.
+pub fn note_rows(nodes: &[Node], free: &[Node], rows: &mut [Row])
     requires room { length nodes.now ≤ PLACES }
     requires free { free.now ≡ opened nodes.now }
-    ensures { (i : ℕ) (d : Row) → i < length nodes.now → IsRow nodes.now (only (length nodes.now) i) (get_or rows.new i d) }
+    requires rows { length nodes.now ≤ length rows.old }
+    ensures { (i : ℕ) (d : Row) → i < length nodes.now → IsRow nodes.now false (only (length nodes.now) i) (get_or rows.new i d) }
 {
     for i in 0..nodes.len() {
         rows[i] = row_at(nodes, free, i);
@@ -157,7 +178,7 @@ fn note_masks(nodes: &[Node], masks: &mut [Set; 256])
 }
 
 /// The symbols that take a byte.
-fn mask_of(nodes: &[Node], b: u8) -> Set
+pub fn mask_of(nodes: &[Node], b: u8) -> Set
     requires room { length nodes.now ≤ PLACES }
     ensures { Holds result.words (taking nodes.now b) }
 {
@@ -171,24 +192,31 @@ fn row_at(nodes: &[Node], free: &[Node], place: usize) -> Row
     requires room { length nodes.now ≤ PLACES }
     requires free { free.now ≡ opened nodes.now }
     requires there { place < length nodes.now }
-    ensures { IsRow nodes.now (only (length nodes.now) place) result }
+    ensures { IsRow nodes.now false (only (length nodes.now) place) result }
 {
     let mut cells = [Reach::NONE; PLACES];
     cells[place] = Reach::marked(true);
-    row_of(nodes, free, &mut cells[..nodes.len()])
+    row_of(nodes, free, &mut cells[..nodes.len()], false)
+}
+
+/// What comes next where no place is marked.
+pub fn blank_row(nodes: &[Node], free: &[Node], start: bool) -> Row
+    requires room { length nodes.now ≤ PLACES }
+    requires free { free.now ≡ opened nodes.now }
+    ensures { IsRow nodes.now start (replicate (length nodes.now) nowhere) result }
+{
+    let mut cells = [Reach::NONE; PLACES];
+    row_of(nodes, free, &mut cells[..nodes.len()], start)
 }
 
 /// What comes next by the marks of cells.
-fn row_of(nodes: &[Node], free: &[Node], cells: &mut [Reach]) -> Row
+fn row_of(nodes: &[Node], free: &[Node], cells: &mut [Reach], start: bool) -> Row
     requires room { length nodes.now ≤ PLACES }
     requires free { free.now ≡ opened nodes.now }
     requires same { length cells.old ≡ length nodes.now }
-    ensures { IsRow nodes.now cells.old result }
+    ensures { IsRow nodes.now start cells.old result }
 {
-    let place = Place {
-        start: false,
-        end: false,
-    };
+    let place = Place { start, end: false };
     let found = gather(nodes, cells, place).exits(true);
     spread(free, cells, 0);
     let next = set_of(cells);
@@ -208,7 +236,7 @@ fn set_of(cells: &[Reach]) -> Set
 }
 
 /// The table with parts that take any byte.
-fn opened(nodes: &[Node]) -> Nodes
+pub fn opened(nodes: &[Node]) -> Nodes
     requires { length nodes.now ≤ PLACES }
     ensures { result ≡ opened nodes.now }
 {

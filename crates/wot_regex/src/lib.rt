@@ -7,12 +7,14 @@ mod flags; // truth values, of which the last is taken back first
 mod followers; // where matches may go on
 mod known; // what is known of the states that texts come to
 mod laws; // laws of expressions
+mod masks; // which symbols take each byte
 mod matcher; // expressions for many texts
 mod matching; // whether an expression matches somewhere in a text
 mod node; // the parts of an expression
 mod nodes; // expressions as tables
 mod reach; // what a part of an expression reaches at a place of the text
 mod reader; // reading an expression byte by byte
+mod search; // searching the rest of a text
 mod scope; // whether a scope admits a text
 mod set; // sets of places of a table
 mod stack; // what parts reach, of which the last is taken back first

@@ -1,11 +1,15 @@
 //! An expression for many texts.
 
-ghost use Rattle.std.specs.Prelude.{◌≡◌, ◌↔◌, IsTrue, IfOk};
+ghost use Rattle.std.specs.Prelude.{◌≡◌, ◌↔◌, IsTrue, IfOk, IfSome};
+ghost use Rattle.wot_regex.specs.States.{IsKnown};
 ghost use Rattle.wot_types.specs.Scope.{matches_in};
 ghost use Rattle.wot_types.specs.ExpressionMatch.{MatchesIn};
 
 use crate::expr::Expr;
 use crate::known::Known;
+use crate::matching::matches;
+use crate::node::Node;
+use crate::set::PLACES;
 use std::alloc::Global;
 use std::marker::Model;
 use wot_types::Mem;
@@ -14,7 +18,8 @@ use wot_types::Mem;
 #[derive(Drop)]
 pub struct Matcher {
     expr: Expr,
-    known: Known,
+    /// None where the table has more parts than a set has places.
+    known: Option<Known>,
 }
 
 impl Model for Matcher {
@@ -22,7 +27,8 @@ impl Model for Matcher {
 
     ghost Value = { Tree };
 
-    ghost use Rattle.wot_regex.specs.Knowing.{IsKnown};
+    ghost use Rattle.std.specs.Prelude.{IfSome};
+    ghost use Rattle.wot_regex.specs.States.{IsKnown};
     ghost use Rattle.wot_regex.specs.Table.{nodes_of};
     ghost use Rattle.wot_regex.specs.TreeCode.{tree_code};
 
@@ -30,14 +36,14 @@ impl Model for Matcher {
 
     ghost view = { λ m. m.expr };
 
-    ghost invariant = { λ m. IsKnown (nodes_of m.expr) m.known.states.items m.known.moves.items };
+    ghost invariant = { λ m. IfSome m.known (IsKnown (nodes_of m.expr)) };
 }
 
 impl Matcher {
     pub fn new(alloc: Global, expr: Expr) -> Result<Matcher, Mem>
         ensures { IfOk result (λ matcher. matcher ≡ expr) }
     {
-        let known = Known::new(alloc, expr.nodes())?;
+        let known = known_of(alloc, expr.nodes())?;
         Ok(Matcher { expr, known })
     }
 
@@ -47,11 +53,34 @@ impl Matcher {
         ensures value { result ≡ matches_in self.old text.now }
         ensures means { IsTrue result ↔ MatchesIn self.old text.now }
     {
-        self.known.matches(self.expr.nodes(), text)
+        self.test(text)
+    }
+
+    fn test(&mut self, text: &[u8]) -> bool
+        ensures same { self.new ≡ self.old }
+        ensures value { result ≡ matches_in self.old text.now }
+    {
+        match &mut self.known {
+            Some(known) => known.matches(self.expr.nodes(), text),
+            None => matches(&self.expr, text),
+        }
     }
 
     /// About how many bytes it takes.
     pub fn size(&self) -> usize {
-        size_of::<Expr>().saturating_add(self.known.size(self.expr.nodes()))
+        match &self.known {
+            Some(known) => size_of::<Expr>().saturating_add(known.size()),
+            None => size_of::<Matcher>(),
+        }
     }
+}
+
+/// What is known at first, of a table that has no more parts than a set has places.
+fn known_of(alloc: Global, nodes: &[Node]) -> Result<Option<Known>, Mem>
+    ensures { IfOk result (λ known. IfSome known (IsKnown nodes.now)) }
+{
+    if nodes.len() > PLACES {
+        return Ok(None);
+    }
+    Ok(Some(Known::new(alloc, nodes)?))
 }

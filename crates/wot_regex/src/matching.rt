@@ -36,18 +36,7 @@ pub fn matches(expr: &Expr, text: &[u8]) -> bool
     search(nodes, &mut cells[..nodes.len()], true, text)
 }
 
-/// Whether a match ends in the rest of a text, at whose first place the table has these cells.
-pub fn search_rest(nodes: &[Node], cells: &[Reach], start: bool, rest: &[u8]) -> bool
-    requires same { length cells.now ≡ length nodes.now }
-    requires room { length nodes.now ≤ ROOM }
-    ensures { (tree : Tree) (found : Bool) → nodes.now ≡ nodes_of tree → Searching tree cells.now start rest.now found → result ≡ found }
-{
-    let mut moving = [Reach::NONE; ROOM];
-    moving[..cells.len()].copy_from_slice(cells);
-    search(nodes, &mut moving[..cells.len()], start, rest)
-}
-
-/// The same; the cells move along.
+/// Whether a match ends in the rest of a text, at whose first place the table has these cells. They move along.
 fn search(nodes: &[Node], cells: &mut [Reach], start: bool, rest: &[u8]) -> bool
     requires same { length cells.old ≡ length nodes.now }
     requires room { length nodes.now ≤ ROOM }

@@ -15,6 +15,13 @@ pub struct Set {
 impl Set {
     pub const NONE: Set = Set { words: [0; 8] };
 
+    /// Whether it is another.
+    pub fn is(&self, other: &Set) -> bool
+        ensures { result ≡ true → self.now.words ≡ other.now.words }
+    {
+        self.words.as_slice() == other.words.as_slice()
+    }
+
     pub fn has(&self, place: usize) -> bool
         requires { place < PLACES }
         ensures { result ≡ has self.now.words place }

@@ -1,4 +1,4 @@
-use Rattle.std.proofs.Common.{rules, ◌≡◌, false, true, length, sym, ap, ◌∙◌}
+use Rattle.std.proofs.Common.{rules, ◌≡◌, true, length, sym, ap, ◌∙◌}
 use Rattle.std.proofs.lemmas.List.{take_at}
 use Rattle.wot_regex.specs.Knowing.{found_at}
 use Rattle.wot_regex.specs.Reaching.{exits}
@@ -10,5 +10,5 @@ returns c = λ cells same holds.
     let whole : length c.mark.new.cells ≡ length c.args.nodes.now = search rules in
     c.exits.ensures
     ∙ ap (λ r. exits r true) c.reach_at.ensures
-    ∙ ap (found_at c.args.nodes.now false true)
+    ∙ ap (found_at c.args.nodes.now c.args.start true)
     (take_at c.mark.new.cells _ (length c.args.nodes.now) whole ∙ same_marks c.args.marks.now.words c.mark.new.cells cells (whole ∙ sym same) c.mark.ensures holds)

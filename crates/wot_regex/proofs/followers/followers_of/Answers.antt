@@ -1,15 +1,7 @@
-use Rattle.std.proofs.Common.{List, length, subst}
-use Rattle.std.proofs.lemmas.List.{take-replicate}
-use Rattle.wot_regex.specs.Following.{IsRow}
-use Rattle.wot_regex.specs.Reaching.{nowhere}
-use Rattle.wot_regex.specs.declared.reach.Reach.{Reach}
 use Rattle.wot_regex.proofs.followers.followers_of.Goals as goal
 
 pub returns : goal.returns
-returns c =
-    let nodes = c.args.nodes.now in
-    let P : List Reach → Type 0 = λ x. IsRow nodes x c.row_of-first.result in record {
-      first = subst P (take-replicate (length nodes) 512 nowhere c.requires.room) c.row_of-first.ensures;
-      each_row = c.note_rows.ensures;
-      each_mask = c.note_masks.ensures;
-    }
+returns c = record {
+  rows = record { none = c.blank_row-first.ensures; each = c.note_rows.ensures };
+  each_mask = c.note_masks.ensures;
+}

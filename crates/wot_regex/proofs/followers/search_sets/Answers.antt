@@ -1,9 +1,6 @@
-use Rattle.std.proofs.Common.{◌+◌, ◌<◌, ◌≤◌, false, true, drop, get_or, length, [], refl, sym, ◌∙◌, arith}
-use Rattle.wot_regex.specs.Gathering.{all_gathered, all_noted}
-use Rattle.wot_regex.specs.Knowing.{moved_by}
-use Rattle.wot_regex.specs.Reaching.{top}
-use Rattle.wot_regex.proofs.Followings.{holds_moved, spread_length}
-use Rattle.wot_regex.proofs.Searches.{at_byte, at_text_end, found_at_end, found_here, search_on}
+use Rattle.std.proofs.Common.{◌+◌, ◌<◌, ◌≤◌, false, drop, get_or, length, sym, ◌∙◌, arith}
+use Rattle.std.proofs.lemmas.List.{length-take-le}
+use Rattle.wot_regex.proofs.Followings.{rows_taken, going_byte, going_ends, going_on, going_over}
 use Rattle.wot_regex.proofs.followers.search_sets.Goals as goal
 
 pub loop-b-init : goal.loop-b-init
@@ -14,29 +11,22 @@ returns-then-row c = λ tree cells found is same holds searching.
     let nodes = c.args.nodes.now in
     let text = c.args.rest.now in
     let i = c.loop-b.b-index in
+    let room : length nodes ≤ length c.args.followers.now.rows = omega (arith, c.requires.room) in
     let lt : i < length text = omega arith in
-    let g = c.loop-b.invariant tree cells found is same holds searching in
-    let row = c.row_from-row.ensures nodes g.cells refl c.requires.followers g.same g.holds in
-    found_here tree nodes g.cells false (get_or text i 0) (drop (i + 1) text) found (top (all_gathered (record { start = false; end = false }) nodes g.cells [])) is
-    (at_byte tree nodes g.cells false text i found lt g.searching) refl (sym row.found ∙ c.if-row.true)
+    let g = going_byte tree nodes false c.loop-b.marks.words text i found lt (c.loop-b.invariant tree cells found is same holds searching) in
+    going_ends tree nodes false c.loop-b.marks.words (drop (i + 1) text) found (get_or text i 0) c.row_from-row.result is g (c.row_from-row.ensures nodes g.cells (sym (length-take-le (length nodes) c.args.followers.now.rows room)) (rows_taken nodes c.args.followers.now.first c.args.followers.now.rows c.requires.followers.rows) g.same g.holds) c.if-row.true
 
 pub loop-b-preserved : goal.loop-b-preserved
 loop-b-preserved c = λ tree cells found is same holds searching.
     let nodes = c.args.nodes.now in
     let text = c.args.rest.now in
     let i = c.loop-b.b-index in
+    let room : length nodes ≤ length c.args.followers.now.rows = omega (arith, c.requires.room) in
     let lt : i < length text = omega arith in
-    let g = c.loop-b.invariant tree cells found is same holds searching in
-    let row = c.row_from-row.ensures nodes g.cells refl c.requires.followers g.same g.holds in
     let b = get_or text i 0 in
-    let noted = all_noted (record { start = false; end = false }) nodes g.cells [] in record {
-      cells = moved_by nodes false g.cells b;
-      same = spread_length b nodes noted;
-      holds = holds_moved nodes g.cells c.row_from-row.result b _ c.meet.new.self.words c.requires.room row (c.requires.followers.each_mask b _ (omega arith)) c.meet.ensures;
-      searching =
-          search_on tree nodes g.cells noted (moved_by nodes false g.cells b) false b (drop (i + 1) text) found (top (all_gathered (record { start = false; end = false }) nodes g.cells [])) is
-          (at_byte tree nodes g.cells false text i found lt g.searching) refl (sym row.found ∙ c.if-row.false) refl refl;
-    }
+    let g = going_byte tree nodes false c.loop-b.marks.words text i found lt (c.loop-b.invariant tree cells found is same holds searching) in
+    going_on tree nodes false c.loop-b.marks.words c.meet.new.self.words _ (drop (i + 1) text) found b c.row_from-row.result c.requires.room is g (c.row_from-row.ensures nodes g.cells (sym (length-take-le (length nodes) c.args.followers.now.rows room)) (rows_taken nodes c.args.followers.now.first c.args.followers.now.rows c.requires.followers.rows) g.same g.holds)
+    c.if-row.false (c.requires.followers.each_mask b _ (omega arith)) c.meet.ensures
 
 pub returns : goal.returns
 returns c = λ tree cells found is same holds searching.
@@ -45,5 +35,4 @@ returns c = λ tree cells found is same holds searching.
     let i = c.loop-b.b-index in
     let le : length text ≤ i = omega arith in
     let g = c.loop-b.invariant tree cells found is same holds searching in
-    c.ends.ensures g.cells g.same g.holds
-    ∙ found_at_end tree nodes g.cells false found (top (all_gathered (record { start = false; end = true }) nodes g.cells [])) is (at_text_end tree nodes g.cells false text i found le g.searching) refl
+    c.ends.ensures g.cells g.same g.holds ∙ going_over tree nodes false c.loop-b.marks.words text i found is le g

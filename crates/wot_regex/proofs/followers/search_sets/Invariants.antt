@@ -10,4 +10,4 @@ use Rattle.wot_regex.proofs.followers.search_sets.Given as goal
 -- the rest decides
 abbrev pub invariant-loop-b : goal.invariant-loop-b
 invariant-loop-b l = (tree : Tree) (cells : List Reach) (found : Bool) → l.nodes ≡ nodes_of tree → length cells ≡ length l.nodes → Holds l.fn.marks.words cells → Searching tree cells false l.rest found
-    → Going tree l.nodes l.marks.words (drop l.b-index l.rest) found
+    → Going tree l.nodes false l.marks.words (drop l.b-index l.rest) found

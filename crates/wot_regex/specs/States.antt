@@ -1,0 +1,47 @@
+-- What is known of the states that texts come to: what comes next there, whether a match ends there, and where a byte leads.
+use Rattle.std.specs.Prelude.{◌≡◌, ℕ, ◌<◌, ◌≤◌, ◌==◌, Bool, true, List, [], length, get_or, replicate, Some}
+use Rattle.wot_regex.specs.Following.{Holds, IsMasks, IsMeet, IsRow, IsRows, taking}
+use Rattle.wot_regex.specs.Knowing.{found_at}
+use Rattle.wot_regex.specs.declared.known.Known.{Known}
+use Rattle.wot_regex.specs.declared.known.State.{State}
+use Rattle.wot_regex.specs.declared.node.Node.{Node}
+use Rattle.wot_regex.specs.declared.reach.Reach.{Reach}
+use Rattle.wot_regex.specs.declared.set.Set.{Set}
+
+-- it tells what comes next by the cells that its set marks
+pub record IsState (nodes : List Node) (start : Bool) (state : State) : Type 0 where
+  pub row : (cells : List Reach) → length cells ≡ length nodes → Holds state.marks.words cells → IsRow nodes start cells state.row
+  pub at_end : (cells : List Reach) (found : Bool) → length cells ≡ length nodes → Holds state.marks.words cells → state.found_at_end ≡ Some found → found ≡ found_at nodes start true cells
+
+-- the first state is the start of the text
+pub record IsStates (nodes : List Node) (states : List State) : Type 0 where
+  pub some : 0 < length states
+  pub few : length states ≤ 256
+  pub blank : (d : State) → (get_or states 0 d).marks.words ≡ replicate 8 0
+  pub each : (i : ℕ) (d : State) → i < length states → IsState nodes (i == 0) (get_or states i d)
+
+-- the bytes that these symbols take lead from one state to another
+pub record IsMove (states : List State) (from : ℕ) (mask : Set) (to : ℕ) : Type 0 where
+  pub from_one : from < length states
+  pub to_one : to < length states
+  pub met : (d e : State) → IsMeet (get_or states to e).marks.words (get_or states from d).row.next.words mask.words
+
+-- a byte leads from one state to another
+pub record Leads (nodes : List Node) (states : List State) (from b to : ℕ) : Type 0 where
+  pub mask : Set
+  pub takes : Holds mask.words (taking nodes b)
+  pub move : IsMove states from mask to
+
+-- each move that is noted of a class of bytes is right; one that is not known is noted as 0
+pub record IsMoves (sets : List Set) (states : List State) (moves : List (List ℕ)) : Type 0 where
+  pub rows : length states ≤ length moves
+  pub class : (i k : ℕ) → 0 < get_or (get_or moves i []) k 0 → k < length sets
+  pub each : (i k : ℕ) (d : Set) → 0 < get_or (get_or moves i []) k 0 → IsMove states i (get_or sets k d) (get_or (get_or moves i []) k 0)
+
+pub record IsKnown (nodes : List Node) (known : Known) : Type 0 where
+  pub room : length nodes ≤ 512
+  pub rows : IsRows nodes known.first known.rows.items
+  pub whole : length known.rows.items ≡ length nodes
+  pub masks : IsMasks nodes known.masks
+  pub states : IsStates nodes known.states.items
+  pub moves : IsMoves known.masks.sets.items known.states.items known.moves.items
