@@ -1,17 +1,12 @@
 -- Without the ownertrust of a key that has no row each letter is as it was: a row is given by the certifications, and the owner's trust only says what it is worth.
-use Rattle.std.proofs.Common.{◌≡◌, nat_eq, nat_lt, ◌-◌, ◌≤◌, ◌==◌, ◌&&◌, ◌||◌, ℕ, zero, suc, Bool, true, false, cond, List, [], ◌∷◌, All, Option, Some, None, option_and_then, option_map, is_some, unwrap_or, refl, sym, ap, ◌∙◌, arith}
+use Rattle.std.proofs.Common.{◌≡◌, nat_eq, ◌-◌, ◌≤◌, ◌==◌, ◌&&◌, ◌||◌, ℕ, zero, suc, Bool, true, false, cond, List, [], ◌∷◌, All, Some, None, option_and_then, unwrap_or, refl, sym, ap, ◌∙◌, arith}
 use Rattle.std.specs.Cmp.{nat_cmp_total}
 use Rattle.std.specs.Cmp.Lexicographic.{pointwise}
 use Rattle.std.specs.FinMap as map
 use Rattle.std.specs.FinMap.{get-insert, get-remove, nat_cmp-IsAntisymmetric, same_map}
-use Rattle.std.specs.List.{cons_option, filter_map}
 use Rattle.std.proofs.lemmas.Bool.{true≢false}
-use Rattle.std.proofs.lemmas.Bool.Decides.{nat_tests}
-use Rattle.wot_types.specs.declared.change.Loss.{Loss}
 use Rattle.wot_types.specs.declared.key.Key.{Key}
-use Rattle.wot_types.specs.declared.letter.Letter.{Letter}
 use Rattle.wot_types.specs.declared.ownertrust.Entry.{Entry}
-use Rattle.wot_types.specs.declared.ownertrust.Ownertrust.{Ownertrust}
 use Rattle.wot_types.specs.declared.row.Row.{Row}
 use Rattle.wot_types.specs.declared.trust.Trust.{Trust}
 use Rattle.wot_types.specs.declared.trust.Trust.TheVariants.{Ultimate, Unknown}
@@ -20,21 +15,20 @@ use Rattle.wot_types.specs.Candidates.{RowMap}
 use Rattle.wot_types.specs.Expiry.{key_is_live}
 use Rattle.wot_types.specs.Fingerprint.{key_id_of}
 use Rattle.wot_types.specs.Keyring.{is_fpr_of}
-use Rattle.wot_types.specs.Letters.{letter_at, letter_over, letter_rank}
+use Rattle.wot_types.specs.Letters.{letter_at, letter_over}
 use Rattle.wot_types.specs.Levels.{delegation, first_row, has_full_user, kept_or, new_row, row_by, rows_of, rows_upto, trust_of_owner}
 use Rattle.wot_types.specs.Ownertrust.{OwnertrustMap, ownertrust_of, unset, with_ownertrust}
 use Rattle.wot_types.specs.State.{State}
-use Rattle.wot_types.specs.Supposing.{critical, if_trusted, if_worse, loss_by, without_trust}
-use Rattle.wot_types.specs.Trust.{is_ultimate, is_unknown}
+use Rattle.wot_types.specs.Supposing.{without_trust}
+use Rattle.wot_types.specs.Trust.{is_ultimate}
 use Rattle.wot_types.proofs.Fingerprints.{fpr_cmp_total, fpr_eq}
 use Rattle.wot_types.proofs.LevelLemmas.{get_first, get_next, some_none, stays}
 use Rattle.wot_types.proofs.Tests.{is_key}
 use Rattle.wot_live.proofs.EditLemmas.{put_alike}
 use Rattle.wot_live.proofs.Naming.{fpr_at}
-use Rattle.wot_suppose.specs.Introducing.{if_introducing}
 
 -- the first of two tests that both pass
-first_passes : (a b : Bool) → true ≡ (a && b) → a ≡ true
+pub first_passes : (a b : Bool) → true ≡ (a && b) → a ≡ true
 first_passes true b h = refl
 first_passes false b h = absurd (true≢false h)
 
@@ -53,6 +47,12 @@ unknown_at trusts fpr q true same =
 unknown_at trusts fpr q false same =
     ap (λ o. (unwrap_or o unset).trust) (get-remove fpr_cmp_total trusts fpr q ∙ ap (λ b. cond b None (map.get trusts q)) (fpr_eq q fpr ∙ same))
 
+-- the owner of any other key has the trust it had
+pub other_trust : (s : State) (fpr : List ℕ) (q : ℕ) (key : Key) → map.get s.keys q ≡ Some key → is_fpr_of fpr (map.get s.keys q) ≡ false → trust_of_owner s key ≡ trust_of_owner (without_trust s fpr) key
+other_trust s fpr q key is other =
+    let entry : Entry = record { fpr = fpr; trust = Unknown; disabled = (ownertrust_of s.trusts fpr).disabled } in
+    (put_alike s [] (entry ∷ []) q (ap (λ b. b || false) other)).own key is
+
 module _ (s : State) (fpr : List ℕ) (filed : All IsFiled (map.entries s.keys)) (rowless : map.get (rows_of s) (key_id_of fpr) ≡ None) where
   abbrev t : State
   t = without_trust s fpr
@@ -68,19 +68,13 @@ module _ (s : State) (fpr : List ℕ) (filed : All IsFiled (map.entries s.keys))
   no_row n q low its =
       ap (map.get (rows_upto s n)) (sym (is_key (key_id_of fpr) q (first_passes (key_id_of fpr == q) _ (sym its ∙ fpr_at s.keys fpr (key_id_of fpr) q filed refl)))) ∙ none_before n low
 
-  -- the owner of any other key has the trust it had
-  other_trust : (q : ℕ) (key : Key) → map.get s.keys q ≡ Some key → is_fpr_of fpr (map.get s.keys q) ≡ false → trust_of_owner s key ≡ trust_of_owner t key
-  other_trust q key is other =
-      let entry : Entry = record { fpr = fpr; trust = Unknown; disabled = (ownertrust_of s.trusts fpr).disabled } in
-      (put_alike s [] (entry ∷ []) q (ap (λ b. b || false) other)).own key is
-
   first_is : (q : ℕ) (key : Key) → map.get s.keys q ≡ Some key → first_row t q key ≡ first_row s q key
   first_is q key is = elim (is_fpr_of fpr (map.get s.keys q)) as (λ b. is_fpr_of fpr (map.get s.keys q) ≡ b → first_row t q key ≡ first_row s q key) [
     | true ↦ λ its.
         ap (λ (trust : Trust). cond (key_is_live s.date key && is_ultimate trust) (Some (first q)) None) (unknown_at s.trusts fpr key.fpr (ownertrust_of s.trusts fpr).disabled (sym (ap (is_fpr_of fpr) is) ∙ its))
         ∙ ap (λ b. cond b (Some (first q)) None) (never (key_is_live s.date key))
         ∙ sym (sym (get_first s q ∙ ap (option_and_then (first_row s q)) is) ∙ no_row zero q (omega arith) its)
-    | false ↦ λ other. ap (λ (trust : Trust). cond (key_is_live s.date key && is_ultimate trust) (Some (first q)) None) (sym (other_trust q key is other))
+    | false ↦ λ other. ap (λ (trust : Trust). cond (key_is_live s.date key && is_ultimate trust) (Some (first q)) None) (sym (other_trust s fpr q key is other))
   ] refl
     where
       first : ℕ → Row
@@ -94,7 +88,7 @@ module _ (s : State) (fpr : List ℕ) (filed : All IsFiled (map.entries s.keys))
         sym (ap (λ o. kept_or o (new_row s rows (suc n) q key)) (no_row n q (omega (arith, low)) its))
         ∙ sym (get_next s n q ∙ ap (option_and_then (λ k. kept_or (map.get rows q) (new_row s rows (suc n) q k))) is) ∙ no_row (suc n) q low its in
         none_if (key_is_live s.date key && has_full_user s rows key) _ (by (trust_of_owner t key)) none ∙ sym none
-    | false ↦ λ other. ap (λ (trust : Trust). cond (key_is_live s.date key && has_full_user s rows key) (Some (by trust)) None) (sym (other_trust q key is other))
+    | false ↦ λ other. ap (λ (trust : Trust). cond (key_is_live s.date key && has_full_user s rows key) (Some (by trust)) None) (sym (other_trust s fpr q key is other))
   ] refl)
     where
       rows : RowMap
@@ -122,50 +116,5 @@ module _ (s : State) (fpr : List ℕ) (filed : All IsFiled (map.entries s.keys))
       ] refl
       ∙ sym (get_next s n q))
 
-  same_letter : (id user : ℕ) → letter_at t id user ≡ letter_at s id user
-  same_letter id user = ap (λ rows. letter_over t rows id user) (same_rows (s.options.depth - 1) (omega arith))
-
--- a letter is not further back than itself
-not_worse : (letter : Option Letter) → if_worse letter letter ≡ None
-not_worse None = refl
-not_worse (Some letter) = ap (λ b. cond b (Some letter) None) (not_below (letter_rank letter))
-  where
-    not_below : (n : ℕ) → nat_lt n n ≡ false
-    not_below n = grind (arith, nat_tests)
-
-none_there : (o : Option Row) → is_some o ≡ false → o ≡ None
-none_there None h = refl
-none_there (Some row) h = absurd (true≢false h)
-
-abbrev loss_of : List ℕ → Letter → Loss
-loss_of fpr letter = record { fpr = fpr; letter = letter }
-
--- the entries whose key ID has a row are enough
-module _ (s : State) (filed : All IsFiled (map.entries s.keys)) (id user : ℕ) where
-  no_loss : (fpr : List ℕ) → map.contains_key (rows_of s) (key_id_of fpr) ≡ false → loss_by s id user fpr ≡ None
-  no_loss fpr rowless =
-      let loss = option_map (loss_of fpr) in
-      ap (λ letter. loss (if_worse (letter_at s id user) letter)) (same_letter s fpr filed (none_there (map.get (rows_of s) (key_id_of fpr)) rowless) id user)
-      ∙ ap loss (not_worse (letter_at s id user))
-
-  -- one entry more
-  one_more : (e : List ℕ × Ownertrust) (some all : List (List ℕ)) → filter_map (loss_by s id user) some ≡ filter_map (loss_by s id user) all
-      → filter_map (loss_by s id user) (cons_option (if_introducing (rows_of s) e) some) ≡ filter_map (loss_by s id user) (cons_option (if_trusted e) all)
-  one_more e some all rest = elim (map.contains_key (rows_of s) (key_id_of e.0)) as (λ b. map.contains_key (rows_of s) (key_id_of e.0) ≡ b
-      → filter_map (loss_by s id user) (cons_option (cond b (if_trusted e) None) some) ≡ filter_map (loss_by s id user) (cons_option (if_trusted e) all)) [
-        | true ↦ λ _. elim (if_trusted e) as (λ o. filter_map (loss_by s id user) (cons_option o some) ≡ filter_map (loss_by s id user) (cons_option o all)) [
-          | None ↦ rest
-          | Some fpr ↦ ap (cons_option (loss_by s id user fpr)) rest
-        ]
-        | false ↦ λ rowless. rest ∙ elim (is_unknown e.1.trust) as (λ b. filter_map (loss_by s id user) all ≡ filter_map (loss_by s id user) (cons_option (cond b None (Some e.0)) all)) [
-          | true ↦ refl
-          | false ↦ ap (λ o. cons_option o (filter_map (loss_by s id user) all)) (sym (no_loss e.0 rowless))
-        ]
-      ] refl
-
-  enough : (es : List (List ℕ × Ownertrust)) → filter_map (loss_by s id user) (filter_map (if_introducing (rows_of s)) es) ≡ filter_map (loss_by s id user) (filter_map if_trusted es)
-  enough [] = refl
-  enough (e ∷ es) = one_more e (filter_map (if_introducing (rows_of s)) es) (filter_map if_trusted es) (enough es)
-
-  pub introducing_enough : filter_map (loss_by s id user) (filter_map (if_introducing (rows_of s)) (map.entries s.trusts)) ≡ critical s id user
-  introducing_enough = enough (map.entries s.trusts)
+  pub same_rowless_letter : (id user : ℕ) → letter_at t id user ≡ letter_at s id user
+  same_rowless_letter id user = ap (λ rows. letter_over t rows id user) (same_rows (s.options.depth - 1) (omega arith))

@@ -1,2 +1,3 @@
 pub mod Introducing
+pub mod Near
 pub mod Trials

@@ -4,6 +4,7 @@
 mod changes; // the letters that differ between two states
 mod letters; // the letters of all user IDs
 mod losses; // the entries on which a letter hangs
+mod near; // the keys from which one comes to a key over certifications
 mod supposing; // what an edit would change
 mod trial; // edits that are taken back
 mod tried; // the engine without one entry after the other
