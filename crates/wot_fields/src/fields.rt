@@ -8,14 +8,14 @@ use crate::colons::Colons;
 use std::marker::Model;
 
 /// How many fields are found when a line is split. A listing's records have no more that are read.
-const MOST: usize = 12;
+const MOST: usize = 13;
 
-/// A line and where its first 12 fields stand. It takes no memory.
+/// A line and where its first 13 fields stand. It takes no memory.
 #[derive(Drop)]
 pub struct Fields<'a> {
     line: &'a [u8],
     /// Where each field begins, and for the last one where the next would.
-    starts: [usize; 13],
+    starts: [usize; 14],
     count: usize,
 }
 
@@ -31,11 +31,11 @@ impl<'a> Model for Fields<'a> {
 }
 
 impl<'a> Fields<'a> {
-    /// Finds the fields in one pass over the line, which ends at the 12th colon.
+    /// Finds the fields in one pass over the line, which ends at the 13th colon.
     pub fn new(line: &'a [u8]) -> Fields<'a>
         ensures { result ≡ line.now }
     {
-        let mut starts = [0; 13];
+        let mut starts = [0; 14];
         let mut count = 0;
         let mut colons = Colons::of(line);
         while count < MOST {

@@ -6,5 +6,5 @@ use Rattle.wot_fields.proofs.fields.Fields.has_fewer.Goals as goal
 
 pub returns-else-n-gt-MOST : goal.returns-else-n-gt-MOST
 returns-else-n-gt-MOST c =
-    let few : c.args.n ≤ 12 = omega arith in
-    le-ltb 12 c.args.n few ∙ sym (no_fewer _ _ _ c.args.n c.self.invariant (omega arith) few) ∙ ap (has_fewer c.args.n) c.self.view_is
+    let few : c.args.n ≤ 13 = omega arith in
+    le-ltb 13 c.args.n few ∙ sym (no_fewer _ _ _ c.args.n c.self.invariant (omega arith) few) ∙ ap (has_fewer c.args.n) c.self.view_is
