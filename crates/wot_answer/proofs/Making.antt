@@ -17,7 +17,7 @@ use Rattle.wot_types.specs.Spelling.{number_4, text_bytes}
 use Rattle.wot_types.specs.Store.{Store}
 use Rattle.wot_types.specs.Store.Change.{makes}
 use Rattle.wot_types.proofs.Optionals.{both_none, map_none}
-use Rattle.wot_journal.specs.Record.{Framed, most, with_length}
+use Rattle.wot_journal.specs.Record.{Framed, most_side, with_length}
 use Rattle.wot_answer.specs.Answer.{Does, Ends, IsAsked, IsReply, answer_text, effect_of, is_err, is_refusal, reply_of}
 use Rattle.wot_answer.specs.declared.answer.Answered.{Answered}
 use Rattle.wot_answer.specs.declared.reply.Answer.TheVariants.{Told}
@@ -91,7 +91,7 @@ module _ (spelled bytes : List ℕ) (is : spelled ≡ text_bytes bytes) where
 
 -- the record that was built, or not, for its payload
 module _ {E : Type 0} (r : Result Framed E) (end : ℕ) (bytes : List ℕ) (edit : Edit) (spelled : IsWritten bytes edit) where
-  pub built_record : IfOk r (λ built. built ≡ record { end = end; payload = bytes }) → IfOk r (λ _. end + length bytes + 6 ≤ most)
+  pub built_record : IfOk r (λ built. built ≡ record { end = end; payload = bytes }) → IfOk r (λ _. end + length bytes + 6 ≤ most_side)
       → IfOk r (λ built. (built.end ≡ end) × IsWritten built.payload edit × (is_past end edit ≡ false))
   built_record built room =
       IfOk-weaker r _ _

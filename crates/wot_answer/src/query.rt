@@ -24,7 +24,7 @@ use std::sync::ledger::{Blank, Ledger};
 use wot_commands::refusal;
 use wot_explain::{Why, cut, explain, recount};
 use wot_live::Engine;
-use wot_print::{export, list, refused, why};
+use wot_print::{OK_LINE, export, list, refused, why};
 use wot_table::LentState;
 use wot_types::{Fpr, KeyId, Letter, Mem, Query, Refusal, Steps};
 
@@ -200,7 +200,7 @@ fn reply_with_ok(alloc: Global, engine: &Engine, query: &Query) -> Result<Reply,
         // `compact` and `quit` are answered with the last line alone.
         _ => Vec::new(alloc),
     };
-    text.extend_from_slice(b"ok\n")?;
+    text.extend_from_slice(OK_LINE)?;
     Ok(Reply::Text(text))
 }
 

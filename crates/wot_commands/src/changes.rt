@@ -44,12 +44,12 @@ pub fn apply<L: Ledger>(engine: Engine, edit: Edit, steps: &mut Steps<L>) -> Res
     engine.make(plain, steps)
 }
 
-/// Makes an edit that isn't refused, for several that are counted once. At Memory the parts are gone.
-pub fn edited_draft(parts: EngineDraft, edit: Edit) -> Result<EngineDraft, Mem>
+/// Makes an edit that isn't refused, for several that are counted once. At Memory the draft is gone.
+pub fn edited_draft(draft: EngineDraft, edit: Edit) -> Result<EngineDraft, Mem>
     requires proper { IsProper edit }
-    requires allowed { refusal_of parts edit ≡ None }
-    ensures { IfOk result (λ new. new ≡ state_after parts edit) }
+    requires allowed { refusal_of draft edit ≡ None }
+    ensures { IfOk result (λ new. new ≡ state_after draft edit) }
 {
-    let plain = plain_edit(parts.table().alloc(), parts.trusts(), edit)?;
-    parts.make(plain)
+    let plain = plain_edit(draft.table().alloc(), draft.trusts(), edit)?;
+    draft.make(plain)
 }

@@ -17,12 +17,12 @@ const LAST_STREAM: i32 = 2;
 #[derive(Drop)]
 pub struct Sides<F: Files<File = File>> {
     files: F,
-    opened: Option<Opened>,
+    opened: Option<BothFiles>,
 }
 
 // Both files. `zero` is locked as long as it is open.
 #[derive(Drop)]
-struct Opened {
+struct BothFiles {
     zero: File,
     one: File,
 }
@@ -94,7 +94,7 @@ fn write_from(file: &mut File, at: u64, bytes: &[u8]) -> io::Result<()> {
     file.write_all(bytes)
 }
 
-impl Opened {
+impl BothFiles {
     fn file(&mut self, side: Side) -> &mut File {
         match side {
             Side::Zero => &mut self.zero,
@@ -104,7 +104,7 @@ impl Opened {
 }
 
 // Opens both files, and fails where another run has them.
-fn open_both(files: &impl Files<File = File>) -> Result<Opened, Reason> {
+fn open_both(files: &impl Files<File = File>) -> Result<BothFiles, Reason> {
     let folder = folder(files).map_err(|e| Reason::new(Place::Folder, e))?;
     let zero = open_locked(files).map_err(|e| Reason::new(Place::Zero, e))?;
     let one = open(files, Place::One.name()).map_err(|e| Reason::new(Place::One, e))?;
@@ -112,7 +112,7 @@ fn open_both(files: &impl Files<File = File>) -> Result<Opened, Reason> {
     folder
         .sync_all()
         .map_err(|e| Reason::new(Place::Folder, e))?;
-    Ok(Opened { zero, one })
+    Ok(BothFiles { zero, one })
 }
 
 // Opens the file of the first side for this run alone.

@@ -8,12 +8,12 @@ use crate::dates::MADE;
 use crate::draws::draw;
 use crate::names::key_id;
 use std::alloc::Global;
-use wot_types::{Cert, Certs, GENERIC, Mem};
+use wot_types::{Cert, Certs, GENERIC, Mem, PackedCert};
 
 /// Certification `c` of key `i`. Its issuer is one of the keys 0 to `i / 3`, rounded down, and so, of every key but the first, never the key itself.
-fn cert(seed: u64, i: u32, c: u8) -> Cert
+fn cert(alloc: Global, seed: u64, i: u32, c: u8) -> Result<PackedCert, Mem>
     requires { c < 4 }
-    ensures { result ≡ sample_cert seed i c }
+    ensures { IfOk result (λ cert. cert ≡ sample_cert seed i c) }
 {
     let issuer = draw(seed, i, c) % u64::from(i / 3 + 1);
     let made = draw(seed, i, 4 + c) % 100_000_000;
@@ -22,7 +22,7 @@ fn cert(seed: u64, i: u32, c: u8) -> Cert
     } else {
         (0, 0)
     };
-    Cert {
+    let cert = Cert {
         issuer: key_id(seed, issuer as u32),
         class: GENERIC,
         local: false,
@@ -32,7 +32,8 @@ fn cert(seed: u64, i: u32, c: u8) -> Cert
         amount,
         scope: None,
         issuer_fpr: None,
-    }
+    };
+    PackedCert::pack(alloc, cert)
 }
 
 /// The certifications on key `i`, in the order of its block.
@@ -44,7 +45,7 @@ pub fn certs(alloc: Global, seed: u64, i: u32) -> Result<Certs, Mem>
         return Ok(certs);
     }
     for c in 0..4 {
-        certs.push(cert(seed, i, c))?;
+        certs.push(cert(alloc, seed, i, c)?)?;
     }
     Ok(certs)
 }

@@ -11,7 +11,7 @@ use Rattle.wot_site.specs.Seen.{Honestly, IfHonest, Seen}
 use Rattle.wot_site.specs.Site.{Stays}
 use Rattle.wot_site.proofs.Honest.{honest_weaker, honest_with}
 use Rattle.wot_site.specs.declared.side.Side.{Side}
-use Rattle.wot_journal.specs.Record.{most}
+use Rattle.wot_journal.specs.Record.{most_side}
 use Rattle.wot_pages.specs.Reading.{FindsFault, ReadsPages}
 use Rattle.wot_pages.specs.declared.reading.PagesError.{PagesError}
 use Rattle.wot_history.specs.declared.error.HistoryError.{HistoryError}
@@ -20,23 +20,23 @@ use Rattle.wot_history.specs.History.{IsNone}
 use Rattle.wot_history.specs.Reading.{FindsBase, LacksBase, NoBase, unread_pages}
 
 -- pages that pass the side
-pub not_started : (pages size : ℕ) → ◌≡◌ {A = Option ℕ} None (if nat_lt (page_place pages) (min size most) then Some (page_place pages) else None) → min size most ≤ page_place pages
-not_started pages size is = on (nat_lt (page_place pages) (min size most)) refl is
+pub not_started : (pages size : ℕ) → ◌≡◌ {A = Option ℕ} None (if nat_lt (page_place pages) (min size most_side) then Some (page_place pages) else None) → min size most_side ≤ page_place pages
+not_started pages size is = on (nat_lt (page_place pages) (min size most_side)) refl is
   where
     past : (a b : ℕ) → nat_lt a b ≡ false → b ≤ a
     past a b not_less = grind (arith, nat_tests)
 
-    on : (b : Bool) → nat_lt (page_place pages) (min size most) ≡ b → ◌≡◌ {A = Option ℕ} None (if b then Some (page_place pages) else None) → min size most ≤ page_place pages
+    on : (b : Bool) → nat_lt (page_place pages) (min size most_side) ≡ b → ◌≡◌ {A = Option ℕ} None (if b then Some (page_place pages) else None) → min size most_side ≤ page_place pages
     on true is e = absurd (cc e)
-    on false is e = past (page_place pages) (min size most) is
+    on false is e = past (page_place pages) (min size most_side) is
 
-pub lacks_room : (side : Side) (epoch pages size : ℕ) (a : Option Seen) → IfHonest a (λ s. size ≡ length (disk_of side s.disks).reads) → min size most ≤ page_place pages
+pub lacks_room : (side : Side) (epoch pages size : ℕ) (a : Option Seen) → IfHonest a (λ s. size ≡ length (disk_of side s.disks).reads) → min size most_side ≤ page_place pages
     → Honestly a a (LacksBase side epoch pages (Short 24))
 lacks_room side epoch pages size None long past = tt
 lacks_room side epoch pages size (Some x) long past = record { stays = refl; answer = (refl, omega (arith, long, past)) }
 
-module _ (side : Side) (epoch pages size : ℕ) (x y : Seen) (long : size ≡ length (disk_of side x.disks).reads) (fits : page_place pages < min size most) where
-  fits_there : page_place pages < min (length (disk_of side x.disks).reads) most
+module _ (side : Side) (epoch pages size : ℕ) (x y : Seen) (long : size ≡ length (disk_of side x.disks).reads) (fits : page_place pages < min size most_side) where
+  fits_there : page_place pages < min (length (disk_of side x.disks).reads) most_side
   fits_there = omega (arith, long, fits)
 
   pub lacks_seal : (k : ℕ) → FindsFault side epoch pages k x y → LacksBase side epoch pages (Seal k) x y
@@ -67,7 +67,7 @@ module _ (side : Side) (epoch pages size : ℕ) (x y : Seen) (long : size ≡ le
   lacks_taken contents (BadEdit n) read none = absurd none
 
 -- pages that weren't read
-pub pages_lacked : (side : Side) (epoch pages size : ℕ) (e : PagesError) (a b : Option Seen) → IfHonest a (λ s. size ≡ length (disk_of side s.disks).reads) → page_place pages < min size most → Honestly a b Stays
+pub pages_lacked : (side : Side) (epoch pages size : ℕ) (e : PagesError) (a b : Option Seen) → IfHonest a (λ s. size ≡ length (disk_of side s.disks).reads) → page_place pages < min size most_side → Honestly a b Stays
     → ((k : ℕ) → e ≡ PagesError.Seal k → Honestly a b (FindsFault side epoch pages k)) → Honestly a b (LacksBase side epoch pages (unread_pages e))
 pages_lacked side epoch pages size PagesError.DiskFault a b long fits stays found =
     honest_weaker Stays (LacksBase side epoch pages DiskFault) a b stays (λ x y same. record { stays = same; answer = tt })

@@ -7,7 +7,7 @@ use Rattle.wot_types.specs.PagePlaces.{content_size, first_page, page_place}
 use Rattle.wot_types.specs.State.{State}
 use Rattle.wot_types.specs.Store.{Store}
 use Rattle.wot_site.specs.declared.side.Side.{Side}
-use Rattle.wot_journal.specs.Record.{IsClosed, most}
+use Rattle.wot_journal.specs.Record.{IsClosed, most_side}
 use Rattle.wot_journal.specs.Next.{HasRecord, IsTruncated}
 use Rattle.wot_pages.specs.Pages.{contents_of, seal_fault}
 use Rattle.wot_store.specs.declared.place.Place.{Place}
@@ -22,7 +22,7 @@ use Rattle.wot_history.specs.declared.error.HistoryError.TheVariants.{DiskFault,
 
 -- so many pages, and the gate behind them, lie within a side and its limit
 abbrev pub Fits : List ℕ → ℕ → Type 0
-Fits bytes pages = page_place pages < min (length bytes) most
+Fits bytes pages = page_place pages < min (length bytes) most_side
 
 -- they have their seals, and hold an image of this state; the rows in it needn't be those of the state
 pub record HasBase (bytes : List ℕ) (epoch pages : ℕ) (base : State) : Type 0 where
@@ -37,7 +37,7 @@ IsNone contents = IsNoBase contents bad.Spelling
 
 -- the first fault of a base; want of memory and a fault of the disk are none
 abbrev pub HasBaseFault : List ℕ → ℕ → ℕ → HistoryError → Type 0
-HasBaseFault bytes epoch pages (Short q) = (q ≡ first_page) × (min (length bytes) most ≤ page_place pages)
+HasBaseFault bytes epoch pages (Short q) = (q ≡ first_page) × (min (length bytes) most_side ≤ page_place pages)
 HasBaseFault bytes epoch pages (Seal k) = Fits bytes pages × (seal_fault epoch pages bytes ≡ Some k)
 HasBaseFault bytes epoch pages Spelling = Fits bytes pages × (seal_fault epoch pages bytes ≡ None) × IsNone (contents_of pages bytes)
 HasBaseFault bytes epoch pages _ = ⊥

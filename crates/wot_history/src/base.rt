@@ -7,7 +7,7 @@ ghost use Rattle.wot_types.specs.PagePlaces.{content_size, page_place};
 ghost use Rattle.wot_types.specs.Payload.{IsInRange};
 ghost use Rattle.wot_types.specs.WellFormedState.{IsWellFormedState};
 ghost use Rattle.wot_site.specs.Disk.{disk_of};
-ghost use Rattle.wot_site.specs.Gate.{most};
+ghost use Rattle.wot_site.specs.Gate.{most_side};
 ghost use Rattle.wot_site.specs.Seen.{Honestly, IfHonest};
 ghost use Rattle.wot_site.specs.Site.{DiskRose};
 ghost use Rattle.wot_image.specs.States.{image_state};
@@ -37,14 +37,14 @@ fn unread_pages(e: PagesError) -> HistoryError
     }
 }
 
-// The parts of what an image spells; the workers count its rows and its candidates.
+// The draft of what an image spells; the workers count its rows and its candidates.
 fn count_rows<R: Threads + Sync, G: Gate + Sync>(
     workers: &Workers<'_, R, G>,
     alloc: Global,
     image: Image,
 ) -> Result<EngineDraft, Mem>
     requires ranges { IsInRange image.options }
-    ensures { IfOk result (λ parts. parts ≡ image_state image) }
+    ensures { IfOk result (λ draft. draft ≡ image_state image) }
 {
     let Image {
         table,
@@ -60,21 +60,21 @@ fn count_rows<R: Threads + Sync, G: Gate + Sync>(
     Ok(engine.into_draft())
 }
 
-// The parts of a base that has these contents, up to half a gigabyte, which are gone before its rows are counted.
+// The draft of a base that has these contents, up to half a gigabyte, which are gone before its rows are counted.
 fn take_base<R: Threads + Sync, G: Gate + Sync>(
     workers: &Workers<'_, R, G>,
     alloc: Global,
     contents: Vec<u8>,
 ) -> Result<EngineDraft, HistoryError>
-    ensures sound { IfOk result (λ parts. IsWellFormedState parts) }
-    ensures base { IfOk result (λ parts. (current : Option RowMap) × IsBase content_size contents.items parts current) }
+    ensures sound { IfOk result (λ draft. IsWellFormedState draft) }
+    ensures base { IfOk result (λ draft. (current : Option RowMap) × IsBase content_size contents.items draft current) }
     ensures none { IfErr result (NoBase contents.items) }
 {
     let found = read_base(alloc, &contents, CONTENT);
     drop(contents);
     match found {
         Ok(Some(image)) => match count_rows(workers, alloc, image) {
-            Ok(parts) => Ok(parts),
+            Ok(draft) => Ok(draft),
             Err(Mem::Memory) => Err(HistoryError::Memory),
         },
         Ok(None) => Err(HistoryError::Spelling),
@@ -95,7 +95,7 @@ pub fn load_base<R: Threads + Sync, S: Site, G: Gate + Sync>(
     requires size { IfHonest (S.seen site.old) (λ s. size ≡ length (disk_of side s.disks).reads) }
     ensures sound { IfOk result (λ r. IsWellFormedState r.0) }
     ensures base { IfOk result (λ r. Honestly (S.seen site.old) (S.seen site.new) (FindsBase side epoch pages r.0)) }
-    ensures start { IfOk result (λ r. (r.1 ≡ page_place pages) × (r.1 < size) × (r.1 < most)) }
+    ensures start { IfOk result (λ r. (r.1 ≡ page_place pages) × (r.1 < size) × (r.1 < most_side)) }
     ensures lacks { IfErr result (λ e. Honestly (S.seen site.old) (S.seen site.new) (LacksBase side epoch pages e)) }
     ensures cause { IsErrOf result HistoryError.DiskFault → DiskRose (S.faults site.old) (S.faults site.new) }
     ensures quiet { (IsErrOf result HistoryError.DiskFault → ⊥) → S.faults site.new ≡ S.faults site.old }
@@ -109,7 +109,7 @@ pub fn load_base<R: Threads + Sync, S: Site, G: Gate + Sync>(
         Err(e) => return Err(unread_pages(e)),
     };
     match take_base(workers, alloc, contents) {
-        Ok(parts) => Ok((parts, start)),
+        Ok(draft) => Ok((draft, start)),
         Err(e) => Err(e),
     }
 }

@@ -50,11 +50,11 @@ pub fn state_at<R: Threads + Sync, S: Site, G: Gate + Sync>(
         Ok(loaded) => loaded,
         Err(e) => return Err(e),
     };
-    let parts = match replay_first(alloc, site, side, start, size, base, count) {
-        Ok(parts) => parts,
+    let draft = match replay_first(alloc, site, side, start, size, base, count) {
+        Ok(draft) => draft,
         Err(e) => return Err(e),
     };
-    match parts.into_engine() {
+    match draft.into_engine() {
         Ok(engine) => Ok(engine),
         Err(Mem::Memory) => Err(HistoryError::Memory),
     }

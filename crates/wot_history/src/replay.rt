@@ -3,7 +3,7 @@
 ghost use Rattle.std.specs.Prelude.{◌≡◌, ◌<◌, length, IfOk, IfErr, IsErrOf};
 ghost use Rattle.wot_types.specs.WellFormedState.{IsWellFormedState};
 ghost use Rattle.wot_site.specs.Disk.{disk_of};
-ghost use Rattle.wot_site.specs.Gate.{most};
+ghost use Rattle.wot_site.specs.Gate.{most_side};
 ghost use Rattle.wot_site.specs.Seen.{Honestly, IfHonest};
 ghost use Rattle.wot_site.specs.Site.{DiskRose};
 ghost use Rattle.wot_history.specs.Reading.{Replays, StopsAt, unmade_record, unread_record};
@@ -48,16 +48,16 @@ pub fn replay_first<S: Site>(
     count: u64,
 ) -> Result<EngineDraft, HistoryError>
     requires within { start < size }
-    requires bound { start < most }
+    requires bound { start < most_side }
     requires size { IfHonest (S.seen site.old) (λ s. size ≡ length (disk_of side s.disks).reads) }
     requires sound { IsWellFormedState base }
-    ensures sound { IfOk result (λ parts. IsWellFormedState parts) }
-    ensures replayed { IfOk result (λ parts. Honestly (S.seen site.old) (S.seen site.new) (Replays side start base count parts)) }
+    ensures sound { IfOk result (λ draft. IsWellFormedState draft) }
+    ensures replayed { IfOk result (λ draft. Honestly (S.seen site.old) (S.seen site.new) (Replays side start base count draft)) }
     ensures stops { IfErr result (λ e. Honestly (S.seen site.old) (S.seen site.new) (StopsAt side start base count e)) }
     ensures cause { IsErrOf result HistoryError.DiskFault → DiskRose (S.faults site.old) (S.faults site.new) }
     ensures quiet { (IsErrOf result HistoryError.DiskFault → ⊥) → S.faults site.new ≡ S.faults site.old }
 {
-    let mut parts = base;
+    let mut draft = base;
     let mut at = start;
     let mut done = 0u64;
     while done < count {
@@ -65,7 +65,7 @@ pub fn replay_first<S: Site>(
             Ok(Step::End) => return Err(HistoryError::Lost(done + 1)),
             Ok(Step::Payload(payload, after)) => {
                 done += 1;
-                parts = match take_record(alloc, parts, payload) {
+                draft = match take_record(alloc, draft, payload) {
                     Ok(made) => made,
                     Err(e) => return Err(unmade_record(done, e)),
                 };
@@ -74,5 +74,5 @@ pub fn replay_first<S: Site>(
             Err(e) => return Err(unread_record(e)),
         }
     }
-    Ok(parts)
+    Ok(draft)
 }

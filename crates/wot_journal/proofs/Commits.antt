@@ -3,7 +3,7 @@ use Rattle.std.proofs.Common.{◌≡◌, ◌⊎◌, inl, inr, ℕ, ◌+◌, ◌<
 use Rattle.std.specs.Int.{to_be_bytes, w32}
 use Rattle.std.proofs.lemmas.Bool.{cases_eq, cases_lt}
 use Rattle.std.proofs.lemmas.List.{length-append, take-take, get_or-take, take-append-drop, drop-drop, drop_more}
-use Rattle.wot_site.specs.Disk.{Disk, Disks, IsImage, disk_of, with_disk, after_write, after_sync, settled_disk, bytes_after_write}
+use Rattle.wot_site.specs.Disk.{Disk, Disks, IsCrashImage, disk_of, with_disk, after_write, after_sync, settled_disk, bytes_after_write}
 use Rattle.wot_site.specs.Seen.{Seen}
 use Rattle.wot_site.specs.Site.{on_disk}
 use Rattle.wot_site.specs.Work.{Works}
@@ -70,15 +70,15 @@ module _ (bytes : List ℕ) (end : ℕ) (payload : List ℕ) (gate : IsClosed by
     };
   }
 
-  pub at_first : (c : List ℕ) → IsImage (settled_disk bytes) c → IsUnchanged bytes end c
+  pub at_first : (c : List ℕ) → IsCrashImage (settled_disk bytes) c → IsUnchanged bytes end c
   at_first c image = let same = settled_image bytes c image in unchanged c (ap (λ (l : List ℕ). take (end + 1) l) same) (omega (arith, gate.within, ap length same))
 
-  pub while_written : (c : List ℕ) → IsImage (after_write (end + 1) (behind_gate payload) (settled_disk bytes)) c → IsUnchanged bytes end c
+  pub while_written : (c : List ℕ) → IsCrashImage (after_write (end + 1) (behind_gate payload) (settled_disk bytes)) c → IsUnchanged bytes end c
   while_written c image =
       let torn = torn_image bytes (end + 1) (behind_gate payload) c low image in
       unchanged c torn.front (omega (arith, gate.within, torn.no_shorter))
 
-  pub once_written : (c : List ℕ) → IsImage (settled_disk staged) c → IsUnchanged bytes end c
+  pub once_written : (c : List ℕ) → IsCrashImage (settled_disk staged) c → IsUnchanged bytes end c
   once_written c image =
       let same = settled_image staged c image in
       unchanged c (ap (λ (l : List ℕ). take (end + 1) l) same ∙ take_written bytes (end + 1) (behind_gate payload) low) (omega (arith, gate.within, long, ap length same))
@@ -100,7 +100,7 @@ module _ (bytes : List ℕ) (end : ℕ) (payload : List ℕ) (gate : IsClosed by
       regroup : (a b d : List ℕ) → (a ++ (b ++ 0 ∷ [])) ++ d ≡ (a ++ b) ++ 0 ∷ d
       regroup a b d = append_assoc a (b ++ 0 ∷ []) d ∙ ap (λ (l : List ℕ). a ++ l) (append_assoc b (0 ∷ []) d) ∙ sym (append_assoc a b (0 ∷ d))
 
-  pub while_opened : (c : List ℕ) → IsImage (after_write end (open_gate ∷ []) (settled_disk staged)) c → IsUnchanged bytes end c ⊎ (c ≡ with_record bytes end payload)
+  pub while_opened : (c : List ℕ) → IsCrashImage (after_write end (open_gate ∷ []) (settled_disk staged)) c → IsUnchanged bytes end c ⊎ (c ≡ with_record bytes end payload)
   while_opened c image =
       let torn = torn_image staged end (open_gate ∷ []) c (omega (arith, gate.within, long)) image in
       let tall : end < length c = omega (arith, gate.within, long, torn.no_shorter) in
@@ -125,24 +125,24 @@ module _ (bytes : List ℕ) (end : ℕ) (payload : List ℕ) (gate : IsClosed by
       (sym (drop-drop (length payload + 5) (end + 1) c) ∙ ap (λ (l : List ℕ). drop (length payload + 5) l) same ∙ drop-drop (length payload + 5) (end + 1) staged)
       ∙ behind_staged
 
-  pub behind_first : (c : List ℕ) → IsImage (settled_disk bytes) c → drop (end + length payload + 6) c ≡ drop (end + length payload + 6) bytes
+  pub behind_first : (c : List ℕ) → IsCrashImage (settled_disk bytes) c → drop (end + length payload + 6) c ≡ drop (end + length payload + 6) bytes
   behind_first c image = ap (λ (l : List ℕ). drop (end + length payload + 6) l) (settled_image bytes c image)
 
-  pub behind_while_written : (c : List ℕ) → IsImage (after_write (end + 1) (behind_gate payload) (settled_disk bytes)) c
+  pub behind_while_written : (c : List ℕ) → IsCrashImage (after_write (end + 1) (behind_gate payload) (settled_disk bytes)) c
       → drop (end + length payload + 6) c ≡ drop (end + length payload + 6) bytes
   behind_while_written c image = subst (λ (n : ℕ). drop n c ≡ drop n bytes) till (torn_image bytes (end + 1) (behind_gate payload) c low image).back
 
-  pub behind_once_written : (c : List ℕ) → IsImage (settled_disk staged) c → drop (end + length payload + 6) c ≡ drop (end + length payload + 6) bytes
+  pub behind_once_written : (c : List ℕ) → IsCrashImage (settled_disk staged) c → drop (end + length payload + 6) c ≡ drop (end + length payload + 6) bytes
   behind_once_written c image = ap (λ (l : List ℕ). drop (end + length payload + 6) l) (settled_image staged c image) ∙ behind_staged
 
-  pub behind_while_opened : (c : List ℕ) → IsImage (after_write end (open_gate ∷ []) (settled_disk staged)) c
+  pub behind_while_opened : (c : List ℕ) → IsCrashImage (after_write end (open_gate ∷ []) (settled_disk staged)) c
       → drop (end + length payload + 6) c ≡ drop (end + length payload + 6) bytes
   behind_while_opened c image = behind_gate_too c (torn_image staged end (open_gate ∷ []) c (omega (arith, gate.within, long)) image).back
 
   pub once_opened : bytes_after_write staged end (open_gate ∷ []) ≡ with_record bytes end payload
   once_opened = (λ i. front_staged i ++ (open_gate ∷ back_staged i)) ∙ opened
 
-  pub behind_once_opened : (c : List ℕ) → IsImage (settled_disk (with_record bytes end payload)) c
+  pub behind_once_opened : (c : List ℕ) → IsCrashImage (settled_disk (with_record bytes end payload)) c
       → drop (end + length payload + 6) c ≡ drop (end + length payload + 6) bytes
   behind_once_opened c image =
       behind_gate_too c (ap (λ (l : List ℕ). drop (end + 1) l) (settled_image (with_record bytes end payload) c image ∙ sym once_opened)
@@ -157,20 +157,20 @@ module _ (side : Side) (built : Framed) (x : Seen) (known : IsEnd built.end (dis
   P = IsCommitting side built x.disks
 
   -- where this side alone is another
-  on_side : (d : Disk) → ((c : List ℕ) → IsImage d c → IsUnchanged (disk_of side x.disks).reads built.end c ⊎ (c ≡ with_record (disk_of side x.disks).reads built.end built.payload))
-      → ((c : List ℕ) → IsImage d c → drop (behind_record built) c ≡ drop (behind_record built) (disk_of side x.disks).reads)
+  on_side : (d : Disk) → ((c : List ℕ) → IsCrashImage d c → IsUnchanged (disk_of side x.disks).reads built.end c ⊎ (c ≡ with_record (disk_of side x.disks).reads built.end built.payload))
+      → ((c : List ℕ) → IsCrashImage d c → drop (behind_record built) c ≡ drop (behind_record built) (disk_of side x.disks).reads)
       → IsCommitting side built x.disks (with_disk side d x.disks)
   on_side d images back = record {
     other = sym (ap (λ (e : Disk). with_disk side e x.disks) (disk_with side d x.disks));
-    images = λ c image. images c (subst (λ (e : Disk). IsImage e c) (disk_with side d x.disks) image);
-    back = λ c image. back c (subst (λ (e : Disk). IsImage e c) (disk_with side d x.disks) image);
+    images = λ c image. images c (subst (λ (e : Disk). IsCrashImage e c) (disk_with side d x.disks) image);
+    back = λ c image. back c (subst (λ (e : Disk). IsCrashImage e c) (disk_with side d x.disks) image);
   }
 
   at_start : IsCommitting side built x.disks x.disks
   at_start = record {
     other = sym (with_same side x.disks);
-    images = λ c image. inl (at_first (disk_of side x.disks).reads built.end built.payload known.gate c (subst (λ (d : Disk). IsImage d c) known.settled image));
-    back = λ c image. behind_first (disk_of side x.disks).reads built.end built.payload known.gate c (subst (λ (d : Disk). IsImage d c) known.settled image);
+    images = λ c image. inl (at_first (disk_of side x.disks).reads built.end built.payload known.gate c (subst (λ (d : Disk). IsCrashImage d c) known.settled image));
+    back = λ c image. behind_first (disk_of side x.disks).reads built.end built.payload known.gate c (subst (λ (d : Disk). IsCrashImage d c) known.settled image);
   }
 
   from_settled : (at : ℕ) (text : List ℕ) → after_write at text (disk_of side x.disks) ≡ after_write at text (settled_disk (disk_of side x.disks).reads)
@@ -178,8 +178,8 @@ module _ (side : Side) (built : Framed) (x : Seen) (known : IsEnd built.end (dis
 
   writing : IsCommitting side built x.disks (with_disk side (after_write (built.end + 1) (behind_gate built.payload) (disk_of side x.disks)) x.disks)
   writing = on_side (after_write (built.end + 1) (behind_gate built.payload) (disk_of side x.disks)) (λ c image.
-      inl (while_written (disk_of side x.disks).reads built.end built.payload known.gate c (subst (λ (d : Disk). IsImage d c) (from_settled (built.end + 1) (behind_gate built.payload)) image)))
-      (λ c image. behind_while_written (disk_of side x.disks).reads built.end built.payload known.gate c (subst (λ (d : Disk). IsImage d c) (from_settled (built.end + 1) (behind_gate built.payload)) image))
+      inl (while_written (disk_of side x.disks).reads built.end built.payload known.gate c (subst (λ (d : Disk). IsCrashImage d c) (from_settled (built.end + 1) (behind_gate built.payload)) image)))
+      (λ c image. behind_while_written (disk_of side x.disks).reads built.end built.payload known.gate c (subst (λ (d : Disk). IsCrashImage d c) (from_settled (built.end + 1) (behind_gate built.payload)) image))
 
   pub first_put : (y : Seen) → Puts side (built.end + 1) (behind_gate built.payload) x y → Works (IsCommitting side built x.disks) x y
   first_put y puts = puts_work (IsCommitting side built x.disks) side (built.end + 1) (behind_gate built.payload) x y at_start writing

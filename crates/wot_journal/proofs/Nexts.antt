@@ -5,14 +5,14 @@ use Rattle.std.proofs.lemmas.List.{drop_more, drop-drop, take-append-drop, get_o
 use Rattle.wot_site.specs.Disk.{disk_of}
 use Rattle.wot_site.specs.Seen.{Seen}
 use Rattle.wot_site.specs.declared.side.Side.{Side}
-use Rattle.wot_journal.specs.Record.{open_gate, most}
+use Rattle.wot_journal.specs.Record.{open_gate, most_side}
 use Rattle.wot_journal.specs.Range.{IsRange}
 use Rattle.wot_journal.specs.Next.{HasRecord}
 
 module _ (R : List ℕ) (at len : ℕ) (gate head payload : List ℕ) where
   pub record_there : gate ≡ take 1 (drop at R) → get_or gate 0 0 ≡ open_gate
       → head ≡ take 4 (drop (at + 1) R) → to_be_bytes w32 len ≡ head
-      → payload ≡ take len (drop (at + 5) R) → length payload ≡ len → at + len + 6 ≤ length R → at + len + 6 ≤ most
+      → payload ≡ take len (drop (at + 5) R) → length payload ≡ len → at + len + 6 ≤ length R → at + len + 6 ≤ most_side
       → HasRecord R at payload (at + 5 + len)
   record_there is_gate is_open is_head is_len is_payload long within bound =
       let none : at + 0 ≡ at = omega arith in

@@ -1,6 +1,6 @@
 -- What putting a record onto the disk does.
 use Rattle.std.specs.Prelude.{ℕ, ◌≡◌, ◌⊎◌, ◌+◌, List, [], ◌∷◌, length, take, drop}
-use Rattle.wot_site.specs.Disk.{Disk, Disks, IsImage, disk_of, with_disk, after_write, after_sync, settled_disk}
+use Rattle.wot_site.specs.Disk.{Disk, Disks, IsCrashImage, disk_of, with_disk, after_write, after_sync, settled_disk}
 use Rattle.wot_site.specs.Seen.{Seen}
 use Rattle.wot_site.specs.Site.{on_disk}
 use Rattle.wot_site.specs.declared.side.Side.{Side}
@@ -45,6 +45,6 @@ behind_record built = built.end + length built.payload + 6
 -- the other side is as it was
 pub record IsCommitting (side : Side) (built : Framed) (old new : Disks) : Type 0 where
   pub other : new ≡ with_disk side (disk_of side new) old
-  pub images : (c : List ℕ) → IsImage (disk_of side new) c
+  pub images : (c : List ℕ) → IsCrashImage (disk_of side new) c
       → IsUnchanged (disk_of side old).reads built.end c ⊎ (c ≡ with_record (disk_of side old).reads built.end built.payload)
-  pub back : (c : List ℕ) → IsImage (disk_of side new) c → drop (behind_record built) c ≡ drop (behind_record built) (disk_of side old).reads
+  pub back : (c : List ℕ) → IsCrashImage (disk_of side new) c → drop (behind_record built) c ≡ drop (behind_record built) (disk_of side old).reads

@@ -1,11 +1,12 @@
 //! Putting a record onto the disk.
 
-ghost use Rattle.std.specs.Prelude.{◌≡◌, ◌+◌, ◌-◌, ◌^◌, ◌<◌, ◌≤◌, length, IfOk, OnOk, OnErr};
+ghost use Rattle.std.specs.Prelude.{◌≡◌, ◌+◌, ◌<◌, ◌≤◌, length, IfOk, OnOk, OnErr};
+ghost use Rattle.wot_types.specs.PagePlaces.{most_side};
 ghost use Rattle.wot_site.specs.Disk.{disk_of};
 ghost use Rattle.wot_site.specs.Seen.{Honestly, IfHonest};
 ghost use Rattle.wot_site.specs.Site.{HasCause, DiskRose};
 ghost use Rattle.wot_site.specs.Work.{Works};
-ghost use Rattle.wot_journal.specs.Record.{most};
+ghost use Rattle.wot_journal.specs.Record.{most_side};
 ghost use Rattle.wot_journal.specs.Commit.{MakesCalls, Puts, PutsNot, IsEnd, Commits, CommitsNot, IsCommitting};
 
 use crate::record::Built;
@@ -13,7 +14,7 @@ use wot_site::{DiskFault, Failed, OPEN, Side, Site};
 
 /// Writes, and has it on the disk before it answers.
 pub fn put<S: Site>(site: &mut S, side: Side, at: u64, bytes: &[u8]) -> Result<(), DiskFault>
-    requires fits { at + length bytes.now ≤ 2 ^ 32 - 1 }
+    requires fits { at + length bytes.now ≤ most_side }
     requires within { IfHonest (S.seen site.old) (λ s. at ≤ length (disk_of side s.disks).reads) }
     ensures ok { OnOk result (Honestly (S.seen site.old) (S.seen site.new) (Puts side at bytes.now)) }
     ensures err { OnErr result (Honestly (S.seen site.old) (S.seen site.new) (PutsNot side at bytes.now)) }
@@ -34,7 +35,7 @@ pub fn put<S: Site>(site: &mut S, side: Side, at: u64, bytes: &[u8]) -> Result<(
 pub fn commit<S: Site>(site: &mut S, side: Side, built: &Built) -> Result<u64, DiskFault>
     requires at_end { IfHonest (S.seen site.old) (λ s. IsEnd built.now.end (disk_of side s.disks)) }
     ensures end { IfOk result (λ end. end ≡ built.now.end + length built.now.payload + 5) }
-    ensures room { built.now.end + length built.now.payload + 6 ≤ most }
+    ensures room { built.now.end + length built.now.payload + 6 ≤ most_side }
     ensures committed { OnOk result (Honestly (S.seen site.old) (S.seen site.new) (Commits side built.now)) }
     ensures calls { OnOk result (Honestly (S.seen site.old) (S.seen site.new) (MakesCalls 4)) }
     ensures failed { OnErr result (Honestly (S.seen site.old) (S.seen site.new) (CommitsNot side built.now)) }

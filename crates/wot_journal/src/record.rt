@@ -1,7 +1,7 @@
 //! A record that is ready to be committed.
 
 ghost use Rattle.std.specs.Prelude.{◌≡◌, ◌+◌, ◌-◌, ◌^◌, ◌<◌, ◌≤◌, nat_lt, length, drop, IfOk, IsErrOf};
-ghost use Rattle.wot_journal.specs.Record.{Framed, most, behind_gate, with_length};
+ghost use Rattle.wot_journal.specs.Record.{Framed, most_side, behind_gate, with_length};
 
 use byteorder::{BigEndian, ByteOrder};
 use std::alloc::{AllocError, Global};
@@ -38,7 +38,7 @@ pub struct Built {
 
 impl Model for Built {
     ghost use Rattle.std.specs.Prelude.{◌≡◌, ◌+◌, ◌≤◌, length};
-    ghost use Rattle.wot_journal.specs.Record.{Framed, behind_gate, payload_in, most, coded_framed};
+    ghost use Rattle.wot_journal.specs.Record.{Framed, behind_gate, payload_in, most_side, coded_framed};
 
     ghost Value = { Framed };
 
@@ -46,7 +46,7 @@ impl Model for Built {
 
     ghost view = { λ b. record { end = b.end; payload = payload_in b.body.items } };
 
-    ghost invariant = { λ b. (b.body.items ≡ behind_gate (payload_in b.body.items)) × (b.end + length (payload_in b.body.items) + 6 ≤ most) };
+    ghost invariant = { λ b. (b.body.items ≡ behind_gate (payload_in b.body.items)) × (b.end + length (payload_in b.body.items) + 6 ≤ most_side) };
 }
 
 impl Built {
@@ -60,7 +60,7 @@ impl Built {
     // All that stands behind its gate.
     pub fn body(&self) -> &[u8]
         ensures body { result.now ≡ behind_gate self.now.payload }
-        ensures room { self.now.end + length self.now.payload + 6 ≤ most }
+        ensures room { self.now.end + length self.now.payload + 6 ≤ most_side }
     {
         &self.body
     }
@@ -69,8 +69,8 @@ impl Built {
 /// Builds the record of a payload for the journal's end.
 pub fn build(alloc: Global, payload: &[u8], end: u64) -> Result<Built, BuildError>
     ensures built { IfOk result (λ b. b ≡ record { end = end; payload = payload.now }) }
-    ensures room { IfOk result (λ b. end + length payload.now + 6 ≤ most) }
-    ensures full { IsErrOf result BuildError.JournalFull → most < end + length payload.now + 6 }
+    ensures room { IfOk result (λ b. end + length payload.now + 6 ≤ most_side) }
+    ensures full { IsErrOf result BuildError.JournalFull → most_side < end + length payload.now + 6 }
 {
     if is_past(end, payload.len() as u64) {
         return Err(BuildError::JournalFull);
@@ -83,8 +83,8 @@ pub fn build(alloc: Global, payload: &[u8], end: u64) -> Result<Built, BuildErro
 pub fn build_in_place(spelled: Vec<u8>, end: u64) -> Result<Built, BuildError>
     requires spelled { spelled.items ≡ with_length (drop 4 spelled.items) }
     ensures built { IfOk result (λ b. b ≡ record { end = end; payload = drop 4 spelled.items }) }
-    ensures room { IfOk result (λ b. end + length (drop 4 spelled.items) + 6 ≤ most) }
-    ensures full { IsErrOf result BuildError.JournalFull → most < end + length (drop 4 spelled.items) + 6 }
+    ensures room { IfOk result (λ b. end + length (drop 4 spelled.items) + 6 ≤ most_side) }
+    ensures full { IsErrOf result BuildError.JournalFull → most_side < end + length (drop 4 spelled.items) + 6 }
 {
     if is_past(end, spelled.len() as u64 - 4) {
         return Err(BuildError::JournalFull);
@@ -94,7 +94,7 @@ pub fn build_in_place(spelled: Vec<u8>, end: u64) -> Result<Built, BuildError>
 
 // Whether the record of a payload of that length passes the last place of a side, with the next gate behind it.
 fn is_past(end: u64, len: u64) -> bool
-    ensures { result ≡ nat_lt most (end + len + 6) }
+    ensures { result ≡ nat_lt most_side (end + len + 6) }
 {
     end > MOST || len > MOST || end + len + 6 > MOST
 }
@@ -116,7 +116,7 @@ fn spell(alloc: Global, payload: &[u8]) -> Result<Vec<u8>, AllocError>
 // The record of a payload with its length before it: the next gate comes behind them, closed.
 fn close(spelled: Vec<u8>, end: u64) -> Result<Built, AllocError>
     requires spelled { spelled.items ≡ with_length (drop 4 spelled.items) }
-    requires room { end + length (drop 4 spelled.items) + 6 ≤ most }
+    requires room { end + length (drop 4 spelled.items) + 6 ≤ most_side }
     ensures { IfOk result (λ b. b ≡ record { end = end; payload = drop 4 spelled.items }) }
 {
     let mut body = spelled;

@@ -39,7 +39,7 @@ fn with_issuers(levels: Vec<u8>, certs: &[Placed], rows: &Rows) -> Result<Vec<u8
 {
     let mut levels = levels;
     for placed in certs {
-        levels = with_level(levels, rows.get(placed.cert.issuer))?;
+        levels = with_level(levels, rows.get(placed.cert.issuer()))?;
     }
     Ok(levels)
 }

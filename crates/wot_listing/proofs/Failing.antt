@@ -13,7 +13,7 @@ use Rattle.wot_types.proofs.Optionals.{or_none, or_assoc}
 use Rattle.wot_types.proofs.Capped.{capped_add}
 use Rattle.wot_listing.specs.declared.error.ListingError.{ListingError}
 use Rattle.wot_listing.specs.declared.error.ListingError.TheVariants.{Fault}
-use Rattle.wot_listing.specs.declared.progress.Progress.{Progress}
+use Rattle.wot_listing.specs.declared.so_far.SoFar.{SoFar}
 use Rattle.wot_listing.specs.Machine.{after_block, failing_in, is_unnamed, after_line, progress_of}
 use Rattle.wot_listing.specs.Reading.{reading_of, unless_fault}
 use Rattle.wot_listing.proofs.Checking.{all_keys_are, failing_is, unnamed_is}
@@ -40,15 +40,15 @@ unfolding progress_of
 line_number lines = sym (capped_add (length lines) 1)
 
 -- a reader that has read these lines without a fault
-pub record Reads (lines : List Line) (s : Progress) : Type 0 where
+pub record Reads (lines : List Line) (s : SoFar) : Type 0 where
   pub faultless : fault lines ≡ None
   pub kept : progress_of lines ≡ s
 
-reads_at : (f : Option ListingFault) (lines : List Line) (s : Progress) → fault lines ≡ f → unless_fault f (progress_of lines) ≡ Ok s → Reads lines s
+reads_at : (f : Option ListingFault) (lines : List Line) (s : SoFar) → fault lines ≡ f → unless_fault f (progress_of lines) ≡ Ok s → Reads lines s
 reads_at None lines s p e = record { faultless = p; kept = cc }
 reads_at (Some f) lines s p e = cc
 
-pub reads_of : (lines : List Line) (s : Progress) → reading_of lines ≡ Ok s → Reads lines s
+pub reads_of : (lines : List Line) (s : SoFar) → reading_of lines ≡ Ok s → Reads lines s
 unfolding reading_of
 reads_of lines s e = reads_at (fault lines) lines s refl e
 
@@ -62,11 +62,11 @@ pub stopped_of : (lines : List Line) (e : ListingError) → reading_of lines ≡
 unfolding reading_of
 stopped_of lines e h = stopped_at (fault lines) lines e refl h
 
-failing_at : (lines : List Line) (line : Line) (s : Progress) → Reads lines s → failed_check lines line ≡ failing_in s line
+failing_at : (lines : List Line) (line : Line) (s : SoFar) → Reads lines s → failed_check lines line ≡ failing_in s line
 failing_at lines line s r = failing_is lines line ∙ ap (λ t. failing_in t line) r.kept
 
-fault_number : (lines : List Line) (s : Progress) (what : ListingWhat) → Reads lines s → fault_at (length lines + 1) what ≡ fault_at (s.lines + 1) what
-fault_number lines s what r = let n = line_number lines ∙ ap (λ (t : Progress). capped (t.lines + 1)) r.kept in λ i. record { line = n i; what = what }
+fault_number : (lines : List Line) (s : SoFar) (what : ListingWhat) → Reads lines s → fault_at (length lines + 1) what ≡ fault_at (s.lines + 1) what
+fault_number lines s what r = let n = line_number lines ∙ ap (λ (t : SoFar). capped (t.lines + 1)) r.kept in λ i. record { line = n i; what = what }
 
 -- after a fault further lines change nothing
 pub still_stopped : (lines : List Line) (line : Line) (e : ListingError) → reading_of lines ≡ Err e → reading_of (lines ++ line ∷ []) ≡ Err e
@@ -77,7 +77,7 @@ still_stopped lines line e h =
     ap (λ o. unless_fault o (progress_of (lines ++ line ∷ []))) same ∙ ap Err (sym stopped.2)
 
 -- a line with no fault is read
-pub reads_on : (lines : List Line) (line : Line) (s : Progress) → reading_of lines ≡ Ok s → failing_in s line ≡ None → reading_of (lines ++ line ∷ []) ≡ Ok (after_line s line)
+pub reads_on : (lines : List Line) (line : Line) (s : SoFar) → reading_of lines ≡ Ok s → failing_in s line ≡ None → reading_of (lines ++ line ∷ []) ≡ Ok (after_line s line)
 unfolding reading_of
 reads_on lines line s h none =
     let r = reads_of lines s h in
@@ -85,7 +85,7 @@ reads_on lines line s h none =
     ap (λ o. unless_fault o (progress_of (lines ++ line ∷ []))) faultless ∙ ap Ok (progress_next lines line ∙ ap (λ t. after_line t line) r.kept)
 
 -- a line's fault stops the reader
-pub stops : (lines : List Line) (line : Line) (s : Progress) (what : ListingWhat) → reading_of lines ≡ Ok s → failing_in s line ≡ Some what
+pub stops : (lines : List Line) (line : Line) (s : SoFar) (what : ListingWhat) → reading_of lines ≡ Ok s → failing_in s line ≡ Some what
     → reading_of (lines ++ line ∷ []) ≡ Err (Fault (fault_at (s.lines + 1) what))
 unfolding reading_of
 stops lines line s what h fails =
@@ -93,12 +93,12 @@ stops lines line s what h fails =
     let faulty = fault_more lines line ∙ ap (λ o. option_or o (fault_of lines line)) r.faultless ∙ ap (option_map (fault_at (length lines + 1))) (failing_at lines line s r ∙ fails) in
     ap (λ o. unless_fault o (progress_of (lines ++ line ∷ []))) faulty ∙ ap (λ f. Err (Fault f)) (fault_number lines s what r)
 
-at_end : (lines : List Line) (s : Progress) → Reads lines s → fault_at_end lines ≡ cond (is_unnamed s.block) (Some (fault_at (length lines + 1) NoFingerprint)) None
+at_end : (lines : List Line) (s : SoFar) → Reads lines s → fault_at_end lines ≡ cond (is_unnamed s.block) (Some (fault_at (length lines + 1) NoFingerprint)) None
 at_end lines s r = ap (λ o. option_or o (cond (lacks_fingerprint (open_block lines)) (Some (fault_at (length lines + 1) NoFingerprint)) None)) r.faultless
-    ∙ ap (λ b. cond b (Some (fault_at (length lines + 1) NoFingerprint)) None) (unnamed_is lines ∙ ap (λ (t : Progress). is_unnamed t.block) r.kept)
+    ∙ ap (λ b. cond b (Some (fault_at (length lines + 1) NoFingerprint)) None) (unnamed_is lines ∙ ap (λ (t : SoFar). is_unnamed t.block) r.kept)
 
 -- at the end the last block may lack its fingerprint
-pub finish_fails : (lines : List Line) (s : Progress) → reading_of lines ≡ Ok s → is_unnamed s.block ≡ true → fault_at_end lines ≡ Some (fault_at (s.lines + 1) NoFingerprint)
+pub finish_fails : (lines : List Line) (s : SoFar) → reading_of lines ≡ Ok s → is_unnamed s.block ≡ true → fault_at_end lines ≡ Some (fault_at (s.lines + 1) NoFingerprint)
 finish_fails lines s h unnamed =
     let r = reads_of lines s h in
     at_end lines s r ∙ ap (λ b. cond b (Some (fault_at (length lines + 1) NoFingerprint)) None) unnamed ∙ ap Some (fault_number lines s NoFingerprint r)
@@ -112,13 +112,13 @@ unfolding progress_of
 passed_is lines = refl
 
 -- and else the lines spell the keys of their blocks
-pub finish_spells : (lines : List Line) (s : Progress) → reading_of lines ≡ Ok s → is_unnamed s.block ≡ false → Spells lines (finmap.values (after_block s).keys) s.kept s.passed
+pub finish_spells : (lines : List Line) (s : SoFar) → reading_of lines ≡ Ok s → is_unnamed s.block ≡ false → Spells lines (finmap.values (after_block s).keys) s.kept s.passed
 finish_spells lines s h named =
     let r = reads_of lines s h in record {
       faultless = at_end lines s r ∙ ap (λ b. cond b (Some (fault_at (length lines + 1) NoFingerprint)) None) named;
-      keys_are = ap finmap.values (sym (all_keys_are lines ∙ ap (λ (t : Progress). (after_block t).keys) r.kept));
-      kept_is = ap (λ (t : Progress). t.kept) (sym r.kept) ∙ kept_is lines;
-      passed_is = ap (λ (t : Progress). t.passed) (sym r.kept) ∙ passed_is lines;
+      keys_are = ap finmap.values (sym (all_keys_are lines ∙ ap (λ (t : SoFar). (after_block t).keys) r.kept));
+      kept_is = ap (λ (t : SoFar). t.kept) (sym r.kept) ∙ kept_is lines;
+      passed_is = ap (λ (t : SoFar). t.passed) (sym r.kept) ∙ passed_is lines;
     }
 
 -- a reader that has stopped answers the first fault
@@ -127,6 +127,6 @@ finish_stopped lines f h =
     let stopped = stopped_of lines (Fault f) h in
     ap (λ o. option_or o (cond (lacks_fingerprint (open_block lines)) (Some (fault_at (length lines + 1) NoFingerprint)) None)) stopped.1 ∙ cc
 
-pub reading_none : (s : Progress) → progress_of [] ≡ s → reading_of [] ≡ Ok s
+pub reading_none : (s : SoFar) → progress_of [] ≡ s → reading_of [] ≡ Ok s
 unfolding reading_of
 reading_none s e = ap Ok e

@@ -32,7 +32,7 @@ use Rattle.wot_types.specs.WellFormed.{IsUser, IsWellFormed}
 use Rattle.wot_types.proofs.Optionals.{both_none, map_none}
 use Rattle.wot_types.proofs.Tests.{true_from_T}
 use Rattle.wot_listing.specs.declared.key_block.KeyBlock.{KeyBlock}
-use Rattle.wot_listing.specs.declared.progress.Progress.{Progress}
+use Rattle.wot_listing.specs.declared.so_far.SoFar.{SoFar}
 use Rattle.wot_listing.specs.Machine.{at_sub, checks_in, after_kind, key_at_end, in_open, is_kept_in, is_unnamed, after_line, repeats_user, progress_of, users_of, with_block, with_cert, with_fpr, with_sig, with_user}
 use Rattle.wot_listing.proofs.Checking.{all_keys_are, failing_is, unnamed_is}
 use Rattle.wot_listing.proofs.Failing.{fault_more}
@@ -51,7 +51,7 @@ IsSoundOpen None = Unit {0}
 IsSoundOpen (Some b) = IsSoundBlock b
 
 -- what is kept of a listing without a fault
-pub record IsSound (s : Progress) : Type 0 where
+pub record IsSound (s : SoFar) : Type 0 where
   pub keys : AreSoundKeys s.keys
   pub block : IsSoundOpen s.block
 
@@ -109,7 +109,7 @@ sub_fed : (o : Option KeyBlock) → IsSoundOpen o → IsSoundOpen (option_map at
 sub_fed None h = tt
 sub_fed (Some b) h = sub_sound b h
 
-sig_fed : (s : Progress) (line : Line) (o : Option KeyBlock) (t : Bool) → s.block ≡ o → is_kept_in o line ≡ t → IsSound s
+sig_fed : (s : SoFar) (line : Line) (o : Option KeyBlock) (t : Bool) → s.block ≡ o → is_kept_in o line ≡ t → IsSound s
     → first_failing (in_open o (λ b. if is_some b.user && is_good line then sig_checks b.primary.id b.certs line else [])) ≡ None → IsSound (with_sig s line t)
 sig_fed s line o false e k h passes = record { keys = h.keys; block = h.block }
 sig_fed s line None true e k h passes = cc
@@ -123,7 +123,7 @@ sig_fed s line (Some b) true e k h passes =
       block = subst (λ o. IsSoundOpen (option_map (with_cert (cert_of line)) o)) (sym e) (cert_added b (cert_of line) kept.0 cert.0 cert.1 (subst IsSoundOpen e h.block));
     }
 
-fed_sound : (k : RecordKind) (s : Progress) (line : Line) → IsSound s → first_failing (checks_in k s line) ≡ None → IsSound (after_kind k s line)
+fed_sound : (k : RecordKind) (s : SoFar) (line : Line) → IsSound s → first_failing (checks_in k s line) ≡ None → IsSound (after_kind k s line)
 fed_sound Primary s line h passes = let named = holds (is_unnamed s.block) _ _ passes in record { keys = closed_sound s.keys s.block h.keys h.block named.0; block = fresh_sound line }
 fed_sound Foreign s line h passes = let named = holds (is_unnamed s.block) _ _ passes in record { keys = closed_sound s.keys s.block h.keys h.block named.0; block = tt }
 fed_sound Fingerprint s line h passes = record { keys = h.keys; block = fpr_fed s.block line h.block passes }

@@ -15,7 +15,7 @@ use Rattle.wot_types.specs.Runs.{Run, alone}
 use Rattle.wot_types.proofs.RunEnds.{block_ends, user_ends}
 use Rattle.wot_types.proofs.Capped.{capped_add}
 use Rattle.wot_listing.specs.declared.key_block.KeyBlock.{KeyBlock}
-use Rattle.wot_listing.specs.declared.progress.Progress.{Progress}
+use Rattle.wot_listing.specs.declared.so_far.SoFar.{SoFar}
 use Rattle.wot_listing.specs.EndedRuns.{ended_runs}
 use Rattle.wot_listing.specs.Machine.{keyblock_of, after_kind, key_at_end, at_primary, primary_of, is_kept_in, after_line, progress_of, users_of, with_block, with_cert, with_sig}
 use Rattle.wot_listing.proofs.RunsLemmas.{ended_more, longer, open_more, runs_split}
@@ -157,7 +157,7 @@ passed_add true false m n h = omega arith
 passed_add false b m n h = omega arith
 
 -- what is kept after one more line, by the tests of its kind
-abbrev next_by : RecordKind → Progress → Line → Progress
+abbrev next_by : RecordKind → SoFar → Line → SoFar
 next_by k s line = record {
   lines = capped (s.lines + 1);
   keys = cond (record_of.ends_keyblock k) (with_block s.keys s.block) s.keys;
@@ -188,17 +188,17 @@ signed_block None line false h = refl
 signed_block (Some b) line true h = rw h refl
 signed_block (Some b) line false h = rw h refl
 
-abbrev step_of : RecordKind → Progress → Line → Progress
+abbrev step_of : RecordKind → SoFar → Line → SoFar
 step_of k s line = record (after_kind k s line) { lines = capped (s.lines + 1) }
 
-signed : (s : Progress) (line : Line) (t : Bool) → is_kept_in s.block line ≡ t → capped s.kept ≡ s.kept → capped s.passed ≡ s.passed
+signed : (s : SoFar) (line : Line) (t : Bool) → is_kept_in s.block line ≡ t → capped s.kept ≡ s.kept → capped s.passed ≡ s.passed
     → next_by Signature s line ≡ step_of Signature s line
 signed s line true h p q = ap (λ o. record (next_by Signature s line) { block = o }) (signed_block s.block line true h)
     ∙ rw h (λ i. record (with_sig s line true) { lines = capped (s.lines + 1); passed = stands s.passed q i })
 signed s line false h p q = ap (λ o. record (next_by Signature s line) { block = o }) (signed_block s.block line false h)
     ∙ rw h (λ i. record (with_sig s line false) { lines = capped (s.lines + 1); kept = stands s.kept p i })
 
-next_is : (s : Progress) (line : Line) (k : RecordKind) → capped s.kept ≡ s.kept → capped s.passed ≡ s.passed → next_by k s line ≡ step_of k s line
+next_is : (s : SoFar) (line : Line) (k : RecordKind) → capped s.kept ≡ s.kept → capped s.passed ≡ s.passed → next_by k s line ≡ step_of k s line
 next_is s line Signature p q = signed s line _ refl p q
 next_is s line Other p q = λ i. record s { lines = capped (s.lines + 1); block = unchanged s.block i; kept = stands s.kept p i; passed = stands s.passed q i }
 next_is s line Primary p q = λ i. record (step_of Primary s line) { kept = stands s.kept p i; passed = stands s.passed q i }

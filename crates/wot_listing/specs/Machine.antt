@@ -19,7 +19,7 @@ use Rattle.wot_types.specs.Records.{capabilities_at, cert_of, date_at, fingerpri
 use Rattle.wot_types.specs.Runs.{Run}
 use Rattle.wot_listing.specs.declared.primary.Primary.{Primary as PrimaryRecord}
 use Rattle.wot_listing.specs.declared.key_block.KeyBlock.{KeyBlock}
-use Rattle.wot_listing.specs.declared.progress.Progress.{Progress}
+use Rattle.wot_listing.specs.declared.so_far.SoFar.{SoFar}
 use Rattle.wot_listing.specs.EndedRuns.{ended_runs}
 
 -- the values of a `pub`
@@ -46,7 +46,7 @@ keyblock_of block = record {
 }
 
 -- what is kept of these lines
-unfoldable pub progress_of : List Line → Progress
+unfoldable pub progress_of : List Line → SoFar
 progress_of lines = record {
   lines = capped (length lines);
   keys = keys_of (ended_runs begins_keyblock ends_keyblock lines);
@@ -81,7 +81,7 @@ with_block keys None = keys
 with_block keys (Some b) = finmap.insert keys b.primary.id (key_at_end b)
 
 -- the open block has ended
-abbrev pub after_block : Progress → Progress
+abbrev pub after_block : SoFar → SoFar
 after_block s = record s { keys = with_block s.keys s.block; block = None }
 
 -- an `fpr` is the key's own where none has come
@@ -111,16 +111,16 @@ abbrev pub with_cert : Cert → KeyBlock → KeyBlock
 with_cert cert b = record b { user = option_map (and_cert cert) b.user; certs = b.certs + 1 }
 
 -- one more signature is kept or passed
-abbrev pub with_count : Bool → Progress → Progress
+abbrev pub with_count : Bool → SoFar → SoFar
 with_count true s = record s { kept = capped (s.kept + 1) }
 with_count false s = record s { passed = capped (s.passed + 1) }
 
-abbrev pub with_sig : Progress → Line → Bool → Progress
+abbrev pub with_sig : SoFar → Line → Bool → SoFar
 with_sig s line true = with_count true (record s { block = option_map (with_cert (cert_of line)) s.block })
 with_sig s line false = with_count false s
 
 -- what a line of this kind adds
-abbrev pub after_kind : RecordKind → Progress → Line → Progress
+abbrev pub after_kind : RecordKind → SoFar → Line → SoFar
 after_kind Primary s line = record (after_block s) { block = Some (at_primary (primary_of line)) }
 after_kind Foreign s line = after_block s
 after_kind Fingerprint s line = record s { block = option_map (with_fpr line) s.block }
@@ -130,7 +130,7 @@ after_kind Signature s line = with_sig s line (is_kept_in s.block line)
 after_kind Other s line = s
 
 -- what is kept after one more line
-abbrev pub after_line : Progress → Line → Progress
+abbrev pub after_line : SoFar → Line → SoFar
 after_line s line = record (after_kind (kind_of line) s line) { lines = capped (s.lines + 1) }
 
 abbrev pub in_open : Option KeyBlock → (KeyBlock → List Check) → List Check
@@ -146,7 +146,7 @@ abbrev pub repeats_user : KeyBlock → User → Bool
 repeats_user b user = list_any (λ earlier. is_same_user earlier user) (users_of b)
 
 -- the checks of a line of this kind, asked of what is kept
-abbrev pub checks_in : RecordKind → Progress → Line → List Check
+abbrev pub checks_in : RecordKind → SoFar → Line → List Check
 checks_in Primary s line = (is_unnamed s.block, NoFingerprint) ∷ pub_checks line ++ (finmap.contains_key (after_block s).keys (key_id_at line), RepeatedKey) ∷ []
 checks_in Foreign s line = (is_unnamed s.block, NoFingerprint) ∷ []
 checks_in Fingerprint s line = in_open s.block (λ b. if b.wants_fpr then fpr_checks b.primary.id line else [])
@@ -157,5 +157,5 @@ checks_in Signature s line = in_open s.block (λ b.
 checks_in _ s line = []
 
 -- the first check of a line that fails, asked of what is kept
-abbrev pub failing_in : Progress → Line → Option ListingWhat
+abbrev pub failing_in : SoFar → Line → Option ListingWhat
 failing_in s line = first_failing (checks_in (kind_of line) s line)

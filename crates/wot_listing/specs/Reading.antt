@@ -7,23 +7,23 @@ use Rattle.wot_listing.specs.declared.error.LineError.{LineError}
 use Rattle.wot_listing.specs.declared.error.LineError.TheVariants as line_error
 use Rattle.wot_listing.specs.declared.error.ListingError.{ListingError}
 use Rattle.wot_listing.specs.declared.error.ListingError.TheVariants.{Fault, Memory}
-use Rattle.wot_listing.specs.declared.progress.Progress.{Progress}
+use Rattle.wot_listing.specs.declared.so_far.SoFar.{SoFar}
 use Rattle.wot_listing.specs.Machine.{progress_of}
 
-abbrev pub unless_fault : Option ListingFault → Progress → Result Progress ListingError
+abbrev pub unless_fault : Option ListingFault → SoFar → Result SoFar ListingError
 unless_fault None s = Ok s
 unless_fault (Some f) s = Err (Fault f)
 
 -- after these lines a reader is this: what is kept of them, or their first fault
-unfoldable pub reading_of : List Line → Result Progress ListingError
+unfoldable pub reading_of : List Line → Result SoFar ListingError
 reading_of lines = unless_fault (fault lines) (progress_of lines)
 
 -- the reader has read these lines, or is out of memory
-abbrev pub HasRead : Result Progress ListingError → List Line → Type 0
+abbrev pub HasRead : Result SoFar ListingError → List Line → Type 0
 HasRead reader lines = (reader ≡ reading_of lines) ⊎ (reader ≡ Err Memory)
 
 -- what stops the reader, if anything does
-abbrev pub answer_of : Result Progress ListingError → Result (Unit {0}) ListingError
+abbrev pub answer_of : Result SoFar ListingError → Result (Unit {0}) ListingError
 answer_of (Ok s) = Ok tt
 answer_of (Err e) = Err e
 

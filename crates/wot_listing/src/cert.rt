@@ -11,7 +11,8 @@ use crate::values::{class_in, dates_in, is_local, issuer_fpr_in, key_id_in, text
 use std::alloc::Global;
 use wot_fields::Fields;
 use wot_types::{
-    Cert, KeyId, Limit, ListingWhat, MOST_CERTS, MOST_SCOPE, Mem, Scope, Text, is_kept_class,
+    Cert, KeyId, Limit, ListingWhat, MOST_CERTS, MOST_SCOPE, Mem, PackedCert, Scope, Text,
+    is_kept_class,
 };
 
 /// Reads a `sig` or `rev` record that was checked and is good, on the key with this key ID, which has so many certifications before it. One of another class or by the key itself gives None.
@@ -20,7 +21,7 @@ pub fn read_cert(
     id: KeyId,
     certs: u32,
     line: &Fields<'_>,
-) -> Result<Option<Cert>, LineError>
+) -> Result<Option<PackedCert>, LineError>
     ensures value { Answers result (first_failing (sig_checks id certs line.now))
         (λ cert. cert ≡ (if is_kept_class (class_at line.now) && not (key_id_at line.now == id) then Some (cert_of line.now) else None)) }
     ensures room { IfOk result (λ cert. IsSome cert → certs < most_certs) }
@@ -40,7 +41,7 @@ pub fn read_cert(
     if certs >= MOST_CERTS {
         return Err(LineError::Failed(ListingWhat::LimitReached(Limit::Certs)));
     }
-    Ok(Some(cert))
+    Ok(Some(PackedCert::pack(alloc, cert)?))
 }
 
 /// The certification of this class and by this issuer.

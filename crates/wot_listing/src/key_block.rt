@@ -16,7 +16,7 @@ use crate::values::{fingerprint_in, is_good};
 use std::alloc::Global;
 use wot_fields::Fields;
 use wot_types::{
-    Cert, Fpr, Key, KeyId, Limit, ListingWhat, MOST_USERS, Mem, User, UserKind, Users,
+    Fpr, Key, KeyId, Limit, ListingWhat, MOST_USERS, Mem, PackedCert, User, UserKind, Users,
 };
 
 /// A block that no line has ended.
@@ -155,7 +155,7 @@ impl KeyBlock {
         }
     }
 
-    fn push_cert(&mut self, cert: Cert) -> Result<(), Mem>
+    fn push_cert(&mut self, cert: PackedCert) -> Result<(), Mem>
         requires { self.old.certs < most_certs }
         ensures { OnOk result (self.new ≡ with_cert cert self.old) }
     {

@@ -12,7 +12,7 @@ mod error; // what stops the reader
 mod key_block; // the block that is being read
 mod listing; // the reader
 mod primary; // `pub`
-mod progress; // what is kept of the lines so far
+mod so_far; // what is kept of the lines so far
 mod user; // `uid` and `uat`
 mod values; // the values of a record's fields
 

@@ -6,7 +6,7 @@ ghost use Rattle.wot_listing.specs.Reading.{Finishes, HasRead, answer_of, readin
 
 use crate::blocks::Blocks;
 use crate::error::{LineError, ListingError};
-use crate::progress::Progress;
+use crate::so_far::SoFar;
 use std::alloc::Global;
 use std::marker::Model;
 use wot_types::{ListingFault, Mem};
@@ -15,7 +15,7 @@ use wot_types::{ListingFault, Mem};
 #[derive(Debug, Drop)]
 pub struct Listing {
     alloc: Global,
-    progress: Progress,
+    progress: SoFar,
     stop: Option<ListingError>,
 }
 
@@ -23,11 +23,11 @@ impl Model for Listing {
     ghost use Rattle.std.specs.Prelude.{Result, Ok, Err};
     ghost use Rattle.std.specs.Option.{option_map_or};
     ghost use Rattle.wot_listing.specs.declared.error.ListingError.{ListingError};
-    ghost use Rattle.wot_listing.specs.declared.progress.Progress.{Progress};
-    ghost use Rattle.wot_listing.specs.contracts.progress.Progress as progress_struct;
+    ghost use Rattle.wot_listing.specs.declared.so_far.SoFar.{SoFar};
+    ghost use Rattle.wot_listing.specs.contracts.so_far.SoFar as progress_struct;
     ghost use Rattle.std.specs.Coded.{codes};
 
-    ghost Value = { Result Progress ListingError };
+    ghost Value = { Result SoFar ListingError };
 
     ghost coded = { Prim.hlevel (codes, progress_struct.the_row.coded) };
 
@@ -41,7 +41,7 @@ impl Listing {
     {
         Ok(Listing {
             alloc,
-            progress: Progress::new(alloc),
+            progress: SoFar::new(alloc),
             stop: None,
         })
     }

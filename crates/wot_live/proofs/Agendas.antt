@@ -17,7 +17,7 @@ use Rattle.wot_types.specs.Levels.{rows_upto}
 use Rattle.wot_types.proofs.Tests.{is_key, same_key}
 use Rattle.wot_levels.specs.Given.{given_row}
 use Rattle.wot_levels.proofs.Frontiers.{passed_over}
-use Rattle.wot_live.specs.Agenda.{AgendaMap, AreDue, IsPutOff, IsQuiet, IsWithin, due_at, is_due, is_one_below}
+use Rattle.wot_live.specs.Agenda.{AgendaMap, AreDue, IsPutOff, IsIdle, IsWithin, due_at, is_due, is_one_below}
 use Rattle.wot_live.specs.Recounting.{IsGrownBy, IsRecounted, among, has_level, is_carried, is_via_of, kept_above, recounted}
 use Rattle.wot_live.proofs.BeforeLevels.{row_below, rows_before}
 use Rattle.wot_live.proofs.Befores.{high_goes, level_given, low_stays, lower_part, restricted}
@@ -52,7 +52,7 @@ off_same n (Some row) off = elim (nat_lt row.level n) as (λ b. nat_lt row.level
 
 module _ (t : State) (rows : RowMap) where
   -- where no certifier has a row of the level before, all rows that count for the key counted then
-  certifiers_same : (k x : ℕ) → ((y : ℕ) → row_below (suc (suc k)) (map.get rows y) ≡ map.get (rows_before t (suc (suc k))) y) → IsQuiet t.keys rows (suc (suc k)) x
+  certifiers_same : (k x : ℕ) → ((y : ℕ) → row_below (suc (suc k)) (map.get rows y) ≡ map.get (rows_before t (suc (suc k))) y) → IsIdle t.keys rows (suc (suc k)) x
       → (y : ℕ) → has_cert_by t.keys y x ≡ true → map.get (rows_upto t (suc k)) y ≡ map.get (rows_upto t k) y
   certifiers_same k x below quiet y cert =
       let one : suc k + 1 ≡ suc (suc k) = omega arith in
@@ -63,7 +63,7 @@ module _ (t : State) (rows : RowMap) where
       ∙ ap (row_below (suc k)) (below y)
       ∙ restricted t (suc k) 1 (suc (suc k)) y one
 
-  pub quiet_stays : (n x : ℕ) → ((y : ℕ) → row_below n (map.get rows y) ≡ map.get (rows_before t n) y) → IsQuiet t.keys rows n x → recounted n (map.get rows x) (given_row t rows n x) ≡ map.get rows x
+  pub quiet_stays : (n x : ℕ) → ((y : ℕ) → row_below n (map.get rows y) ≡ map.get (rows_before t n) y) → IsIdle t.keys rows n x → recounted n (map.get rows x) (given_row t rows n x) ≡ map.get rows x
   quiet_stays zero x below quiet = let late = quiet.late in absurd (omega (arith, late))
   quiet_stays (suc zero) x below quiet = let late = quiet.late in absurd (omega (arith, late))
   quiet_stays (suc (suc k)) x below quiet =

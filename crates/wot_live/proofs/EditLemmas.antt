@@ -34,7 +34,7 @@ use Rattle.wot_live.specs.declared.plain_edit.PlainEdit.TheVariants.{Put, Remove
 use Rattle.wot_live.specs.declared.todo.Named.{Named}
 use Rattle.wot_live.specs.declared.todo.Todo.{Todo}
 use Rattle.wot_live.specs.declared.todo.Todo.TheVariants.{All, Named as Listed}
-use Rattle.wot_live.specs.Follows.{Follows, IsDue, IsDueSince, IsListedSince, no_keys, with_named}
+use Rattle.wot_live.specs.Follows.{Follows, HasLeft, IsDueSince, IsListedSince, no_keys, with_named}
 use Rattle.wot_live.specs.PlainEdit.{IsAllowed, after_plain, is_back}
 use Rattle.wot_live.specs.Recounting.{IsAlike, IsBegun, IsTouchedList, among}
 use Rattle.wot_live.proofs.Rounds.{once_more}
@@ -257,8 +257,8 @@ all_named s t names All due = λ x there. refl
 all_named s t names (Listed named) due = record { begun = due.begun; counts = due.counts; only = λ x its. refl }
 
 -- one edit more: what is to be counted is told from the same state as before
-pub due_after : {t u v : State} {before after : Todo} → IsDue t before → u ≡ v → IsInRange v.options
-    → ((s : State) (names : KeySet) → IsDueSince s names t before → (more : KeySet) × IsDueSince s more u after) → IsDue u after
+pub due_after : {t u v : State} {before after : Todo} → HasLeft t before → u ≡ v → IsInRange v.options
+    → ((s : State) (names : KeySet) → IsDueSince s names t before → (more : KeySet) × IsDueSince s more u after) → HasLeft u after
 due_after due is ranges since = record {
   ranges = subst (λ (w : State). IsInRange w.options) (sym is) ranges;
   since = let more = since due.since.0 due.since.1 due.since.2 in (due.since.0, more.0, more.1);

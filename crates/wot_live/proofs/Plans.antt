@@ -13,7 +13,7 @@ use Rattle.wot_types.specs.Indexes.{has_cert_by}
 use Rattle.wot_types.specs.Keyring.{Keyring}
 use Rattle.wot_types.proofs.Tests.{is_key}
 use Rattle.wot_levels.specs.Certifiers.{StandsAt, is_level_of}
-use Rattle.wot_live.specs.Agenda.{AgendaMap, AreDue, HasMoreOf, IsQuiet, IsWithin, due_at, is_due, is_one_below, with_due}
+use Rattle.wot_live.specs.Agenda.{AgendaMap, AreDue, HasMoreOf, IsIdle, IsWithin, due_at, is_due, is_one_below, with_due}
 use Rattle.wot_live.specs.Recounting.{among, has_level, ids_at}
 use Rattle.wot_live.proofs.Agendas.{due_set, out_before}
 use Rattle.wot_live.proofs.Lists.{among_pushed}
@@ -83,7 +83,7 @@ module _ (keys : Keyring) (rows : RowMap) (n id : ℕ) (levels : List ℕ) (agen
         absurd (false≢true (sym out ∙ ap (λ k. is_due agenda k id) (sym here) ∙ behind row.level h (subst (λ k. n ≤ k) (sym here) later)))
   ] refl
 
-  quiet_if : (m : ℕ) → n ≤ m → is_due agenda m id ≡ false → IsQuiet keys rows m id
+  quiet_if : (m : ℕ) → n ≤ m → is_due agenda m id ≡ false → IsIdle keys rows m id
   quiet_if m later out = record {
     late = late_if m later out;
     own = own_if m later out (map.get rows id) own;
@@ -93,7 +93,7 @@ module _ (keys : Keyring) (rows : RowMap) (n id : ℕ) (levels : List ℕ) (agen
   pub due_one : AreDue keys rows n (id ∷ []) agenda
   due_one m x later its out =
       let same : id ≡ x = only_it id x its in
-      subst (λ k. is_due agenda m k ≡ false → IsQuiet keys rows m k) same (quiet_if m later) out
+      subst (λ k. is_due agenda m k ≡ false → IsIdle keys rows m k) same (quiet_if m later) out
 
 -- where its own row is due it still is with more keys on the agenda
 pub own_kept : (n id : ℕ) (ids : List ℕ) (old new : AgendaMap) → HasMoreOf ids old new → (o : Option Row)
@@ -109,7 +109,7 @@ pub due_kept : (keys : Keyring) (rows : RowMap) (n : ℕ) (ids js : List ℕ) (o
 due_kept keys rows n ids js old new more due m x later its out = due m x later its (out_before (is_due old m x) (is_due new m x) (more.kept m x) out)
 
 pub due_both : (keys : Keyring) (rows : RowMap) (n : ℕ) (ids js : List ℕ) (agenda : AgendaMap) → AreDue keys rows n ids agenda → AreDue keys rows n js agenda → AreDue keys rows n (ids ++ js) agenda
-due_both keys rows n ids js agenda first second m x later its out = elim (or_cases (among ids x) (among js x) (sym (list_any-append (λ id. id == x) ids js) ∙ its)) as (λ _. IsQuiet keys rows m x) [
+due_both keys rows n ids js agenda first second m x later its out = elim (or_cases (among ids x) (among js x) (sym (list_any-append (λ id. id == x) ids js) ∙ its)) as (λ _. IsIdle keys rows m x) [
   | inl here ↦ first m x later here out
   | inr there ↦ second m x later there out
 ]

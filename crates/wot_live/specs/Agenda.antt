@@ -28,14 +28,14 @@ is_one_below n None = false
 is_one_below n (Some row) = (row.level + 1) == n
 
 -- at this level the key's row can't change: it is of another level, and so are the rows that count anew
-pub record IsQuiet (keys : Keyring) (rows : RowMap) (n id : ℕ) : Type 0 where
+pub record IsIdle (keys : Keyring) (rows : RowMap) (n id : ℕ) : Type 0 where
   pub late : 2 ≤ n
   pub own : has_level n (map.get rows id) ≡ false
   pub certifiers : (y : ℕ) → has_cert_by keys y id ≡ true → is_one_below n (map.get rows y) ≡ false
 
 -- from a level on these keys are due wherever their rows may change
 abbrev pub AreDue : Keyring → RowMap → ℕ → List ℕ → AgendaMap → Type 0
-AreDue keys rows n ids agenda = (m x : ℕ) → n ≤ m → among ids x ≡ true → is_due agenda m x ≡ false → IsQuiet keys rows m x
+AreDue keys rows n ids agenda = (m x : ℕ) → n ≤ m → among ids x ≡ true → is_due agenda m x ≡ false → IsIdle keys rows m x
 
 -- none but these keys is due
 abbrev pub IsWithin : List ℕ → AgendaMap → Type 0

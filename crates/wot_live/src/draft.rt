@@ -21,7 +21,7 @@ pub struct EngineDraft {
 impl Model for EngineDraft {
     ghost use Rattle.wot_types.specs.State.{State};
     ghost use Rattle.wot_types.specs.StateCode.{state_code};
-    ghost use Rattle.wot_live.specs.Follows.{IsDue, uncounted_state};
+    ghost use Rattle.wot_live.specs.Follows.{HasLeft, uncounted_state};
 
     ghost Value = { State };
 
@@ -29,7 +29,7 @@ impl Model for EngineDraft {
 
     ghost view = { λ p. uncounted_state p.uncounted };
 
-    ghost invariant = { λ p. IsDue (uncounted_state p.uncounted) p.uncounted.todo };
+    ghost invariant = { λ p. HasLeft (uncounted_state p.uncounted) p.uncounted.todo };
 }
 
 impl EngineDraft {

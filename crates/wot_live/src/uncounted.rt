@@ -10,7 +10,7 @@ ghost use Rattle.wot_types.specs.State.{State};
 ghost use Rattle.wot_types.specs.Touched.{certs_on, is_touched, named_by_date, named_by_options, named_by_put, named_by_remove};
 ghost use Rattle.wot_types.specs.WellFormed.{IsWellFormed};
 ghost use Rattle.wot_live.specs.declared.todo.Todo.TheVariants.{Named as Listed};
-ghost use Rattle.wot_live.specs.Follows.{Follows, HasIntroducers, IsDue, IsDueSince, IsListedSince, owned_state, uncounted_state, with_named};
+ghost use Rattle.wot_live.specs.Follows.{Follows, HasIntroducers, HasLeft, IsDueSince, IsListedSince, owned_state, uncounted_state, with_named};
 ghost use Rattle.wot_live.specs.PlainEdit.{IsAllowed, after_plain, named_by_plain};
 
 use crate::count_anew::count_anew;
@@ -107,7 +107,7 @@ impl Uncounted {
     /// The engine of this state, by the rows and counts of the state before the edits. The keys that these named are recounted, and
     /// with them only those whose certifiers' rows change; all others are as they were.
     pub fn count<L: Ledger>(self, steps: &mut Steps<L>) -> Result<Engine, Mem>
-        requires due { IsDue (uncounted_state self) self.todo }
+        requires due { HasLeft (uncounted_state self) self.todo }
         ensures state { IfOk result (λ new. new ≡ uncounted_state self) }
         ensures ticks { (s : State) (names : KeySet) → IsDueSince s names (uncounted_state self) self.todo
             → steps.new ≤ steps.old + (self.state.options.depth + 1) * certs_on (is_touched names s (uncounted_state self)) self.state.table }
@@ -128,7 +128,7 @@ fn count_listed<L: Ledger>(
     named: Named,
     steps: &mut Steps<L>,
 ) -> Result<Engine, Mem>
-    requires due { IsDue (owned_state state) (Listed named) }
+    requires due { HasLeft (owned_state state) (Listed named) }
     ensures state { IfOk result (λ new. new ≡ owned_state state) }
     ensures ticks { (s : State) (names : KeySet) → IsListedSince s names (owned_state state) named
         → steps.new ≤ steps.old + (state.options.depth + 1) * certs_on (is_touched names s (owned_state state)) state.table }

@@ -6,7 +6,7 @@ use Rattle.std.proofs.lemmas.List.{append-nil, length-append, length-take-le, le
 use Rattle.std.proofs.lemmas.List.Elements.{All-nil, All-push, All-append, All-weaker}
 use Rattle.wot_site.specs.declared.range.Range.{Range}
 use Rattle.wot_site.specs.declared.side.Side.{Side}
-use Rattle.wot_site.specs.Disk.{Disk, Disks, IsImage, IsOutside, disk_of, with_disk, after_write, bytes_after_write}
+use Rattle.wot_site.specs.Disk.{Disk, Disks, IsCrashImage, IsOutside, disk_of, with_disk, after_write, bytes_after_write}
 use Rattle.wot_site.specs.Seen.{Seen, IfHonest, Honestly}
 use Rattle.wot_site.specs.Site.{Writes, WritesOrNot, on_disk}
 use Rattle.wot_site.specs.Work.{Works}
@@ -54,7 +54,7 @@ written_more place d e at bytes before past low = record {
 
 -- ---- the header in the images
 
-module _ (d e : Disk) (long : 24 ≤ length d.reads) (written : IsWrittenFrom 24 d e) (c : List ℕ) (image : IsImage e c) where
+module _ (d e : Disk) (long : 24 ≤ length d.reads) (written : IsWrittenFrom 24 d e) (c : List ℕ) (image : IsCrashImage e c) where
   -- a byte of the header that was there at the last sync and isn't pending
   kept_low : (i : ℕ) → i < 24 → i < d.synced → IsOutside i d.pending → get_or c i 0 ≡ get_or d.reads i 0
   kept_low i low old outside =
@@ -64,7 +64,7 @@ module _ (d e : Disk) (long : 24 ≤ length d.reads) (written : IsWrittenFrom 24
       (All-weaker (λ (r : Range). 24 ≤ r.at) (λ (r : Range). (i < r.at) ⊎ (r.at + r.len ≤ i)) (λ r h. inl (omega (arith, h, low))) written.ranges written.behind)))
       ∙ sym (get_or-take 24 e.reads i 0 low) ∙ ap (λ (l : List ℕ). get_or l i 0) written.front ∙ get_or-take 24 d.reads i 0 low
 
-  short_image : length c ≤ 24 → IsImage d c
+  short_image : length c ≤ 24 → IsCrashImage d c
   short_image short = record {
     no_shorter = omega (arith, image.no_shorter, written.synced, written.no_shorter);
     no_longer = omega (arith, short, long);
@@ -75,7 +75,7 @@ module _ (d e : Disk) (long : 24 ≤ length d.reads) (written : IsWrittenFrom 24
   abbrev pub before_it : List ℕ
   before_it = take 24 c ++ drop 24 d.reads
 
-  long_image : 24 < length c → IsImage d before_it
+  long_image : 24 < length c → IsCrashImage d before_it
   long_image more =
       let head : length (take 24 c) ≡ 24 = length-take-le 24 c (omega (arith, more)) in
       let whole : length before_it ≡ length d.reads = length-append (take 24 c) (drop 24 d.reads) ∙ omega (arith, head, length-drop 24 d.reads, long) in

@@ -2,7 +2,7 @@
 use Rattle.std.specs.Prelude.{ℕ, zero, suc, ◌≡◌, ◌⊎◌, ◌+◌, ◌<◌, ◌≤◌, List, ◌++◌, length, take, All}
 use Rattle.wot_site.specs.declared.range.Range.{Range}
 use Rattle.wot_site.specs.declared.side.Side.{Side}
-use Rattle.wot_site.specs.Disk.{Disk, Disks, IsImage, disk_of, with_disk, after_write, bytes_after_write}
+use Rattle.wot_site.specs.Disk.{Disk, Disks, IsCrashImage, disk_of, with_disk, after_write, bytes_after_write}
 use Rattle.wot_site.specs.Seen.{Seen}
 use Rattle.wot_site.specs.Site.{on_disk}
 use Rattle.wot_site.specs.Work.{Works}
@@ -14,7 +14,7 @@ use Rattle.wot_pages.specs.Pages.{content_in, contents_for, pages_for}
 -- a side has a header, and in each image the gate in front of it is closed
 pub record IsShut (d : Disk) : Type 0 where
   pub long : first_page ≤ length d.reads
-  pub images : (c : List ℕ) → IsImage d c → IsClosed c 0
+  pub images : (c : List ℕ) → IsCrashImage d c → IsClosed c 0
 
 -- bytes of a side from a place on alone were written since
 pub record IsWrittenFrom (place : ℕ) (old new : Disk) : Type 0 where
@@ -28,7 +28,7 @@ pub record IsWrittenFrom (place : ℕ) (old new : Disk) : Type 0 where
 -- these bytes begin as an image of the side does
 pub record HasHeaderOf (d : Disk) (c : List ℕ) : Type 0 where
   pub image : List ℕ
-  pub is : IsImage d image
+  pub is : IsCrashImage d image
   pub same : take first_page c ≡ take first_page image
 
 -- of this side bytes behind the header alone were written, of the other none;
@@ -36,8 +36,8 @@ pub record HasHeaderOf (d : Disk) (c : List ℕ) : Type 0 where
 pub record FillsPages (side : Side) (old new : Disks) : Type 0 where
   pub other : new ≡ with_disk side (disk_of side new) old
   pub written : IsWrittenFrom first_page (disk_of side old) (disk_of side new)
-  pub header : (c : List ℕ) → IsImage (disk_of side new) c → HasHeaderOf (disk_of side old) c
-  pub shut : (c : List ℕ) → IsImage (disk_of side new) c → IsClosed c 0
+  pub header : (c : List ℕ) → IsCrashImage (disk_of side new) c → HasHeaderOf (disk_of side old) c
+  pub shut : (c : List ℕ) → IsCrashImage (disk_of side new) c → IsClosed c 0
 
 -- no more calls wrote or synced than there are pages
 abbrev pub WritesAtMost : ℕ → Seen → Seen → Type 0

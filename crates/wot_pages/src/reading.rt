@@ -1,10 +1,10 @@
 //! Reading pages, and checking their seals.
 
-ghost use Rattle.std.specs.Prelude.{◌≡◌, ◌*◌, ◌-◌, ◌^◌, ◌<◌, ◌≤◌, length, IfOk, OnErr, IsErrOf};
+ghost use Rattle.std.specs.Prelude.{◌≡◌, ◌*◌, ◌<◌, ◌≤◌, length, IfOk, OnErr, IsErrOf};
 ghost use Rattle.wot_site.specs.Disk.{disk_of};
 ghost use Rattle.wot_site.specs.Seen.{Honestly, IfHonest};
 ghost use Rattle.wot_site.specs.Site.{Stays, DiskRose};
-ghost use Rattle.wot_types.specs.PagePlaces.{content_size, page_place};
+ghost use Rattle.wot_types.specs.PagePlaces.{content_size, most_side, page_place};
 ghost use Rattle.wot_pages.specs.Reading.{ReadsPages, FindsFault};
 
 use crate::checking::check_seals;
@@ -37,7 +37,7 @@ pub fn read_pages<R: Threads + Sync, S: Site, G: Gate + Sync>(
     epoch: u64,
     pages: u64,
 ) -> Result<Vec<u8>, PagesError>
-    requires fits { page_place pages ≤ 2 ^ 32 - 1 }
+    requires fits { page_place pages ≤ most_side }
     requires within { IfHonest (S.seen site.old) (λ s. page_place pages ≤ length (disk_of side s.disks).reads) }
     ensures long { IfOk result (λ contents. length contents.items ≡ content_size * pages) }
     ensures read { IfOk result (λ contents. Honestly (S.seen site.old) (S.seen site.new) (ReadsPages side epoch pages contents.items)) }

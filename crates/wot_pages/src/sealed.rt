@@ -1,9 +1,9 @@
 //! Pages as they are read: their contents, and the seals that stand in them.
 
-ghost use Rattle.std.specs.Prelude.{◌≡◌, ◌+◌, ◌-◌, ◌*◌, ◌^◌, ◌<◌, ◌≤◌, [], ◌∷◌, ◌++◌, length, take, drop, IfOk, OnErr, IsErrOf};
+ghost use Rattle.std.specs.Prelude.{◌≡◌, ◌+◌, ◌*◌, ◌<◌, ◌≤◌, [], ◌∷◌, ◌++◌, length, take, drop, IfOk, OnErr, IsErrOf};
 ghost use Rattle.wot_site.specs.Seen.{Honestly};
 ghost use Rattle.wot_site.specs.Site.{Stays, DiskRose};
-ghost use Rattle.wot_types.specs.PagePlaces.{content_size, page_size, page_place};
+ghost use Rattle.wot_types.specs.PagePlaces.{content_size, most_side, page_place, page_size};
 ghost use Rattle.wot_pages.specs.Reading.{ReadsSealed};
 
 use crate::page::{CONTENT, FIRST, PAGE};
@@ -21,7 +21,7 @@ pub struct Sealed {
 impl Sealed {
     // None, with room for so many.
     fn with_room(alloc: Global, pages: usize) -> Result<Sealed, AllocError>
-        requires { content_size * pages ≤ 2 ^ 32 - 1 }
+        requires { content_size * pages ≤ most_side }
         ensures contents { IfOk result (λ sealed. sealed.contents.items ≡ []) }
         ensures seals { IfOk result (λ sealed. sealed.seals.items ≡ []) }
     {
@@ -54,7 +54,7 @@ pub fn read_sealed<S: Site>(
     side: Side,
     pages: u64,
 ) -> Result<Sealed, PagesError>
-    requires fits { page_place pages ≤ 2 ^ 32 - 1 }
+    requires fits { page_place pages ≤ most_side }
     ensures long { IfOk result (λ sealed. length sealed.contents.items ≡ content_size * length sealed.seals.items) }
     ensures few { IfOk result (λ sealed. length sealed.seals.items ≤ pages) }
     ensures read { IfOk result (λ sealed. Honestly (S.seen site.old) (S.seen site.new) (ReadsSealed side pages sealed.contents.items sealed.seals.items)) }

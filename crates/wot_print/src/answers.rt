@@ -9,11 +9,14 @@ use std::alloc::Global;
 use wot_fields::{Printed, Sink, push_number};
 use wot_types::Mem;
 
+/// The last line of the reply to an accepted command that tells no more of it.
+pub const OK_LINE: &[u8] = b"ok\n";
+
 /// `ok`, after a command that tells nothing else.
 pub fn ok_line(alloc: Global) -> Result<Vec<u8>, Mem>
     ensures { IfOk result (λ text. text.items ≡ ok_line) }
 {
-    Ok(Vec::from_slice(alloc, b"ok\n")?)
+    Ok(Vec::from_slice(alloc, OK_LINE)?)
 }
 
 /// `ok keys K kept C passed P`, after an import.

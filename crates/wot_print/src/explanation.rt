@@ -81,7 +81,7 @@ fn push_row(text: &mut Printed, row: &Row) -> Result<(), Mem>
     push_number_field(text, u32::from(row.level))?;
     push_field(text, trust_text(row.trust))?;
     push_number_field(text, u32::from(row.left))?;
-    push_scope(text, &row.scope)?;
+    push_scope(text, row.scope.as_ref())?;
     push_via(text, row.via)?;
     text.push(b'\n')?;
     Ok(())

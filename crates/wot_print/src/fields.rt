@@ -1,6 +1,7 @@
 //! Fields at the end of a line that is being printed, each with the colon after it.
 
 ghost use Rattle.std.specs.Prelude.{◌≡◌, OnOk};
+ghost use Rattle.std.specs.Option.{option_copied};
 ghost use Rattle.hex.specs.Hex.{encode_upper};
 ghost use Rattle.wot_types.specs.Printing.{ended_field, expiry_field, key_id_text, number_field, scope_text};
 ghost use Rattle.wot_types.specs.Quotes.{printed_text};
@@ -82,9 +83,9 @@ pub fn push_quoted_field<W: Sink>(text: &mut W, field: &Text) -> Result<(), W::E
 }
 
 /// A regular expression, or nothing for none.
-pub fn push_scope<W: Sink>(text: &mut W, scope: &Option<Scope>) -> Result<(), W::Error>
+pub fn push_scope<W: Sink>(text: &mut W, scope: Option<&Scope>) -> Result<(), W::Error>
     ensures same { W.name text.new ≡ W.name text.old }
-    ensures adds { OnOk result (W.adds text.old (ended_field (scope_text scope.now)) text.new) }
+    ensures adds { OnOk result (W.adds text.old (ended_field (scope_text (option_copied scope.entry))) text.new) }
 {
     match scope {
         Some(scope) => push_quoted_field(text, scope.as_text()),

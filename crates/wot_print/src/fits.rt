@@ -1,6 +1,7 @@
 //! The ranges of what is printed, as its types give them to whoever reads it. Nothing is done when these run.
 
 ghost use Rattle.std.specs.Prelude.{◌^◌, ◌<◌, All};
+ghost use Rattle.std.specs.Option.{option_copied};
 ghost use Rattle.std.specs.FinMap as map;
 ghost use Rattle.hex.specs.Hex.{IsBytes};
 ghost use Rattle.wot_types.specs.declared.key.Key.{Key};
@@ -10,7 +11,7 @@ ghost use Rattle.wot_print_laws.specs.Fits.{FitsCert, FitsKey, FitsState, FitsUs
 
 use wot_live::Engine;
 use wot_table::{KeyHead, UserHead};
-use wot_types::{Cert, Fpr, KeyId, Scope};
+use wot_types::{Fpr, KeyId, PackedCert, Scope};
 
 fn bytes_fit(bytes: &[u8])
     ensures { IsBytes bytes.now }
@@ -30,8 +31,8 @@ fn id_fits(id: KeyId)
     let KeyId(_n) = id;
 }
 
-fn scope_fits(scope: &Option<Scope>)
-    ensures { IsScopeOfBytes scope.now }
+fn scope_fits(scope: Option<&Scope>)
+    ensures { IsScopeOfBytes (option_copied scope.entry) }
 {
     match scope {
         Some(scope) => bytes_fit(scope.as_text().as_bytes()),
@@ -48,17 +49,17 @@ fn issuer_fpr_fits(named: &Option<Fpr>)
     }
 }
 
-pub fn cert_fits(cert: &Cert)
+pub fn cert_fits(cert: &PackedCert)
     ensures { FitsCert cert.now }
 {
-    id_fits(cert.issuer);
-    byte_fits(cert.class);
-    word_fits(cert.made);
-    word_fits(cert.expires);
-    byte_fits(cert.depth);
-    byte_fits(cert.amount);
-    scope_fits(&cert.scope);
-    issuer_fpr_fits(&cert.issuer_fpr);
+    id_fits(cert.issuer());
+    byte_fits(cert.class());
+    word_fits(cert.made());
+    word_fits(cert.expires());
+    byte_fits(cert.depth());
+    byte_fits(cert.amount());
+    scope_fits(cert.scope());
+    issuer_fpr_fits(&cert.issuer_fpr());
 }
 
 /// A user ID whose certifications fit.

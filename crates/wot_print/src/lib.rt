@@ -15,7 +15,7 @@ mod refusals; // the line of a refused command
 mod supposing; // what an edit would change, and on whose ownertrust a letter hangs
 mod workers; // the same counts by several workers
 
-pub use answers::{entries_line, import_line, keys_line, ok_line};
+pub use answers::{OK_LINE, entries_line, import_line, keys_line, ok_line};
 pub use counts::tally;
 pub use explanation::why;
 pub use listing::{Printout, list};

@@ -8,12 +8,13 @@ ghost use Rattle.wot_types.specs.Selection.{is_below_level, is_disregarded, is_i
 ghost use Rattle.wot_select.specs.Run.{IsBy};
 
 use crate::expiry::expired;
-use wot_types::{Cert, Fpr, GENERIC, PERSONA, POSITIVE, Placed, REVOCATION};
+use wot_types::{Fpr, GENERIC, PERSONA, POSITIVE, PackedCert, Placed, REVOCATION};
 
-fn is_below_level(level: u8, cert: &Cert) -> bool
+fn is_below_level(level: u8, cert: &PackedCert) -> bool
     ensures { result ≡ is_below_level level cert.now }
 {
-    matches!(cert.class, PERSONA..=POSITIVE) && cert.class - GENERIC < level
+    let class = cert.class();
+    matches!(class, PERSONA..=POSITIVE) && class - GENERIC < level
 }
 
 /// Whether it names a fingerprint other than this one.
@@ -27,16 +28,16 @@ fn is_other_fpr(fpr: &Fpr, named: &Option<Fpr>) -> bool
 }
 
 /// Whether it names a fingerprint other than that of the key of its issuer's key ID, where there is one.
-fn names_another(fpr: Option<&Fpr>, cert: &Cert) -> bool
+fn names_another(fpr: Option<&Fpr>, cert: &PackedCert) -> bool
     ensures { result ≡ names_another (option_copied fpr.entry) cert.now }
 {
     match fpr {
         None => false,
-        Some(fpr) => is_other_fpr(fpr, &cert.issuer_fpr),
+        Some(fpr) => is_other_fpr(fpr, &cert.issuer_fpr()),
     }
 }
 
-fn is_disregarded(level: u8, fpr: Option<&Fpr>, cert: &Cert) -> bool
+fn is_disregarded(level: u8, fpr: Option<&Fpr>, cert: &PackedCert) -> bool
     ensures { result ≡ is_disregarded level (option_copied fpr.entry) cert.now }
 {
     is_below_level(level, cert) || names_another(fpr, cert)
@@ -45,7 +46,7 @@ fn is_disregarded(level: u8, fpr: Option<&Fpr>, cert: &Cert) -> bool
 fn is_in_force(now: u32, placed: &Placed) -> bool
     ensures { result ≡ is_in_force now placed.now }
 {
-    placed.cert.class != REVOCATION && !expired(placed.cert.expires, now)
+    placed.cert.class() != REVOCATION && !expired(placed.cert.expires(), now)
 }
 
 /// The place in a run of one issuer of the certification that decides, and None where there is none or it isn't in force.

@@ -27,7 +27,7 @@ use Rattle.wot_site.specs.Work.{Quiet, Since, Works, moment_of}
 use Rattle.wot_site.proofs.Honest.{And, honest_after, honest_then, honest_weaker, honest_with}
 use Rattle.wot_site.proofs.Works.{since_then, since_weaker, works_start, works_weaker}
 use Rattle.wot_site.specs.Site.{Stays}
-use Rattle.wot_store.specs.Appending.{IsNext, IsRecordOf, place_after}
+use Rattle.wot_store.specs.Appending.{IsRecordHere, IsRecordOf, place_after}
 use Rattle.wot_store.specs.Changing.{IsStoredAfter, ShowsEither}
 use Rattle.wot_store.specs.Compacting.{IsCompactable, compacted_place}
 use Rattle.wot_store.specs.Shows.{IsStored}
@@ -70,7 +70,7 @@ does_sound Compact s t sound same = subst (λ (store : Store). IsWellFormedState
 record_of : (built : Framed) (s t : Store) (leads : Leads built s t) → IsRecordOf built s leads.edit
 record_of built s t leads = record { place = leads.place; spells = leads.payload; allowed = leads.accepts.allowed }
 
-pub leads_next : (place : Place) (built : Framed) (s t : Store) (seen : Option Seen) → Leads built s t → Holds place seen s → IfHonest seen (λ x. IsNext place built x.disks)
+pub leads_next : (place : Place) (built : Framed) (s t : Store) (seen : Option Seen) → Leads built s t → Holds place seen s → IfHonest seen (λ x. IsRecordHere place built x.disks)
 leads_next place built s t None leads holds = tt
 leads_next place built s t (Some x) leads holds = record { shown = s; edit = leads.edit; stored = holds; record_of = record_of built s t leads }
 

@@ -10,7 +10,7 @@ ghost use Rattle.wot_session.specs.Ready.{text_of};
 use crate::ready::Ready;
 use std::convert::Infallible;
 use wot_fields::Sink;
-use wot_print::Printout;
+use wot_print::{OK_LINE, Printout};
 use wot_site::{Failed, Site};
 use wot_tell::{Teller, tell_all};
 
@@ -34,7 +34,7 @@ fn tell_printout<S: Site>(site: &mut S, printout: Printout<'_>) -> Result<(), Fa
 {
     let mut teller = Teller::new(site);
     taken(printout.print(&mut teller));
-    taken(teller.push_bytes(b"ok\n"));
+    taken(teller.push_bytes(OK_LINE));
     teller.finish()
 }
 

@@ -4,20 +4,20 @@ use Rattle.std.specs.Prelude.{All}
 use Rattle.std.proofs.lemmas.List.{ext_get_or, get_or-take, get_or-drop, length-drop, length-append, length-take-le, take_at, drop_at, drop_all, drop-drop}
 use Rattle.std.proofs.lemmas.List.Elements.{All-nil, All-cons, All-pop, All-weaker}
 use Rattle.std.proofs.lemmas.Bool.{cases_lt}
-use Rattle.wot_site.specs.Disk.{Range, Disk, IsImage, bytes_after_write, after_write, settled_disk}
+use Rattle.wot_site.specs.Disk.{Range, Disk, IsCrashImage, bytes_after_write, after_write, settled_disk}
 
 -- what a read gives is one of the images
-pub reads_image : (d : Disk) → IsImage d d.reads
+pub reads_image : (d : Disk) → IsCrashImage d d.reads
 reads_image d = record { no_shorter = omega arith; no_longer = omega arith; kept = λ i old within outside. refl }
 
 -- where nothing is pending it is the only one
-pub settled_image : (bytes c : List ℕ) → IsImage (settled_disk bytes) c → c ≡ bytes
+pub settled_image : (bytes c : List ℕ) → IsCrashImage (settled_disk bytes) c → c ≡ bytes
 settled_image bytes c image =
     let long : length c ≡ length bytes = omega (arith, image.no_shorter, image.no_longer) in
     ext_get_or 0 c bytes long (λ i lt. image.kept i (omega arith) (omega arith) (All-nil (λ (r : Range). (i < r.at) ⊎ (r.at + r.len ≤ i))))
 
 -- before all ranges written since the last sync an image is what a read gives
-pub image_front : (n : ℕ) (d : Disk) (c : List ℕ) → n ≤ d.synced → n ≤ length d.reads → All (λ (r : Range). n ≤ r.at) d.pending → IsImage d c → take n c ≡ take n d.reads
+pub image_front : (n : ℕ) (d : Disk) (c : List ℕ) → n ≤ d.synced → n ≤ length d.reads → All (λ (r : Range). n ≤ r.at) d.pending → IsCrashImage d c → take n c ≡ take n d.reads
 image_front n d c old within behind image =
     let longc : length (take n c) ≡ n = length-take-le n c (omega (arith, image.no_shorter)) in
     let longr : length (take n d.reads) ≡ n = length-take-le n d.reads within in
@@ -56,7 +56,7 @@ pub record Torn (at n : ℕ) (bytes c : List ℕ) : Type 0 where
 one_range : (P : Range → Type 0) (r : Range) → P r → All P ([] ++ r ∷ [])
 one_range P r here = All-cons P r [] here (All-nil P)
 
-pub torn_image : (bytes : List ℕ) (at : ℕ) (x c : List ℕ) → at ≤ length bytes → IsImage (after_write at x (settled_disk bytes)) c → Torn at (length x) bytes c
+pub torn_image : (bytes : List ℕ) (at : ℕ) (x c : List ℕ) → at ≤ length bytes → IsCrashImage (after_write at x (settled_disk bytes)) c → Torn at (length x) bytes c
 torn_image bytes at x c low image =
     let long : (length (bytes_after_write bytes at x) ≡ length bytes) ⊎ (length (bytes_after_write bytes at x) ≡ at + length x) =
     elim (cases_lt (length bytes) (at + length x)) [ inl lt ↦ inr (length_written_end bytes at x low (omega arith)) | inr le ↦ inl (length_written bytes at x low le) ] in
@@ -82,7 +82,7 @@ torn_image bytes at x c low image =
         ∙ sym (get_or-drop (at + length x) (bytes_after_write bytes at x) i 0) ∙ e)
 
 -- inside a write: each image of before it is one of after it
-pub image_kept : (at : ℕ) (x : List ℕ) (d : Disk) (c : List ℕ) → at ≤ length d.reads → d.synced ≤ length d.reads → IsImage d c → IsImage (after_write at x d) c
+pub image_kept : (at : ℕ) (x : List ℕ) (d : Disk) (c : List ℕ) → at ≤ length d.reads → d.synced ≤ length d.reads → IsCrashImage d c → IsCrashImage (after_write at x d) c
 image_kept at x d c low old image =
     let long : (length (bytes_after_write d.reads at x) ≡ length d.reads) ⊎ ((length (bytes_after_write d.reads at x) ≡ at + length x) × (length d.reads < at + length x)) =
     elim (cases_lt (length d.reads) (at + length x)) [ inl lt ↦ inr (length_written_end d.reads at x low (omega arith), lt) | inr le ↦ inl (length_written d.reads at x low le) ] in

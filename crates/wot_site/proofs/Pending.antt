@@ -4,15 +4,15 @@ use Rattle.std.specs.Prelude.{slice_index, Some}
 use Rattle.std.proofs.lemmas.Bool.{cases_lt}
 use Rattle.std.proofs.lemmas.List.{take_more, take_all}
 use Rattle.std.proofs.lemmas.List.Elements.{All-pop, All-push}
-use Rattle.wot_site.specs.Disk.{Range, Disk, IsImage, IsOutside, bytes_after_write}
+use Rattle.wot_site.specs.Disk.{Range, Disk, IsCrashImage, IsOutside, bytes_after_write}
 use Rattle.wot_site.specs.MemorySide.{IsFilled}
 use Rattle.wot_site.proofs.Images.{image_kept}
 
 -- what was read at the last sync stays an image when more is written
 pub kept_here : (reads synced new : List ℕ) (pending more : List Range) (at : ℕ) (x : List ℕ) → new ≡ bytes_after_write reads at x → more ≡ pending ++ record { at = at; len = length x } ∷ [] → at ≤ length reads
-    → IsImage (record { reads = reads; synced = length synced; pending = pending }) synced → IsImage (record { reads = new; synced = length synced; pending = more }) synced
+    → IsCrashImage (record { reads = reads; synced = length synced; pending = pending }) synced → IsCrashImage (record { reads = new; synced = length synced; pending = more }) synced
 kept_here reads synced new pending more at x is pushed low image =
-    subst (λ (d : Disk). IsImage d synced) (λ i. record { reads = sym is i; synced = length synced; pending = sym pushed i })
+    subst (λ (d : Disk). IsCrashImage d synced) (λ i. record { reads = sym is i; synced = length synced; pending = sym pushed i })
     (image_kept at x (record { reads = reads; synced = length synced; pending = pending }) synced low image.no_longer image)
 
 -- the first k ranges are filled with the byte, and the rest of the side is as it reads
@@ -57,7 +57,7 @@ pub filling_whole : (byte : ℕ) (reads image : List ℕ) (xs pending : List Ran
 filling_whole byte reads image xs pending k same past filling =
     subst (λ (l : List Range). Filling byte reads l image) (take_all k pending (omega (arith, past, ap (λ (l : List Range). length l) same))) filling
 
-pub filling_image : (byte : ℕ) (d : Disk) (image : List ℕ) → d.synced ≤ length d.reads → Filling byte d.reads d.pending image → IsImage d image
+pub filling_image : (byte : ℕ) (d : Disk) (image : List ℕ) → d.synced ≤ length d.reads → Filling byte d.reads d.pending image → IsCrashImage d image
 filling_image byte d image old filling = record { no_shorter = omega (arith, filling.long); no_longer = omega (arith, filling.long); kept = λ i low within outside. filling.outside i outside }
 
 pub filling_filled : (byte : ℕ) (d : Disk) (image : List ℕ) → Filling byte d.reads d.pending image → IsFilled byte d image

@@ -16,7 +16,7 @@ IsOutside i ranges = All (λ r. (i < r.at) ⊎ (r.at + r.len ≤ i)) ranges
 
 -- a crash may leave this of a side: each written range and what lies past the last synced length may hold anything,
 -- the length lies between the last synced one and the furthest written end, and all other bytes stay
-pub record IsImage (d : Disk) (c : List ℕ) : Type 0 where
+pub record IsCrashImage (d : Disk) (c : List ℕ) : Type 0 where
   pub no_shorter : min d.synced (length d.reads) ≤ length c
   pub no_longer : length c ≤ length d.reads
   pub kept : (i : ℕ) → i < d.synced → i < length d.reads → IsOutside i d.pending → slice_index c i ≡ slice_index d.reads i
@@ -55,8 +55,8 @@ pub record Image : Type 0 where
 
 -- a crash may leave this: the sides are independent
 pub record IsImageOf (d : Disks) (c : Image) : Type 0 where
-  pub zero : IsImage d.zero c.zero
-  pub one : IsImage d.one c.one
+  pub zero : IsCrashImage d.zero c.zero
+  pub one : IsCrashImage d.one c.one
 
 abbrev pub reads_of : Disks → Image
 reads_of d = record { zero = d.zero.reads; one = d.one.reads }

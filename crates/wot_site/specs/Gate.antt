@@ -1,9 +1,6 @@
--- Gates, and the most bytes of a side.
-use Rattle.std.specs.Prelude.{ℕ, ◌≢◌, ◌-◌, ◌^◌, ◌<◌, List, length, slice_index}
-
--- the most bytes of a side
-abbrev pub most : ℕ
-most = 2 ^ 32 - 1
+-- Gates.
+pub use Rattle.wot_types.specs.PagePlaces.{most_side}
+use Rattle.std.specs.Prelude.{ℕ, ◌≢◌, ◌<◌, List, length, slice_index}
 
 -- the byte of an open gate
 abbrev pub open_gate : ℕ

@@ -226,7 +226,7 @@ impl MemorySite {
 }
 
 impl Site for MemorySite {
-    ghost use Rattle.std.specs.Prelude.{◌^◌, ◌-◌};
+    ghost use Rattle.wot_types.specs.PagePlaces.{most_side};
     ghost use Rattle.wot_site.specs.Disk.{disk_of};
     ghost use Rattle.wot_site.specs.CallBytes.{bytes_per_call};
     ghost use Rattle.wot_site.specs.Site.{after_asking, Takes, TakesNothing, Tells, Stays, Sizes, Reads, Writes, WritesOrNot, Syncs, HasCause, Rose, TakeRose, TellRose, DiskRose};
@@ -345,7 +345,7 @@ impl Site for MemorySite {
 
     /// A write that is to fail is made and noted all the same: the layers above take either.
     fn write(&mut self, side: Side, at: u64, bytes: &[u8]) -> Result<(), Failed>
-        requires fits { at + length bytes.now ≤ 2 ^ 32 - 1 }
+        requires fits { at + length bytes.now ≤ most_side }
         requires within { at ≤ length (disk_of side (seen_of self.old).disks).reads }
         ensures ok { OnOk result (Writes side at bytes.now (seen_of self.old) (seen_of self.new)) }
         ensures err { OnErr result (WritesOrNot side at bytes.now (seen_of self.old) (seen_of self.new)) }

@@ -1,6 +1,7 @@
 //! The calls of the outside, and what each tells of itself.
 
-ghost use Rattle.std.specs.Prelude.{◌≡◌, ◌+◌, ◌-◌, ◌^◌, ◌<◌, ◌≤◌, Option, length, IfOk, OnOk, OnErr};
+ghost use Rattle.std.specs.Prelude.{◌≡◌, ◌+◌, ◌<◌, ◌≤◌, Option, length, IfOk, OnOk, OnErr};
+ghost use Rattle.wot_types.specs.PagePlaces.{most_side};
 ghost use Rattle.wot_site.specs.Seen.{Seen, Faults, Honestly, IfHonest};
 ghost use Rattle.wot_site.specs.Disk.{disk_of};
 ghost use Rattle.wot_site.specs.Site.{Takes, TakesNothing, Tells, Stays, Sizes, Reads, Writes, WritesOrNot, Syncs, HasCause, TakeRose, TellRose, DiskRose};
@@ -49,7 +50,7 @@ pub trait Site {
 
     /// Writes over what is there, and past the end. Until the next sync of that side a crash may leave any bytes in the range.
     fn write(&mut self, side: Side, at: u64, bytes: &[u8]) -> Result<(), Failed>
-        requires fits { at + length bytes.now ≤ 2 ^ 32 - 1 }
+        requires fits { at + length bytes.now ≤ most_side }
         requires within { IfHonest (seen self.old) (λ s. at ≤ length (disk_of side s.disks).reads) }
         ensures ok { OnOk result (Honestly (seen self.old) (seen self.new) (Writes side at bytes.now)) }
         ensures err { OnErr result (Honestly (seen self.old) (seen self.new) (WritesOrNot side at bytes.now)) }

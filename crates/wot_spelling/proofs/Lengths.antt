@@ -5,7 +5,7 @@ use Rattle.std.specs.Option.{ok_or}
 use Rattle.std.proofs.lemmas.Bool.{cases_Bool, eqb-true, or_cases}
 use Rattle.std.proofs.lemmas.Bool.Decides.{nat_tests}
 use Rattle.wot_types.specs.Fingerprint.{IsFprLength}
-use Rattle.wot_spelling.specs.declared.stop.Stop.TheVariants.{NoSpelling}
+use Rattle.wot_spelling.specs.declared.no_value.NoValue.TheVariants.{NoSpelling}
 use Rattle.wot_spelling.specs.Reading.{Gives, number_1_at, bytes_at, is_fpr, fpr_at}
 use Rattle.wot_spelling.specs.Checks.{is_scope}
 

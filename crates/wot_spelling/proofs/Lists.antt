@@ -6,8 +6,8 @@ use Rattle.std.proofs.lemmas.List.{append-nil, flat_map_more, length-append, tak
 use Rattle.std.proofs.lemmas.List.Concat.{flat_map-cons}
 use Rattle.std.proofs.lemmas.List.Elements.{All-push}
 use Rattle.std.proofs.lemmas.List.Folds.{length-flat_map-take}
-use Rattle.wot_spelling.specs.declared.stop.Stop.{Stop}
-use Rattle.wot_spelling.specs.declared.stop.Stop.TheVariants.{NoSpelling, Memory}
+use Rattle.wot_spelling.specs.declared.no_value.NoValue.{NoValue}
+use Rattle.wot_spelling.specs.declared.no_value.NoValue.TheVariants.{NoSpelling, Memory}
 use Rattle.wot_types.specs.Spelling.{number_4, list_bytes}
 use Rattle.wot_spelling.specs.Reading.{◌>>=◌, Read, Gives, many_at}
 
@@ -27,7 +27,7 @@ goes_on at front count i bytes x after total lt h so_far =
     let one : with_front front (many_at at (count - i) bytes) ≡ with_front (front ++ x ∷ []) (many_at at (count - (i + 1)) after) = rw (k, h) (regroup front x (many_at at (count - (i + 1)) after)) in
     sym one ∙ so_far
 
-pub ends : {A : Type 0} (at : Read A) (e : Stop) (front : List A) (count i : ℕ) (bytes rest : List ℕ) (total : Option (List A × List ℕ)) → i < count
+pub ends : {A : Type 0} (at : Read A) (e : NoValue) (front : List A) (count i : ℕ) (bytes rest : List ℕ) (total : Option (List A × List ℕ)) → i < count
     → Gives {A = A} (at bytes) (Err e) rest → with_front front (many_at at (count - i) bytes) ≡ total → Gives {A = List A} total (Err e) rest
 unfolding many_at
 ends at Memory front count i bytes rest total lt h so_far = tt

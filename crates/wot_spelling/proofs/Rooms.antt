@@ -10,14 +10,14 @@ use Rattle.wot_types.specs.declared.user.UserKind.TheVariants.{Uid, Uat}
 use Rattle.wot_types.specs.declared.ownertrust.Entry.{Entry}
 use Rattle.wot_types.specs.declared.row.Row.{Row}
 use Rattle.wot_types.specs.declared.key.Key.{Key}
-use Rattle.wot_types.specs.Spelling.{entry_bytes, IsShort, number_4, number_8, flag_bytes, text_bytes, scope_bytes, fpr_bytes, kind_bytes, list_bytes, cert_bytes, user_bytes, key_bytes, row_bytes}
+use Rattle.wot_types.specs.Spelling.{entry_bytes, FitsItsLength, number_4, number_8, flag_bytes, text_bytes, scope_bytes, fpr_bytes, kind_bytes, list_bytes, cert_bytes, user_bytes, key_bytes, row_bytes}
 use Rattle.wot_spelling.proofs.Lists.{few_parts}
 
 text_len : (t : List ℕ) → length (text_bytes t) ≡ 4 + length t
 unfolding text_bytes number_4
 text_len t = omega (arith, length-append (number_4 (length t)) t)
 
-scope_room : (o : Option (List ℕ)) → length (scope_bytes o) < 2 ^ 32 → IfSome o IsShort
+scope_room : (o : Option (List ℕ)) → length (scope_bytes o) < 2 ^ 32 → IfSome o FitsItsLength
 unfolding scope_bytes
 scope_room None h = tt
 scope_room (Some t) h = omega (arith, text_len t, length-append (flag_bytes true) (text_bytes t))
@@ -50,13 +50,13 @@ pub entry_some : (e : Entry) → 0 < length (entry_bytes e)
 unfolding entry_bytes fpr_bytes
 entry_some e = some_front (length e.fpr ∷ e.fpr) _ (omega arith)
 
-pub cert_room : (c : Cert) → length (cert_bytes WithFpr c) < 2 ^ 32 → IfSome c.scope IsShort
+pub cert_room : (c : Cert) → length (cert_bytes WithFpr c) < 2 ^ 32 → IfSome c.scope FitsItsLength
 unfolding cert_bytes
 cert_room c h = let k = simp length-append at h in scope_room c.scope (omega arith)
 
 pub record UserRoom (u : User) : Type 0 where
-  pub text : IsShort u.text
-  pub hash : IsShort u.hash
+  pub text : FitsItsLength u.text
+  pub hash : FitsItsLength u.hash
   pub few : length u.certs < 2 ^ 32
   pub certs : length (list_bytes (cert_bytes WithFpr) u.certs) < 2 ^ 32
 
@@ -68,7 +68,7 @@ user_room u h =
     record { text = omega (arith, text_len u.text); hash = omega (arith, text_len u.hash); few = few_parts (cert_bytes WithFpr) u.certs cert_some certs; certs = certs }
 
 pub record KeyRoom (k : Key) : Type 0 where
-  pub caps : IsShort k.caps
+  pub caps : FitsItsLength k.caps
   pub few : length k.users < 2 ^ 32
   pub users : length (list_bytes (user_bytes WithFpr) k.users) < 2 ^ 32
 
@@ -83,6 +83,6 @@ pub row_some : (r : Row) → 0 < length (row_bytes r)
 unfolding row_bytes
 row_some r = some_front (number_8 r.key) _ (number_8_some r.key)
 
-pub row_room : (r : Row) → length (row_bytes r) < 2 ^ 32 → IfSome r.scope IsShort
+pub row_room : (r : Row) → length (row_bytes r) < 2 ^ 32 → IfSome r.scope FitsItsLength
 unfolding row_bytes
 row_room r h = let k = simp length-append at h in scope_room r.scope (omega arith)

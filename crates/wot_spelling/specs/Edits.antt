@@ -8,8 +8,8 @@ use Rattle.wot_types.specs.declared.trust.Trust.{Trust}
 use Rattle.wot_types.specs.declared.ownertrust.Entry.{Entry}
 use Rattle.wot_types.specs.declared.edit.Edit.{Edit}
 use Rattle.wot_types.specs.declared.edit.Edit.TheVariants.{Import, Ownertrust, Set, Flag, Delete, Date, Options as SetOptions, Sample}
-use Rattle.wot_spelling.specs.declared.stop.Stop.{Stop}
-use Rattle.wot_spelling.specs.declared.stop.Stop.TheVariants.{NoSpelling, Memory}
+use Rattle.wot_spelling.specs.declared.no_value.NoValue.{NoValue}
+use Rattle.wot_spelling.specs.declared.no_value.NoValue.TheVariants.{NoSpelling, Memory}
 use Rattle.wot_spelling.specs.Reading.{◌>>=◌, Read, ◌&◌, made, kept, number_1_at, number_4_at, number_8_at, flag_at, entry_at, fpr_at, trust_at, list_at, key_at, options_at}
 use Rattle.wot_spelling.specs.Checks.{are_importable, are_settable, is_in_range, is_sample_count}
 
@@ -60,7 +60,7 @@ unfoldable pub edit_of : List ℕ → Option Edit
 edit_of bytes = edit_at bytes >>= λ x. if length x.1 == 0 then Some x.0 else None
 
 -- what a reader of all the bytes gave; want of memory says nothing
-abbrev pub GivesAll : {A : Type 0} → Option A → Result A Stop → Type 0
+abbrev pub GivesAll : {A : Type 0} → Option A → Result A NoValue → Type 0
 GivesAll read (Ok x) = read ≡ Some x
 GivesAll read (Err NoSpelling) = read ≡ None
 GivesAll read (Err Memory) = Unit {0}

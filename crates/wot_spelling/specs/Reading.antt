@@ -19,20 +19,20 @@ use Rattle.wot_types.specs.declared.ownertrust.Ownertrust.{Ownertrust}
 use Rattle.wot_types.specs.Ownertrust.{entry_of}
 use Rattle.wot_types.specs.OwnertrustText.{ownertrust_of_number}
 use Rattle.wot_types.specs.Trust.{trust_of_number}
-use Rattle.wot_spelling.specs.declared.stop.Stop.{Stop}
-use Rattle.wot_spelling.specs.declared.stop.Stop.TheVariants.{NoSpelling, Memory}
+use Rattle.wot_spelling.specs.declared.no_value.NoValue.{NoValue}
+use Rattle.wot_spelling.specs.declared.no_value.NoValue.TheVariants.{NoSpelling, Memory}
 
 -- a reader of a part: the part at the front of the bytes and the rest
 abbrev pub Read : Type 0 → Type 0
 Read A = List ℕ → Option (A × List ℕ)
 
 -- what a call gave, which leaves these bytes; want of memory says nothing
-abbrev pub GivesSeen : {X A : Type 0} → (X → A) → Option (A × List ℕ) → Result X Stop → List ℕ → Type 0
+abbrev pub GivesSeen : {X A : Type 0} → (X → A) → Option (A × List ℕ) → Result X NoValue → List ℕ → Type 0
 GivesSeen view read (Ok x) rest = read ≡ Some (view x, rest)
 GivesSeen view read (Err NoSpelling) rest = read ≡ None
 GivesSeen view read (Err Memory) rest = Unit {0}
 
-abbrev pub Gives : {A : Type 0} → Option (A × List ℕ) → Result A Stop → List ℕ → Type 0
+abbrev pub Gives : {A : Type 0} → Option (A × List ℕ) → Result A NoValue → List ℕ → Type 0
 Gives read result rest = GivesSeen (λ x. x) read result rest
 
 infixl 10 ◌>>=◌

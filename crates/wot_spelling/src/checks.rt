@@ -1,6 +1,7 @@
 //! What is tested of the values that were read.
 
 ghost use Rattle.std.specs.Prelude.{◌≡◌, ◌==◌, ◌&&◌, not, IfOk};
+ghost use Rattle.std.specs.Option.{option_copied};
 ghost use Rattle.std.specs.List.{list_all};
 ghost use Rattle.wot_types.specs.Ownertrust.{is_unset, kept_of};
 ghost use Rattle.wot_types.specs.Records.{is_capability, is_hash_byte};
@@ -10,13 +11,13 @@ ghost use Rattle.wot_spelling.specs.Checks.{are_rising_entries, are_settable, ar
 use std::alloc::Global;
 use wot_marks::{Marks, add_mark, is_among_marked};
 use wot_types::{
-    Cert, Entry, Key, KeyId, LEAST_COMPLETES, LEAST_DEPTH, LEAST_LEVEL, LEAST_MARGINALS,
-    MOST_CERTS, MOST_LEVEL, MOST_SAMPLE, MOST_SCOPE, MOST_USERS, Mem, Options, Row, Scope, User,
+    Entry, Key, KeyId, LEAST_COMPLETES, LEAST_DEPTH, LEAST_LEVEL, LEAST_MARGINALS, MOST_CERTS,
+    MOST_LEVEL, MOST_SAMPLE, MOST_SCOPE, MOST_USERS, Mem, Options, PackedCert, Row, Scope, User,
     is_capability, is_hash_byte, is_kept_class,
 };
 
-fn has_scope(scope: &Option<Scope>) -> bool
-    ensures { result ≡ has_scope scope.now }
+fn has_scope(scope: Option<&Scope>) -> bool
+    ensures { result ≡ has_scope (option_copied scope.entry) }
 {
     match scope {
         None => true,
@@ -25,10 +26,10 @@ fn has_scope(scope: &Option<Scope>) -> bool
 }
 
 #[tactic(auto, unfolding(crate::specs::Checks::is_cert))]
-fn is_cert(id: KeyId, cert: &Cert) -> bool
+fn is_cert(id: KeyId, cert: &PackedCert) -> bool
     ensures { result ≡ is_cert id cert.now }
 {
-    cert.issuer != id && is_kept_class(cert.class) && has_scope(&cert.scope)
+    cert.issuer() != id && is_kept_class(cert.class()) && has_scope(cert.scope())
 }
 
 fn is_hash(bytes: &[u8]) -> bool
@@ -43,7 +44,7 @@ fn are_capabilities(bytes: &[u8]) -> bool
     bytes.iter().all(|b| is_capability(*b))
 }
 
-fn are_certs(id: KeyId, certs: &[Cert]) -> bool
+fn are_certs(id: KeyId, certs: &[PackedCert]) -> bool
     ensures { result ≡ list_all (is_cert id) certs.now }
 {
     certs.iter().all(|cert| is_cert(id, cert))
@@ -218,7 +219,7 @@ pub fn are_settable(entries: &[Entry]) -> bool
 fn have_scopes(rows: &[Row]) -> bool
     ensures { result ≡ list_all (λ row. has_scope row.scope) rows.now }
 {
-    rows.iter().all(|row| has_scope(&row.scope))
+    rows.iter().all(|row| has_scope(row.scope.as_ref()))
 }
 
 #[tactic(auto, unfolding(crate::specs::Stored::are_rising_rows))]

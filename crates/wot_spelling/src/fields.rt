@@ -4,7 +4,7 @@ ghost use Rattle.std.specs.Prelude.{◌≡◌, ◌<◌, ◌^◌, ◌++◌, List,
 ghost use Rattle.wot_types.specs.declared.cert.Cert.{Cert as CertSeen};
 ghost use Rattle.wot_types.specs.declared.cert.Form.TheVariants.{WithFpr};
 ghost use Rattle.wot_types.specs.declared.user.User.{User as UserSeen};
-ghost use Rattle.wot_types.specs.Spelling.{CertFits, IsShort, KeyFits, ListFits, UserFits, cert_bytes, flag_bytes, key_bytes, list_bytes, number_4, user_bytes};
+ghost use Rattle.wot_types.specs.Spelling.{CertFits, FitsItsLength, KeyFits, ListFits, UserFits, cert_bytes, flag_bytes, key_bytes, list_bytes, number_4, user_bytes};
 ghost use Rattle.wot_spelling.specs.Fields.{key_with, user_with};
 
 use crate::numbers::number_4;
@@ -37,7 +37,7 @@ pub struct UserFields<'a> {
 impl Writer {
     /// A key up to its user IDs: with the list of these behind it, it is spelled.
     pub fn key_fields(&mut self, fields: &KeyFields<'_>) -> Result<(), Mem>
-        requires { IsShort fields.now.caps.now }
+        requires { FitsItsLength fields.now.caps.now }
         ensures ok { (users : List UserSeen) → OnOk result (self.new ++ list_bytes (user_bytes WithFpr) users ≡ self.old ++ key_bytes WithFpr (key_with fields.now users)) }
         ensures fits { (users : List UserSeen) → ListFits (UserFits WithFpr) users → OnOk result (KeyFits WithFpr (key_with fields.now users)) }
     {
@@ -49,8 +49,8 @@ impl Writer {
 
     /// A user ID up to its certifications: with the list of these behind it, it is spelled.
     pub fn user_fields(&mut self, fields: &UserFields<'_>) -> Result<(), Mem>
-        requires text { IsShort fields.now.text.now }
-        requires hash { IsShort fields.now.hash.now }
+        requires text { FitsItsLength fields.now.text.now }
+        requires hash { FitsItsLength fields.now.hash.now }
         ensures ok { (certs : List CertSeen) → OnOk result (self.new ++ list_bytes (cert_bytes WithFpr) certs ≡ self.old ++ user_bytes WithFpr (user_with fields.now certs)) }
         ensures fits { (certs : List CertSeen) → ListFits (CertFits WithFpr) certs → OnOk result (UserFits WithFpr (user_with fields.now certs)) }
     {

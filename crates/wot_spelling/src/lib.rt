@@ -7,13 +7,13 @@ mod numbers; // the bytes of numbers
 mod payload; // the payloads of edits
 mod reader; // reading parts from the front
 mod sizes; // how many bytes a payload has
-mod stop; // why a value could not be read
+mod no_value; // why a value could not be read
 mod values; // the values that stand in lists
 mod writer; // writing parts at the end
 
 pub use fields::{KeyFields, UserFields};
+pub use no_value::NoValue;
 pub use payload::{decode, encode, encode_with_length, one_payload};
 pub use reader::{Part, Reader};
 pub use sizes::payload_length;
-pub use stop::Stop;
 pub use writer::Writer;

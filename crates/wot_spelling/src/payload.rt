@@ -11,112 +11,133 @@ ghost use Rattle.wot_types.specs.Spelling.{text_bytes};
 ghost use Rattle.wot_spelling.specs.Edits.{GivesAll, edit_at, edit_of, entries_at, keys_at, range_at, sample_count_at};
 
 use crate::checks::{are_importable, are_settable, are_stored, is_in_range, is_sample_count};
+use crate::no_value::NoValue;
 use crate::reader::Reader;
 use crate::sizes::payload_length;
-use crate::stop::Stop;
 use crate::writer::Writer;
 use std::alloc::Global;
 use wot_types::{Edit, Entries, Entry, Form, Format, Key, Keys, List, Mem, Options, Row};
 
+// The first byte of a payload says which edit it is.
+
+/// An import whose certifications name no fingerprint. It is read and not written.
+const IMPORT_WITHOUT_FPRS: u8 = 1;
+
+const OWNERTRUST: u8 = 2;
+
+const SET: u8 = 3;
+
+const FLAG: u8 = 4;
+
+const DELETE: u8 = 5;
+
+const DATE: u8 = 6;
+
+const OPTIONS: u8 = 7;
+
+const SAMPLE: u8 = 8;
+
+const IMPORT: u8 = 9;
+
 impl<'a> Reader<'a> {
     /// Keys to import: well formed, in strictly rising order of their key IDs.
     #[tactic(auto, unfolding(crate::specs::Edits::keys_at))]
-    pub fn keys(&mut self, alloc: Global, form: Form) -> Result<Keys, Stop>
+    pub fn keys(&mut self, alloc: Global, form: Form) -> Result<Keys, NoValue>
         ensures { Gives (keys_at form self.old) result self.new }
     {
         let keys = self.list::<Key>(alloc, form)?;
         if are_importable(alloc, keys.as_slice())? {
             Ok(keys)
         } else {
-            Err(Stop::NoSpelling)
+            Err(NoValue::NoSpelling)
         }
     }
 
     /// Options in their ranges.
     #[tactic(auto, unfolding(crate::specs::Edits::range_at))]
-    pub fn range(&mut self) -> Result<Options, Stop>
+    pub fn range(&mut self) -> Result<Options, NoValue>
         ensures { Gives (range_at self.old) result self.new }
     {
         let options = self.options()?;
         if is_in_range(&options) {
             Ok(options)
         } else {
-            Err(Stop::NoSpelling)
+            Err(NoValue::NoSpelling)
         }
     }
 
     /// Entries to set, in strictly rising order of their fingerprints.
     #[tactic(auto, unfolding(crate::specs::Edits::entries_at))]
-    pub fn entries(&mut self, alloc: Global) -> Result<Entries, Stop>
+    pub fn entries(&mut self, alloc: Global) -> Result<Entries, NoValue>
         ensures { Gives (entries_at self.old) result self.new }
     {
         let entries = self.list::<Entry>(alloc, ())?;
         if are_settable(entries.as_slice()) {
             Ok(entries)
         } else {
-            Err(Stop::NoSpelling)
+            Err(NoValue::NoSpelling)
         }
     }
 
     /// Rows with regular expressions of 1 to 255 bytes, in strictly rising order of their key IDs.
     #[tactic(auto, unfolding(crate::specs::Stored::rows_at))]
-    pub fn rows(&mut self, alloc: Global, format: Format) -> Result<List<Row>, Stop>
+    pub fn rows(&mut self, alloc: Global, format: Format) -> Result<List<Row>, NoValue>
         ensures { Gives (rows_at format self.old) result self.new }
     {
         let rows = self.list::<Row>(alloc, format)?;
         if are_stored(rows.as_slice()) {
             Ok(rows)
         } else {
-            Err(Stop::NoSpelling)
+            Err(NoValue::NoSpelling)
         }
     }
 
     /// How many keys a sample has, within its range.
     #[tactic(auto, unfolding(crate::specs::Edits::sample_count_at))]
-    fn sample_count(&mut self) -> Result<u32, Stop>
+    fn sample_count(&mut self) -> Result<u32, NoValue>
         ensures { Gives (sample_count_at self.old) result self.new }
     {
         let count = self.number_4()?;
         if is_sample_count(count) {
             Ok(count)
         } else {
-            Err(Stop::NoSpelling)
+            Err(NoValue::NoSpelling)
         }
     }
 
     #[tactic(auto, unfolding(crate::specs::Edits::edit_at))]
-    fn edit(&mut self, alloc: Global) -> Result<Edit, Stop>
+    fn edit(&mut self, alloc: Global) -> Result<Edit, NoValue>
         ensures { Gives (edit_at self.old) result self.new }
     {
         match self.number_1()? {
-            1 => Ok(Edit::Import(self.keys(alloc, Form::WithoutFpr)?)),
-            2 => Ok(Edit::Ownertrust(self.entries(alloc)?)),
-            3 => {
+            IMPORT_WITHOUT_FPRS => Ok(Edit::Import(self.keys(alloc, Form::WithoutFpr)?)),
+            OWNERTRUST => Ok(Edit::Ownertrust(self.entries(alloc)?)),
+            SET => {
                 let fpr = self.fpr()?;
                 let trust = self.trust()?;
                 Ok(Edit::Set(fpr, trust))
             }
-            4 => {
+            FLAG => {
                 let fpr = self.fpr()?;
                 let disabled = self.flag()?;
                 Ok(Edit::Flag(fpr, disabled))
             }
-            5 => Ok(Edit::Delete(self.key_id()?)),
-            6 => Ok(Edit::Date(self.number_4()?)),
-            7 => Ok(Edit::Options(self.range()?)),
-            8 => {
+            DELETE => Ok(Edit::Delete(self.key_id()?)),
+            DATE => Ok(Edit::Date(self.number_4()?)),
+            OPTIONS => Ok(Edit::Options(self.range()?)),
+            SAMPLE => {
                 let seed = self.number_8()?;
                 let count = self.sample_count()?;
                 Ok(Edit::Sample(seed, count))
             }
-            9 => Ok(Edit::Import(self.keys(alloc, Form::WithFpr)?)),
-            _ => Err(Stop::NoSpelling),
+            IMPORT => Ok(Edit::Import(self.keys(alloc, Form::WithFpr)?)),
+            _ => Err(NoValue::NoSpelling),
         }
     }
 }
 
 #[tactic(auto, unfolding(crate::specs::Edits::edit_of))]
-fn read_edit(alloc: Global, bytes: &[u8]) -> Result<Edit, Stop>
+fn read_edit(alloc: Global, bytes: &[u8]) -> Result<Edit, NoValue>
     ensures { GivesAll (edit_of bytes.now) result }
 {
     let mut reader = Reader::new(bytes);
@@ -124,7 +145,7 @@ fn read_edit(alloc: Global, bytes: &[u8]) -> Result<Edit, Stop>
     if reader.is_empty() {
         Ok(edit)
     } else {
-        Err(Stop::NoSpelling)
+        Err(NoValue::NoSpelling)
     }
 }
 
@@ -136,37 +157,37 @@ fn write_edit(writer: &mut Writer, edit: &Edit) -> Result<(), Mem>
 {
     match edit {
         Edit::Import(keys) => {
-            writer.number_1(9)?;
+            writer.number_1(IMPORT)?;
             writer.list(keys)
         }
         Edit::Ownertrust(entries) => {
-            writer.number_1(2)?;
+            writer.number_1(OWNERTRUST)?;
             writer.list(entries)
         }
         Edit::Set(fpr, trust) => {
-            writer.number_1(3)?;
+            writer.number_1(SET)?;
             writer.fpr(fpr)?;
             writer.trust(*trust)
         }
         Edit::Flag(fpr, disabled) => {
-            writer.number_1(4)?;
+            writer.number_1(FLAG)?;
             writer.fpr(fpr)?;
             writer.flag(*disabled)
         }
         Edit::Delete(id) => {
-            writer.number_1(5)?;
+            writer.number_1(DELETE)?;
             writer.key_id(*id)
         }
         Edit::Date(date) => {
-            writer.number_1(6)?;
+            writer.number_1(DATE)?;
             writer.number_4(*date)
         }
         Edit::Options(options) => {
-            writer.number_1(7)?;
+            writer.number_1(OPTIONS)?;
             writer.options(options)
         }
         Edit::Sample(seed, count) => {
-            writer.number_1(8)?;
+            writer.number_1(SAMPLE)?;
             writer.number_8(*seed)?;
             writer.number_4(*count)
         }
@@ -207,8 +228,8 @@ pub fn decode(alloc: Global, bytes: &[u8]) -> Result<Option<Edit>, Mem>
 {
     match read_edit(alloc, bytes) {
         Ok(edit) => Ok(Some(edit)),
-        Err(Stop::NoSpelling) => Ok(None),
-        Err(Stop::Memory) => Err(Mem::Memory),
+        Err(NoValue::NoSpelling) => Ok(None),
+        Err(NoValue::Memory) => Err(Mem::Memory),
     }
 }
 

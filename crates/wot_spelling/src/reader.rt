@@ -3,7 +3,7 @@
 ghost use Rattle.std.specs.Prelude.{◌≡◌, ◌==◌, ◌<◌, ◌^◌, ◌++◌, OnOk, length};
 ghost use Rattle.wot_spelling.specs.Reading.{Gives, GivesSeen, bytes_at, number_1_at, number_4_at, number_8_at, flag_at, text_at, scope_at, via_at, fpr_at, issuer_fpr_at, trust_at, ownertrust_at, user_kind_at, options_at, list_at};
 
-use crate::stop::Stop;
+use crate::no_value::NoValue;
 use crate::writer::Writer;
 use std::alloc::Global;
 use std::marker::Model;
@@ -44,7 +44,11 @@ pub trait Part: Drop {
     /// The part at the front of the bytes.
     ghost at: { Self.Spelling → List ℕ → Option (Self × List ℕ) };
 
-    fn read(alloc: Global, spelling: Self::Spelling, reader: &mut Reader<'_>) -> Result<Self, Stop>
+    fn read(
+        alloc: Global,
+        spelling: Self::Spelling,
+        reader: &mut Reader<'_>,
+    ) -> Result<Self, NoValue>
         ensures { Gives (at spelling reader.old) result reader.new };
 
     fn write(&self, writer: &mut Writer) -> Result<(), Mem>
@@ -75,20 +79,20 @@ impl<'a> Reader<'a> {
     }
 
     #[tactic(auto, unfolding(crate::specs::Reading::bytes_at))]
-    fn bytes(&mut self, n: usize) -> Result<&'a [u8], Stop>
+    fn bytes(&mut self, n: usize) -> Result<&'a [u8], NoValue>
         ensures { GivesSeen (λ b. b.now) (bytes_at n self.old) result self.new }
     {
-        let (front, rest) = self.rest.split_at_checked(n).ok_or(Stop::NoSpelling)?;
+        let (front, rest) = self.rest.split_at_checked(n).ok_or(NoValue::NoSpelling)?;
         self.rest = rest;
         Ok(front)
     }
 
     #[tactic(auto, unfolding(crate::specs::Reading::number_1_at))]
-    pub fn number_1(&mut self) -> Result<u8, Stop>
+    pub fn number_1(&mut self) -> Result<u8, NoValue>
         ensures { Gives (number_1_at self.old) result self.new }
     {
         match self.rest {
-            [] => Err(Stop::NoSpelling),
+            [] => Err(NoValue::NoSpelling),
             [byte, rest @ ..] => {
                 self.rest = rest;
                 Ok(*byte)
@@ -97,44 +101,50 @@ impl<'a> Reader<'a> {
     }
 
     #[tactic(auto, unfolding(crate::specs::Reading::number_4_at, crate::specs::Reading::bytes_at))]
-    pub fn number_4(&mut self) -> Result<u32, Stop>
+    pub fn number_4(&mut self) -> Result<u32, NoValue>
         ensures { Gives (number_4_at self.old) result self.new }
     {
-        let (front, rest) = self.rest.split_first_chunk::<4>().ok_or(Stop::NoSpelling)?;
+        let (front, rest) = self
+            .rest
+            .split_first_chunk::<4>()
+            .ok_or(NoValue::NoSpelling)?;
         self.rest = rest;
         Ok(u32::from_be_bytes(*front))
     }
 
     #[tactic(auto, unfolding(crate::specs::Reading::number_8_at, crate::specs::Reading::bytes_at))]
-    pub fn number_8(&mut self) -> Result<u64, Stop>
+    pub fn number_8(&mut self) -> Result<u64, NoValue>
         ensures { Gives (number_8_at self.old) result self.new }
     {
-        let (front, rest) = self.rest.split_first_chunk::<8>().ok_or(Stop::NoSpelling)?;
+        let (front, rest) = self
+            .rest
+            .split_first_chunk::<8>()
+            .ok_or(NoValue::NoSpelling)?;
         self.rest = rest;
         Ok(u64::from_be_bytes(*front))
     }
 
-    pub fn key_id(&mut self) -> Result<KeyId, Stop>
+    pub fn key_id(&mut self) -> Result<KeyId, NoValue>
         ensures { Gives (number_8_at self.old) result self.new }
     {
         Ok(KeyId(self.number_8()?))
     }
 
     #[tactic(auto, unfolding(crate::specs::Reading::flag_at))]
-    pub fn flag(&mut self) -> Result<bool, Stop>
+    pub fn flag(&mut self) -> Result<bool, NoValue>
         ensures { Gives (flag_at self.old) result self.new }
     {
         let (flag, rest) = match self.rest {
             [0, rest @ ..] => (false, rest),
             [1, rest @ ..] => (true, rest),
-            _ => return Err(Stop::NoSpelling),
+            _ => return Err(NoValue::NoSpelling),
         };
         self.rest = rest;
         Ok(flag)
     }
 
     #[tactic(auto, unfolding(crate::specs::Reading::text_at))]
-    pub fn text(&mut self, alloc: Global) -> Result<Text, Stop>
+    pub fn text(&mut self, alloc: Global) -> Result<Text, NoValue>
         ensures { Gives (text_at self.old) result self.new }
     {
         let length = self.number_4()?;
@@ -143,7 +153,7 @@ impl<'a> Reader<'a> {
     }
 
     #[tactic(auto, unfolding(crate::specs::Reading::scope_at))]
-    pub fn scope(&mut self, alloc: Global) -> Result<Option<Scope>, Stop>
+    pub fn scope(&mut self, alloc: Global) -> Result<Option<Scope>, NoValue>
         ensures { Gives (scope_at self.old) result self.new }
     {
         if !self.flag()? {
@@ -155,7 +165,7 @@ impl<'a> Reader<'a> {
 
     /// Who delegated to an introducer, which rows of the older formats don't tell.
     #[tactic(auto, unfolding(crate::specs::Reading::via_at))]
-    pub fn via(&mut self, format: Format) -> Result<Option<KeyId>, Stop>
+    pub fn via(&mut self, format: Format) -> Result<Option<KeyId>, NoValue>
         ensures { Gives (via_at format self.old) result self.new }
     {
         match format {
@@ -171,17 +181,17 @@ impl<'a> Reader<'a> {
     }
 
     #[tactic(auto, unfolding(crate::specs::Reading::fpr_at))]
-    pub fn fpr(&mut self) -> Result<Fpr, Stop>
+    pub fn fpr(&mut self) -> Result<Fpr, NoValue>
         ensures { Gives (fpr_at self.old) result self.new }
     {
         let length = self.number_1()?;
         let bytes = self.bytes(usize::from(length))?;
-        Fpr::from_bytes(bytes).ok_or(Stop::NoSpelling)
+        Fpr::from_bytes(bytes).ok_or(NoValue::NoSpelling)
     }
 
     /// The fingerprint of a certification's issuer, which the first form doesn't have.
     #[tactic(auto, unfolding(crate::specs::Reading::issuer_fpr_at))]
-    pub fn issuer_fpr(&mut self, form: Form) -> Result<Option<Fpr>, Stop>
+    pub fn issuer_fpr(&mut self, form: Form) -> Result<Option<Fpr>, NoValue>
         ensures { Gives (issuer_fpr_at form self.old) result self.new }
     {
         match form {
@@ -197,24 +207,24 @@ impl<'a> Reader<'a> {
     }
 
     #[tactic(auto, unfolding(crate::specs::Reading::trust_at))]
-    pub fn trust(&mut self) -> Result<Trust, Stop>
+    pub fn trust(&mut self) -> Result<Trust, NoValue>
         ensures { Gives (trust_at self.old) result self.new }
     {
         let number = self.number_1()?;
-        Trust::from_number(number).ok_or(Stop::NoSpelling)
+        Trust::from_number(number).ok_or(NoValue::NoSpelling)
     }
 
     /// A trust number, plus 128 where the key is disabled.
     #[tactic(auto, unfolding(crate::specs::Reading::ownertrust_at))]
-    pub fn ownertrust(&mut self) -> Result<Ownertrust, Stop>
+    pub fn ownertrust(&mut self) -> Result<Ownertrust, NoValue>
         ensures { Gives (ownertrust_at self.old) result self.new }
     {
         let number = self.number_1()?;
-        Ownertrust::from_number(u32::from(number)).ok_or(Stop::NoSpelling)
+        Ownertrust::from_number(u32::from(number)).ok_or(NoValue::NoSpelling)
     }
 
     #[tactic(auto, unfolding(crate::specs::Reading::user_kind_at))]
-    pub fn user_kind(&mut self) -> Result<UserKind, Stop>
+    pub fn user_kind(&mut self) -> Result<UserKind, NoValue>
         ensures { Gives (user_kind_at self.old) result self.new }
     {
         if self.flag()? {
@@ -225,7 +235,7 @@ impl<'a> Reader<'a> {
     }
 
     #[tactic(auto, unfolding(crate::specs::Reading::options_at))]
-    pub fn options(&mut self) -> Result<Options, Stop>
+    pub fn options(&mut self) -> Result<Options, NoValue>
         ensures { Gives (options_at self.old) result self.new }
     {
         let pgp = self.flag()?;
@@ -245,7 +255,11 @@ impl<'a> Reader<'a> {
     #[tactic(auto, unfolding(crate::specs::Reading::list_at))]
     /// A count, and that many parts. Room for them is taken at once, and for no more than the bytes that are left can spell: what is kept grows
     /// with the bytes, whatever the count.
-    pub fn list<T: Part>(&mut self, alloc: Global, spelling: T::Spelling) -> Result<List<T>, Stop>
+    pub fn list<T: Part>(
+        &mut self,
+        alloc: Global,
+        spelling: T::Spelling,
+    ) -> Result<List<T>, NoValue>
         ensures { Gives (list_at (T.at spelling) self.old) result self.new }
     {
         let count = self.number_4()?;

@@ -1,11 +1,12 @@
 //! How many bytes a spelling has that is written. A count above 2^64 - 1 is given as 2^64 - 1.
 
 ghost use Rattle.std.specs.Prelude.{◌≡◌, length, sum_by};
+ghost use Rattle.std.specs.Option.{option_copied};
 ghost use Rattle.wot_types.specs.Payload.{payload};
 ghost use Rattle.wot_types.specs.Numbers.{capped};
 ghost use Rattle.wot_spelling.specs.Sizes.{cert_size, entry_size, issuer_fpr_size, key_size, payload_size, scope_size, user_size};
 
-use wot_types::{Cert, Edit, Entry, Fpr, Key, Scope, User};
+use wot_types::{Edit, Entry, Fpr, Key, PackedCert, Scope, User};
 
 /// The bytes of a flag, a class, a depth, an amount, a trust number, the length of a fingerprint, or the kind of an edit.
 const BYTE: u64 = 1;
@@ -26,8 +27,8 @@ const USER: u64 = BYTE + 2 * NUMBER + 2 * NUMBER + BYTE + NUMBER;
 const KEY: u64 = BYTE + 4 * NUMBER + BYTE + 2 * NUMBER;
 
 #[tactic(auto, unfolding(crate::specs::Sizes::scope_size))]
-fn scope_size(scope: &Option<Scope>) -> u64
-    ensures { result ≡ capped (scope_size scope.now) }
+fn scope_size(scope: Option<&Scope>) -> u64
+    ensures { result ≡ capped (scope_size (option_copied scope.entry)) }
 {
     match scope {
         None => BYTE,
@@ -46,14 +47,14 @@ fn issuer_fpr_size(named: &Option<Fpr>) -> u64
 }
 
 #[tactic(auto, unfolding(crate::specs::Sizes::cert_size))]
-fn cert_size(cert: &Cert) -> u64
+fn cert_size(cert: &PackedCert) -> u64
     ensures { result ≡ capped (cert_size cert.now) }
 {
-    CERT.saturating_add(scope_size(&cert.scope))
-        .saturating_add(issuer_fpr_size(&cert.issuer_fpr))
+    CERT.saturating_add(scope_size(cert.scope()))
+        .saturating_add(issuer_fpr_size(&cert.issuer_fpr()))
 }
 
-fn certs_size(certs: &[Cert]) -> u64
+fn certs_size(certs: &[PackedCert]) -> u64
     ensures { result ≡ capped (sum_by cert_size certs.now) }
 {
     let mut size = 0u64;

@@ -6,14 +6,14 @@ ghost use Rattle.wot_types.specs.declared.cert.Form.TheVariants.{WithFpr};
 ghost use Rattle.wot_spelling.specs.Reading.{cert_at, user_at, key_at, entry_at, row_at};
 
 use crate::fields::{KeyFields, UserFields};
+use crate::no_value::NoValue;
 use crate::numbers::{number_4, number_8};
 use crate::reader::{Part, Reader};
-use crate::stop::Stop;
 use crate::writer::Writer;
 use std::alloc::Global;
-use wot_types::{Cert, Entry, Form, Format, Key, Mem, Ownertrust, Row, User};
+use wot_types::{Cert, Entry, Form, Format, Key, Mem, Ownertrust, PackedCert, Row, User};
 
-impl Part for Cert {
+impl Part for PackedCert {
     type Spelling = Form;
 
     ghost bytes = { cert_bytes WithFpr };
@@ -23,7 +23,7 @@ impl Part for Cert {
     ghost at = { cert_at };
 
     #[tactic(auto, unfolding(crate::specs::Reading::cert_at))]
-    fn read(alloc: Global, form: Form, reader: &mut Reader<'_>) -> Result<Cert, Stop> {
+    fn read(alloc: Global, form: Form, reader: &mut Reader<'_>) -> Result<PackedCert, NoValue> {
         let issuer = reader.key_id()?;
         let class = reader.number_1()?;
         let local = reader.flag()?;
@@ -33,7 +33,7 @@ impl Part for Cert {
         let amount = reader.number_1()?;
         let scope = reader.scope(alloc)?;
         let issuer_fpr = reader.issuer_fpr(form)?;
-        Ok(Cert {
+        let cert = Cert {
             issuer,
             class,
             local,
@@ -43,33 +43,34 @@ impl Part for Cert {
             amount,
             scope,
             issuer_fpr,
-        })
+        };
+        Ok(PackedCert::pack(alloc, cert)?)
     }
 
     #[tactic(auto, unfolding(wot_types::specs::Spelling::cert_bytes, wot_types::specs::Spelling::scope_bytes))]
     fn write(&self, writer: &mut Writer) -> Result<(), Mem> {
         writer.bytes(&cert_numbers(self))?;
-        if let Some(scope) = &self.scope {
+        if let Some(scope) = self.scope() {
             writer.text(scope.as_text())?;
         }
-        writer.issuer_fpr(&self.issuer_fpr)
+        writer.issuer_fpr(&self.issuer_fpr())
     }
 }
 
 /// A certification up to the text of its scope. One piece is written faster than eight.
 #[tactic(auto, unfolding(wot_types::specs::Spelling::number_1, wot_types::specs::Spelling::number_4, wot_types::specs::Spelling::number_8, wot_types::specs::Spelling::flag_bytes))]
-fn cert_numbers(cert: &Cert) -> [u8; 21]
+fn cert_numbers(cert: &PackedCert) -> [u8; 21]
     ensures spelled { result ≡ number_8 cert.now.issuer ++ (number_1 cert.now.class ++ (flag_bytes cert.now.local ++ (number_4 cert.now.made ++ (number_4 cert.now.expires ++ (number_1 cert.now.depth ++ (number_1 cert.now.amount ++ flag_bytes (is_some cert.now.scope))))))) }
     ensures issuer { cert.now.issuer < 2 ^ 64 }
     ensures made { cert.now.made < 2 ^ 32 }
     ensures expires { cert.now.expires < 2 ^ 32 }
 {
-    let [i0, i1, i2, i3, i4, i5, i6, i7] = number_8(cert.issuer.0);
-    let [m0, m1, m2, m3] = number_4(cert.made);
-    let [e0, e1, e2, e3] = number_4(cert.expires);
-    let local = u8::from(cert.local);
-    let scope = u8::from(cert.scope.is_some());
-    let (class, depth, amount) = (cert.class, cert.depth, cert.amount);
+    let [i0, i1, i2, i3, i4, i5, i6, i7] = number_8(cert.issuer().0);
+    let [m0, m1, m2, m3] = number_4(cert.made());
+    let [e0, e1, e2, e3] = number_4(cert.expires());
+    let local = u8::from(cert.is_local());
+    let scope = u8::from(cert.scope().is_some());
+    let (class, depth, amount) = (cert.class(), cert.depth(), cert.amount());
     [
         i0, i1, i2, i3, i4, i5, i6, i7, class, local, m0, m1, m2, m3, e0, e1, e2, e3, depth,
         amount, scope,
@@ -86,14 +87,14 @@ impl Part for User {
     ghost at = { user_at };
 
     #[tactic(auto, unfolding(crate::specs::Reading::user_at))]
-    fn read(alloc: Global, form: Form, reader: &mut Reader<'_>) -> Result<User, Stop> {
+    fn read(alloc: Global, form: Form, reader: &mut Reader<'_>) -> Result<User, NoValue> {
         let kind = reader.user_kind()?;
         let text = reader.text(alloc)?;
         let hash = reader.text(alloc)?;
         let made = reader.number_4()?;
         let expires = reader.number_4()?;
         let revoked = reader.flag()?;
-        let certs = reader.list::<Cert>(alloc, form)?;
+        let certs = reader.list::<PackedCert>(alloc, form)?;
         Ok(User {
             kind,
             text,
@@ -129,7 +130,7 @@ impl Part for Key {
     ghost at = { key_at };
 
     #[tactic(auto, unfolding(crate::specs::Reading::key_at))]
-    fn read(alloc: Global, form: Form, reader: &mut Reader<'_>) -> Result<Key, Stop> {
+    fn read(alloc: Global, form: Form, reader: &mut Reader<'_>) -> Result<Key, NoValue> {
         let fpr = reader.fpr()?;
         let bits = reader.number_4()?;
         let algo = reader.number_4()?;
@@ -175,7 +176,7 @@ impl Part for Entry {
     ghost at = { λ _. entry_at };
 
     #[tactic(auto, unfolding(crate::specs::Reading::entry_at))]
-    fn read(_alloc: Global, _spelling: (), reader: &mut Reader<'_>) -> Result<Entry, Stop> {
+    fn read(_alloc: Global, _spelling: (), reader: &mut Reader<'_>) -> Result<Entry, NoValue> {
         let fpr = reader.fpr()?;
         let Ownertrust { trust, disabled } = reader.ownertrust()?;
         Ok(Entry {
@@ -206,7 +207,7 @@ impl Part for Row {
     ghost at = { row_at };
 
     #[tactic(auto, unfolding(crate::specs::Reading::row_at))]
-    fn read(alloc: Global, format: Format, reader: &mut Reader<'_>) -> Result<Row, Stop> {
+    fn read(alloc: Global, format: Format, reader: &mut Reader<'_>) -> Result<Row, NoValue> {
         let key = reader.key_id()?;
         let level = reader.number_1()?;
         let trust = reader.trust()?;

@@ -4,7 +4,7 @@ ghost use Rattle.std.specs.Prelude.{◌≡◌, ◌<◌, ◌≤◌, ◌-◌, ◌^
 ghost use Rattle.wot_types.specs.declared.cert.Form.TheVariants.{WithFpr};
 ghost use Rattle.wot_types.specs.Fingerprint.{IsFprLength};
 ghost use Rattle.wot_types.specs.Ownertrust.{ownertrust_number};
-ghost use Rattle.wot_types.specs.Spelling.{IsShort, ListFits, OptionsFit, number_1, number_4, number_8, flag_bytes, text_bytes, scope_bytes, via_bytes, fpr_bytes, issuer_fpr_bytes, trust_bytes, kind_bytes, options_bytes, list_bytes};
+ghost use Rattle.wot_types.specs.Spelling.{FitsItsLength, ListFits, OptionsFit, number_1, number_4, number_8, flag_bytes, text_bytes, scope_bytes, via_bytes, fpr_bytes, issuer_fpr_bytes, trust_bytes, kind_bytes, options_bytes, list_bytes};
 
 use crate::numbers::{number_4, number_8};
 use crate::reader::Part;
@@ -102,7 +102,7 @@ impl Writer {
 
     #[tactic(auto, unfolding(wot_types::specs::Spelling::text_bytes))]
     pub fn text(&mut self, text: &Text) -> Result<(), Mem>
-        requires { IsShort text.now }
+        requires { FitsItsLength text.now }
         ensures { OnOk result (self.new ≡ self.old ++ text_bytes text.now) }
     {
         let bytes = text.as_bytes();
@@ -128,7 +128,7 @@ impl Writer {
 
     #[tactic(auto, unfolding(wot_types::specs::Spelling::scope_bytes))]
     pub fn scope(&mut self, scope: &Option<Scope>) -> Result<(), Mem>
-        requires { IfSome scope.now IsShort }
+        requires { IfSome scope.now FitsItsLength }
         ensures { OnOk result (self.new ≡ self.old ++ scope_bytes scope.now) }
     {
         match scope {

@@ -19,7 +19,7 @@ use Rattle.wot_pages.specs.Pages.{contents_of}
 use Rattle.wot_store.specs.declared.header.Header.{Header}
 use Rattle.wot_store.specs.declared.place.Place.{Place}
 use Rattle.wot_site.proofs.Works.{works_weaker}
-use Rattle.wot_journal.specs.Record.{Framed, IsClosed, record_of, with_record, open_gate, most}
+use Rattle.wot_journal.specs.Record.{Framed, IsClosed, record_of, with_record, open_gate, most_side}
 use Rattle.wot_journal.specs.Commit.{IsUnchanged, IsCommitting, Commits}
 use Rattle.wot_journal.specs.Next.{HasRecord}
 use Rattle.wot_store.specs.Base.{base_fault, bytes_of, has_closed_gate, header_of, other_side}
@@ -100,7 +100,7 @@ module _ (side : Side) (bytes : List ℕ) (header : Header) (is : header_of byte
   }
 
   -- with one more record
-  module _ (spelling : List ℕ) (room : shown.end + length spelling + 6 ≤ most) where
+  module _ (spelling : List ℕ) (room : shown.end + length spelling + 6 ≤ most_side) where
     c : List ℕ
     c = with_record bytes shown.end spelling
 
@@ -149,7 +149,7 @@ module _ (side : Side) (bytes : List ℕ) (header : Header) (is : header_of byte
         first e = sym (ap (λ (l : List ℕ). get_or l 0 0) end_record) ∙ get_or-drop (shown.end + length spelling + 5) (with_record bytes shown.end spelling) 0 0
             ∙ ap (λ (k : ℕ). get_or (with_record bytes shown.end spelling) k 0) none ∙ e
 
-  module _ (edit : Edit) (spelled : IsWritten (payload edit) edit) (allowed : refusal_of shown.state edit ≡ None) (room : shown.end + length (payload edit) + 6 ≤ most) where
+  module _ (edit : Edit) (spelled : IsWritten (payload edit) edit) (allowed : refusal_of shown.state edit ≡ None) (room : shown.end + length (payload edit) + 6 ≤ most_side) where
     accepted : after_edit shown.state edit ≡ Some (state_after shown.state edit)
     accepted = rw allowed refl
 
@@ -184,7 +184,7 @@ module _ (side : Side) (bytes : List ℕ) (header : Header) (is : header_of byte
 
 -- appending, from what commits
 module _ (place : Place) (built : Framed) (shown : Store) (edit : Edit) (is_record : IsRecordOf built shown edit)
-    (room : built.end + length built.payload + 6 ≤ most) (x y : Seen) (stored : IsStored place shown x.disks) where
+    (room : built.end + length built.payload + 6 ≤ most_side) (x y : Seen) (stored : IsStored place shown x.disks) where
   here : IsShown (reads_of x.disks) place.side stored.header
   here = record { sound = stored.shows.sound; is_side = stored.side }
 
@@ -204,7 +204,7 @@ module _ (place : Place) (built : Framed) (shown : Store) (edit : Edit) (is_reco
   recorded_is = ap (λ (n : ℕ). with_record (bytes_of place.side (reads_of x.disks)) n built.payload) (sym is_record.place)
       ∙ ap (λ (l : List ℕ). with_record (bytes_of place.side (reads_of x.disks)) shown.end l) is_record.spells.is
 
-  fits : shown.end + length (payload edit) + 6 ≤ most
+  fits : shown.end + length (payload edit) + 6 ≤ most_side
   fits = omega (arith, is_record.place, ap (λ (l : List ℕ). length l) is_record.spells.is, room)
 
   recorded_header : header_of recorded ≡ Some stored.header

@@ -11,7 +11,7 @@ use Rattle.wot_site.specs.Seen.{Honestly, IfHonest, Seen}
 use Rattle.wot_site.specs.declared.side.Side.{Side}
 use Rattle.wot_site.specs.declared.side.Side.TheVariants.{Zero, One}
 use Rattle.wot_site.proofs.Works.{works_start, works_weaker}
-use Rattle.wot_journal.specs.Record.{most}
+use Rattle.wot_journal.specs.Record.{most_side}
 use Rattle.wot_types.specs.PagePlaces.{page_place, pages_needed}
 use Rattle.wot_pages.specs.Pages.{contents_for}
 use Rattle.wot_store.specs.declared.place.Place.{Place}
@@ -62,7 +62,7 @@ still_stored place shown after (Some x) stored = works_weaker _ _ x x (λ d show
 
 -- before the last epoch
 module _ (place : Place) (shown : Store) (image : List ℕ) (x y : Seen) (stored : IsStored place shown x.disks) (base : IsBaseOf (contents_for image) shown.state)
-    (room : page_place (pages_needed (length image)) < most) (small : place.epoch + 1 < 2 ^ 64) where
+    (room : page_place (pages_needed (length image)) < most_side) (small : place.epoch + 1 < 2 ^ 64) where
   abbrev pub after : Store
   after = record { state = shown.state; epoch = place.epoch + 1; end = page_place (pages_needed (length image)); base = shown.state; edits = [] }
 

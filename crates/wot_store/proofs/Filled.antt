@@ -5,7 +5,7 @@ use Rattle.std.proofs.lemmas.Bool.{cases_lt}
 use Rattle.std.proofs.lemmas.List.{drop-drop, get_or-take, length-append, length-take-le, take_at, take-take}
 use Rattle.std.proofs.lemmas.List.Elements.{All-nil, All-push, All-append, All-weaker}
 use Rattle.wot_site.specs.declared.range.Range.{Range}
-use Rattle.wot_site.specs.Disk.{Disk, IsImage, after_write, after_sync, settled_disk, bytes_after_write}
+use Rattle.wot_site.specs.Disk.{Disk, IsCrashImage, after_write, after_sync, settled_disk, bytes_after_write}
 use Rattle.wot_site.proofs.Images.{image_front, take_written, back_written, length_written, length_written_end}
 use Rattle.wot_journal.specs.Record.{IsClosed}
 use Rattle.wot_types.specs.PagePlaces.{page_place, pages_needed}
@@ -22,7 +22,7 @@ pub record IsFront (r : List ℕ) (d : Disk) : Type 0 where
   pub behind : All (λ (q : Range). 1 ≤ q.at) d.pending
   pub front : take 1 d.reads ≡ take 1 r
 
-pub front_closed : (r : List ℕ) → IsClosed r 0 → (d : Disk) → IsFront r d → (c : List ℕ) → IsImage d c → IsClosed c 0
+pub front_closed : (r : List ℕ) → IsClosed r 0 → (d : Disk) → IsFront r d → (c : List ℕ) → IsCrashImage d c → IsClosed c 0
 front_closed r gate d at c image =
     let same : take 1 c ≡ take 1 r = image_front 1 d c at.synced at.long at.behind image ∙ at.front in
     record {

@@ -8,7 +8,7 @@ use Rattle.std.proofs.lemmas.Option.{same_Some}
 use Rattle.wot_site.specs.Disk.{Image}
 use Rattle.wot_site.specs.declared.side.Side.{Side}
 use Rattle.wot_site.specs.declared.side.Side.TheVariants.{Zero, One}
-use Rattle.wot_journal.specs.Record.{IsClosed, open_gate, most}
+use Rattle.wot_journal.specs.Record.{IsClosed, open_gate, most_side}
 use Rattle.wot_types.specs.PagePlaces.{page_place}
 use Rattle.wot_pages.specs.Pages.{seal_fault}
 use Rattle.wot_store.specs.declared.header.Header.{Header}
@@ -81,17 +81,17 @@ shown_header c side header is = cases (header_of c.zero) (header_of c.one) refl 
 -- a base without a fault: its pages and the gate behind them lie within the side and its limit, and each seal is right
 pub record IsWhole (bytes : List ℕ) (header : Header) : Type 0 where
   pub within : page_place header.pages < length bytes
-  pub bound : page_place header.pages < most
+  pub bound : page_place header.pages < most_side
   pub sealed : seal_fault header.epoch header.pages bytes ≡ None
 
-pub fitting : (side : Side) (bytes : List ℕ) (header : Header) → page_place header.pages < min (length bytes) most → base_fault side bytes header ≡ option_map Seal (seal_fault header.epoch header.pages bytes)
+pub fitting : (side : Side) (bytes : List ℕ) (header : Header) → page_place header.pages < min (length bytes) most_side → base_fault side bytes header ≡ option_map Seal (seal_fault header.epoch header.pages bytes)
 fitting side bytes header fits = grind (arith, nat_tests)
 
-passing : (side : Side) (bytes : List ℕ) (header : Header) → min (length bytes) most ≤ page_place header.pages → base_fault side bytes header ≡ Some (Short side 24)
+passing : (side : Side) (bytes : List ℕ) (header : Header) → min (length bytes) most_side ≤ page_place header.pages → base_fault side bytes header ≡ Some (Short side 24)
 passing side bytes header past = grind (arith, nat_tests)
 
 pub whole_base : (side : Side) (bytes : List ℕ) (header : Header) → base_fault side bytes header ≡ None → IsWhole bytes header
-whole_base side bytes header none = elim (cases_lt (page_place header.pages) (min (length bytes) most)) [
+whole_base side bytes header none = elim (cases_lt (page_place header.pages) (min (length bytes) most_side)) [
   | inl fits ↦ record { within = omega arith; bound = omega arith; sealed = sealed (seal_fault header.epoch header.pages bytes) (sym (fitting side bytes header fits) ∙ none) }
   | inr past ↦ absurd (short (sym (passing side bytes header past) ∙ none))
 ]

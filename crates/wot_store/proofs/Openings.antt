@@ -13,7 +13,7 @@ use Rattle.wot_site.specs.Work.{Works}
 use Rattle.wot_site.specs.declared.side.Side.{Side}
 use Rattle.wot_site.specs.declared.side.Side.TheVariants.{Zero, One}
 use Rattle.wot_site.proofs.Works.{works_weaker, works_start}
-use Rattle.wot_journal.specs.Record.{most, open_gate}
+use Rattle.wot_journal.specs.Record.{most_side, open_gate}
 use Rattle.wot_types.specs.PagePlaces.{page_place, pages_needed}
 use Rattle.wot_pages.specs.Pages.{contents_for, contents_of}
 use Rattle.wot_pages.specs.Reading.{FindsFault, ReadsPages}
@@ -45,7 +45,7 @@ says_there R size bytes is low there =
     long R low = grind (arith, nat_tests)
 
 -- a first side is written
-module _ (sizes : Sizes) (image : List ℕ) (x y : Seen) (ready : IsReady sizes x.disks) (base : IsBaseOf (contents_for image) opening_state) (room : page_place (pages_needed (length image)) < most)
+module _ (sizes : Sizes) (image : List ℕ) (x y : Seen) (ready : IsReady sizes x.disks) (base : IsBaseOf (contents_for image) opening_state) (room : page_place (pages_needed (length image)) < most_side)
     (end : page_place (pages_needed (length image)) ≡ 4120) where
   first_image : (c : Image) → c.one ≡ x.disks.one.reads → c.zero ≡ base_bytes 1 image x.disks.zero.reads → IsShown c Zero (base_header 1 image) × Shows c new_store
   first_image c one zero =
@@ -227,10 +227,10 @@ lacks_base side header bad x y lacks = record { stays = lacks.stays; first = eit
     either (Some found) h = h
 
 -- the first page whose seal is wrong
-pub started : (pages size start : ℕ) → Some start ≡ (if nat_lt (page_place pages) (min size most) then Some (page_place pages) else None) → page_place pages < min size most
-started pages size start is = elim (cases_lt (page_place pages) (min size most)) [
+pub started : (pages size start : ℕ) → Some start ≡ (if nat_lt (page_place pages) (min size most_side) then Some (page_place pages) else None) → page_place pages < min size most_side
+started pages size start is = elim (cases_lt (page_place pages) (min size most_side)) [
   | inl fits ↦ fits
-  | inr past ↦ absurd (none (nat_lt (page_place pages) (min size most)) (not_less (page_place pages) (min size most) past) is)
+  | inr past ↦ absurd (none (nat_lt (page_place pages) (min size most_side)) (not_less (page_place pages) (min size most_side) past) is)
 ]
   where
     not_less : (a b : ℕ) → b ≤ a → nat_lt a b ≡ false
@@ -240,7 +240,7 @@ started pages size start is = elim (cases_lt (page_place pages) (min size most))
     none true e is = absurd (cc e)
     none false e is = cc is
 
-pub lacks_seal : (side : Side) (header : Header) (size page : ℕ) (x y : Seen) → size ≡ length (disk_of side x.disks).reads → page_place header.pages < min size most → FindsFault side header.epoch header.pages page x y
+pub lacks_seal : (side : Side) (header : Header) (size page : ℕ) (x y : Seen) → size ≡ length (disk_of side x.disks).reads → page_place header.pages < min size most_side → FindsFault side header.epoch header.pages page x y
     → LacksBase side header (Seal page) x y
 lacks_seal side header size page x y long fits found = record {
   stays = found.stays;
@@ -259,7 +259,7 @@ none_left None not = refl
 none_left (Some bad) not = absurd (not bad refl)
 
 -- pages that were read: their contents are a base, or none
-module _ (side : Side) (header : Header) (size : ℕ) (contents : List ℕ) (x y : Seen) (long : size ≡ length (disk_of side x.disks).reads) (fits : page_place header.pages < min size most)
+module _ (side : Side) (header : Header) (size : ℕ) (contents : List ℕ) (x y : Seen) (long : size ≡ length (disk_of side x.disks).reads) (fits : page_place header.pages < min size most_side)
     (read : ReadsPages side header.epoch header.pages contents x y) where
   whole_pages : base_fault side (disk_of side x.disks).reads header ≡ None
   whole_pages = fitting side (disk_of side x.disks).reads header (omega (arith, long, fits)) ∙ ap (λ (o : Option ℕ). option_map Seal o) read.whole

@@ -4,7 +4,7 @@ use Rattle.std.specs.Prelude.{◌&&◌, ◌==◌, is_none, nat_lt, nat_le, if◌
 use Rattle.std.specs.Option.{option_or}
 use Rattle.std.proofs.lemmas.Bool.Decides.{nat_tests}
 use Rattle.wot_types.specs.Store.{Store}
-use Rattle.wot_site.specs.Disk.{Disk, Disks, Image, IsImage, IsImageOf, disk_of, reads_of, settled_disk, with_disk}
+use Rattle.wot_site.specs.Disk.{Disk, Disks, Image, IsCrashImage, IsImageOf, disk_of, reads_of, settled_disk, with_disk}
 use Rattle.wot_site.specs.declared.side.Side.{Side}
 use Rattle.wot_site.specs.declared.side.Side.TheVariants.{Zero, One}
 use Rattle.wot_site.proofs.Images.{settled_image}
@@ -106,10 +106,10 @@ pub record OnImage (side : Side) (P : List ℕ → Type 0) (x : Disks) (c : Imag
 pub image_on : (side : Side) (P : List ℕ → Type 0) (x d : Disks) → x ≡ all_settled x → OnSide side P x d → (c : Image) → IsImageOf d c → OnImage side P x c
 image_on Zero P x d settled on c image =
     let one : d.one ≡ settled_disk x.one.reads = ap (λ (e : Disks). e.one) on.other ∙ ap (λ (e : Disks). e.one) settled in
-    record { here = on.images c.zero image.zero; other = settled_image x.one.reads c.one (subst (λ (e : Disk). IsImage e c.one) one image.one) }
+    record { here = on.images c.zero image.zero; other = settled_image x.one.reads c.one (subst (λ (e : Disk). IsCrashImage e c.one) one image.one) }
 image_on One P x d settled on c image =
     let zero : d.zero ≡ settled_disk x.zero.reads = ap (λ (e : Disks). e.zero) on.other ∙ ap (λ (e : Disks). e.zero) settled in
-    record { here = on.images c.one image.one; other = settled_image x.zero.reads c.zero (subst (λ (e : Disk). IsImage e c.zero) zero image.zero) }
+    record { here = on.images c.one image.one; other = settled_image x.zero.reads c.zero (subst (λ (e : Disk). IsCrashImage e c.zero) zero image.zero) }
 
 -- one side has other bytes, and nothing is pending
 pub record IsReplaced (side : Side) (bytes : List ℕ) (x y : Disks) : Type 0 where

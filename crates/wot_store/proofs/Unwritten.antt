@@ -3,7 +3,7 @@ use Rattle.std.proofs.Common.{◌≡◌, ◌⊎◌, inl, inr, ◌≤◌, List, [
 use Rattle.std.specs.List.{All}
 use Rattle.std.proofs.lemmas.List.{append-nil}
 use Rattle.std.proofs.lemmas.List.Elements.{All-append, All-cons, All-nil, All-weaker}
-use Rattle.wot_site.specs.Disk.{Disk, Disks, Image, IsImage, IsImageOf, Leaves, with_disk, after_sync, reads_of}
+use Rattle.wot_site.specs.Disk.{Disk, Disks, Image, IsCrashImage, IsImageOf, Leaves, with_disk, after_sync, reads_of}
 use Rattle.wot_site.specs.Seen.{Moment, Seen}
 use Rattle.wot_site.specs.Site.{Syncs, Stays, on_disk}
 use Rattle.wot_site.specs.Work.{Quiet, Works}
@@ -33,7 +33,7 @@ same_side : (d : Disk) → IsUnwritten d d
 same_side d = record { reads = refl; images = λ c image. image }
 
 synced_side : (d : Disk) → IsUnwritten d (after_sync d)
-synced_side d = record { reads = refl; images = λ c image. subst (IsImage d) (sym (settled_image d.reads c image)) (reads_image d) }
+synced_side d = record { reads = refl; images = λ c image. subst (IsCrashImage d) (sym (settled_image d.reads c image)) (reads_image d) }
 
 same_sides : (d : Disks) → AreUnwritten d d
 same_sides d = record { zero = same_side d.zero; one = same_side d.one }

@@ -5,7 +5,7 @@ use Rattle.std.proofs.lemmas.Nat.{from_be_bytes-to_be_bytes_8}
 use Rattle.wot_types.specs.State.{State}
 use Rattle.wot_store.specs.Base.{IsBaseOf}
 use Rattle.wot_site.specs.declared.side.Side.{Side}
-use Rattle.wot_journal.specs.Record.{IsClosed, most, open_gate}
+use Rattle.wot_journal.specs.Record.{IsClosed, most_side, open_gate}
 use Rattle.wot_types.specs.PagePlaces.{page_place, pages_needed}
 use Rattle.wot_pages.specs.Pages.{HasPages, contents_for, pages_for}
 use Rattle.wot_store.specs.declared.header.Header.{Header}
@@ -20,7 +20,7 @@ use Rattle.wot_store.proofs.Replaying.{reaches_start}
 abbrev pub base_header : ℕ → List ℕ → Header
 base_header epoch image = record { has_magic = true; epoch = epoch; pages = pages_needed (length image) }
 
-module _ (epoch : ℕ) (image r : List ℕ) (small : epoch < 2 ^ 64) (room : page_place (pages_needed (length image)) < most) where
+module _ (epoch : ℕ) (image r : List ℕ) (small : epoch < 2 ^ 64) (room : page_place (pages_needed (length image)) < most_side) where
   rest : List ℕ
   rest = drop (page_place (pages_needed (length image)) + 1) r
 

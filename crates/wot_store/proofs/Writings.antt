@@ -3,7 +3,7 @@ use Rattle.std.proofs.Common.{◌≡◌, ◌⊎◌, inl, inr, ⊎_elim, ℕ, ◌
 use Rattle.std.specs.Prelude.{slice_index}
 use Rattle.std.proofs.lemmas.Bool.{cases_eq, cases_lt}
 use Rattle.std.proofs.lemmas.List.{drop-drop}
-use Rattle.wot_site.specs.Disk.{Disk, Disks, IsImage, disk_of, with_disk, after_write, after_sync, settled_disk, bytes_after_write}
+use Rattle.wot_site.specs.Disk.{Disk, Disks, IsCrashImage, disk_of, with_disk, after_write, after_sync, settled_disk, bytes_after_write}
 use Rattle.wot_site.specs.Seen.{Honestly, IfHonest, Seen}
 use Rattle.wot_site.specs.Site.{Writes, WritesOrNot, Syncs, Stays}
 use Rattle.wot_site.specs.Work.{Works}
@@ -35,7 +35,7 @@ some_byte [] is = absurd (omega arith)
 some_byte (b ∷ c) is = omega arith
 
 -- the first byte of a settled side is written over
-module _ (bytes : List ℕ) (b : ℕ) (c : List ℕ) (some : 0 < length bytes) (image : IsImage (after_write 0 (b ∷ []) (settled_disk bytes)) c) where
+module _ (bytes : List ℕ) (b : ℕ) (c : List ℕ) (some : 0 < length bytes) (image : IsCrashImage (after_write 0 (b ∷ []) (settled_disk bytes)) c) where
   first_torn : 0 < length c
   first_torn = let torn = torn_image bytes 0 (b ∷ []) c (omega arith) image in omega (arith, torn.no_shorter)
 
@@ -53,7 +53,7 @@ module _ (side : Side) (x : Seen) (known : IsKnown false (disk_of side x.disks))
   R : List ℕ
   R = (disk_of side x.disks).reads
 
-  pub closing : (c : List ℕ) → IsImage (after_write 0 (0 ∷ []) (settled_disk (disk_of side x.disks).reads)) c → (c ≡ (disk_of side x.disks).reads) ⊎ IsBlank c
+  pub closing : (c : List ℕ) → IsCrashImage (after_write 0 (0 ∷ []) (settled_disk (disk_of side x.disks).reads)) c → (c ≡ (disk_of side x.disks).reads) ⊎ IsBlank c
   closing c image = ⊎_elim short gated (not_closed (disk_of side x.disks).reads known.closed)
     where
       short : length (disk_of side x.disks).reads < 24 → (c ≡ (disk_of side x.disks).reads) ⊎ IsBlank c
@@ -72,11 +72,11 @@ module _ (side : Side) (x : Seen) (known : IsKnown false (disk_of side x.disks))
   P = OnSide side (λ c. (c ≡ (disk_of side x.disks).reads) ⊎ IsBlank c) x.disks
 
   start_close : OnSide side (λ c. (c ≡ (disk_of side x.disks).reads) ⊎ IsBlank c) x.disks x.disks
-  start_close = side_here side (λ c. (c ≡ (disk_of side x.disks).reads) ⊎ IsBlank c) x.disks (λ c image. inl (settled_image (disk_of side x.disks).reads c (subst (λ (d : Disk). IsImage d c) known.settled image)))
+  start_close = side_here side (λ c. (c ≡ (disk_of side x.disks).reads) ⊎ IsBlank c) x.disks (λ c image. inl (settled_image (disk_of side x.disks).reads c (subst (λ (d : Disk). IsCrashImage d c) known.settled image)))
 
   while_close : OnSide side (λ c. (c ≡ (disk_of side x.disks).reads) ⊎ IsBlank c) x.disks (with_disk side (after_write 0 (0 ∷ []) (disk_of side x.disks)) x.disks)
   while_close = side_at side (λ c. (c ≡ (disk_of side x.disks).reads) ⊎ IsBlank c) x.disks (after_write 0 (0 ∷ []) (disk_of side x.disks))
-      (λ c image. closing c (subst (λ (d : Disk). IsImage d c) (ap (λ (d : Disk). after_write 0 (0 ∷ []) d) known.settled) image))
+      (λ c image. closing c (subst (λ (d : Disk). IsCrashImage d c) (ap (λ (d : Disk). after_write 0 (0 ∷ []) d) known.settled) image))
 
   pub close_put : (y : Seen) → Puts side 0 (0 ∷ []) x y → ClosingGate side x y
   close_put y puts = puts_work (OnSide side (λ c. (c ≡ (disk_of side x.disks).reads) ⊎ IsBlank c) x.disks) side 0 (0 ∷ []) x y start_close while_close
@@ -88,7 +88,7 @@ module _ (side : Side) (x : Seen) (known : IsKnown false (disk_of side x.disks))
 -- nothing is closed
 kept_gate : (side : Side) (is_closed : Bool) (x : Seen) → IsKnown is_closed (disk_of side x.disks) → ClosingGate side x x
 kept_gate side is_closed x known = works_start _ x (side_here side (λ c. (c ≡ (disk_of side x.disks).reads) ⊎ IsBlank c) x.disks
-    (λ c image. inl (settled_image (disk_of side x.disks).reads c (subst (λ (d : Disk). IsImage d c) known.settled image))))
+    (λ c image. inl (settled_image (disk_of side x.disks).reads c (subst (λ (d : Disk). IsCrashImage d c) known.settled image))))
 
 pub still_closing : (side : Side) (is_closed : Bool) (seen : Option Seen) → IfHonest seen (λ s. IsKnown is_closed (disk_of side s.disks)) → Honestly seen seen (ClosingGate side)
 still_closing side is_closed None known = tt
@@ -101,11 +101,11 @@ module _ (side : Side) (x : Seen) (known : IsEnd 0 (disk_of side x.disks)) where
 
   start_open : OnSide side (λ c. IsClosed c 0 ⊎ (c ≡ with_open_gate (disk_of side x.disks).reads)) x.disks x.disks
   start_open = side_here side (λ c. IsClosed c 0 ⊎ (c ≡ with_open_gate (disk_of side x.disks).reads)) x.disks
-      (λ c image. inl (subst (λ (l : List ℕ). IsClosed l 0) (sym (settled_image (disk_of side x.disks).reads c (subst (λ (d : Disk). IsImage d c) known.settled image))) known.gate))
+      (λ c image. inl (subst (λ (l : List ℕ). IsClosed l 0) (sym (settled_image (disk_of side x.disks).reads c (subst (λ (d : Disk). IsCrashImage d c) known.settled image))) known.gate))
 
   while_open : OnSide side (λ c. IsClosed c 0 ⊎ (c ≡ with_open_gate (disk_of side x.disks).reads)) x.disks (with_disk side (after_write 0 (open_gate ∷ []) (disk_of side x.disks)) x.disks)
   while_open = side_at side (λ c. IsClosed c 0 ⊎ (c ≡ with_open_gate (disk_of side x.disks).reads)) x.disks (after_write 0 (open_gate ∷ []) (disk_of side x.disks))
-      (λ c image. first_cases (disk_of side x.disks).reads open_gate c known.gate.within (subst (λ (d : Disk). IsImage d c) (ap (λ (d : Disk). after_write 0 (open_gate ∷ []) d) known.settled) image))
+      (λ c image. first_cases (disk_of side x.disks).reads open_gate c known.gate.within (subst (λ (d : Disk). IsCrashImage d c) (ap (λ (d : Disk). after_write 0 (open_gate ∷ []) d) known.settled) image))
 
   pub open_put : (y : Seen) → Puts side 0 (open_gate ∷ []) x y → OpeningGate side x y
   open_put y puts = puts_work (OnSide side (λ c. IsClosed c 0 ⊎ (c ≡ with_open_gate (disk_of side x.disks).reads)) x.disks) side 0 (open_gate ∷ []) x y start_open while_open

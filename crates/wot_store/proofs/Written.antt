@@ -13,7 +13,7 @@ use Rattle.wot_journal.specs.Commit.{IsCommitting, IsUnchanged, behind_record}
 use Rattle.wot_types.specs.Store.{Store}
 use Rattle.wot_store.specs.declared.header.Header.{Header}
 use Rattle.wot_store.specs.declared.place.Place.{Place}
-use Rattle.wot_store.specs.Appending.{IsNext, place_after}
+use Rattle.wot_store.specs.Appending.{IsRecordHere, place_after}
 use Rattle.wot_store.specs.Base.{bytes_of, other_side}
 use Rattle.wot_store.specs.Shows.{IsStored, ShowsBase}
 use Rattle.wot_store.specs.Writing.{Writing}
@@ -34,7 +34,7 @@ this_kept Zero old new is = ap (λ (d : Disks). d.zero) is
 this_kept One old new is = ap (λ (d : Disks). d.one) is
 
 -- a commit writes from the journal's end to the closed gate behind its record
-module _ (place : Place) (built : Framed) (x y : Seen) (next : IsNext place built x.disks) where
+module _ (place : Place) (built : Framed) (x y : Seen) (next : IsRecordHere place built x.disks) where
   base : ShowsBase place.side (bytes_of place.side (reads_of x.disks)) next.stored.header next.shown
   base = base_here (reads_of x.disks) place.side next.stored.header next.shown next.stored.side next.stored.shows
 

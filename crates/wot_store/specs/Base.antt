@@ -6,7 +6,7 @@ use Rattle.std.specs.Cmp.Lexicographic.{pointwise}
 use Rattle.wot_site.specs.Disk.{Image}
 use Rattle.wot_site.specs.declared.side.Side.{Side}
 use Rattle.wot_site.specs.declared.side.Side.TheVariants.{Zero, One}
-use Rattle.wot_journal.specs.Record.{open_gate, most}
+use Rattle.wot_journal.specs.Record.{open_gate, most_side}
 use Rattle.wot_types.specs.Candidates.{RowMap}
 use Rattle.wot_types.specs.Image.{IsBase}
 use Rattle.wot_types.specs.Levels.{rows_of}
@@ -76,7 +76,7 @@ shown_side (Some zero) (Some one) = if nat_lt zero.epoch one.epoch then Some (On
 -- the pages, or the gate behind them, pass the side or its limit; or else the first page whose seal is wrong
 abbrev pub base_fault : Side → List ℕ → Header → Option BadStore
 base_fault side bytes header =
-    if nat_lt (page_place header.pages) (min (length bytes) most) then option_map Seal (seal_fault header.epoch header.pages bytes) else Some (Short side 24)
+    if nat_lt (page_place header.pages) (min (length bytes) most_side) then option_map Seal (seal_fault header.epoch header.pages bytes) else Some (Short side 24)
 
 -- a state's rows, or none that were counted by the rules of now
 abbrev pub AreRowsOf : State → Option RowMap → Type 0

@@ -1,6 +1,6 @@
 -- What opening a store does.
 use Rattle.std.specs.Prelude.{ℕ, ◌≡◌, ◌⊎◌, ◌+◌, ◌≤◌, nat_le, List, ◌++◌, length, All, Option, Some, None, MatchOption}
-use Rattle.wot_site.specs.Disk.{Disk, Disks, IsImage, Leaves, disk_of, reads_of, settled_disk, with_disk}
+use Rattle.wot_site.specs.Disk.{Disk, Disks, IsCrashImage, Leaves, disk_of, reads_of, settled_disk, with_disk}
 use Rattle.wot_site.specs.Seen.{Moment, Seen}
 use Rattle.wot_site.specs.Work.{Quiet, Works}
 use Rattle.wot_site.specs.declared.side.Side.{Side}
@@ -34,7 +34,7 @@ pub record Settles (sizes : Sizes) (old new : Seen) : Type 0 where
 -- nothing of a side was written since: it reads as it did, and each image of it is one that there was
 pub record IsUnwritten (start now : Disk) : Type 0 where
   pub reads : now.reads ≡ start.reads
-  pub images : (c : List ℕ) → IsImage now c → IsImage start c
+  pub images : (c : List ℕ) → IsCrashImage now c → IsCrashImage start c
 
 -- nor of either side
 pub record AreUnwritten (start now : Disks) : Type 0 where

@@ -10,7 +10,7 @@ ghost use Rattle.wot_types.specs.Store.{Store};
 ghost use Rattle.wot_types.specs.declared.edit.Edit.{Edit};
 ghost use Rattle.wot_store.specs.Shows.{IsStored};
 ghost use Rattle.wot_store.specs.Written.{WritesBetween};
-ghost use Rattle.wot_store.specs.Appending.{IsNext, IsRecordOf, place_after};
+ghost use Rattle.wot_store.specs.Appending.{IsRecordHere, IsRecordOf, place_after};
 ghost use Rattle.wot_store.specs.Changing.{IsStoredAfter, ShowsEither};
 
 use crate::place::Place;
@@ -20,7 +20,7 @@ use wot_site::{DiskFault, Site};
 /// Appends the record of an edit, which was built for this place; it answers the new place. Of the sides the shown one alone is
 /// written, from its journal's end to the closed gate behind the record.
 pub fn append<S: Site>(place: Place, site: &mut S, built: &Built) -> Result<Place, DiskFault>
-    requires next { IfHonest (S.seen site.old) (λ s. IsNext place built.now s.disks) }
+    requires next { IfHonest (S.seen site.old) (λ s. IsRecordHere place built.now s.disks) }
     ensures place { IfOk result (λ new. new ≡ place_after place built.now) }
     ensures appended { OnOk result ((shown : Store) (edit : Edit) → IsRecordOf built.now shown edit
         → IfHonest (S.seen site.old) (λ s. IsStored place shown s.disks)

@@ -4,7 +4,7 @@ ghost use Rattle.std.specs.Prelude.{◌≡◌, ◌<◌, ◌≤◌, length, min, 
 ghost use Rattle.wot_site.specs.Disk.{disk_of};
 ghost use Rattle.wot_site.specs.Seen.{Honestly, IfHonest};
 ghost use Rattle.wot_site.specs.Site.{Stays, DiskRose};
-ghost use Rattle.wot_site.specs.Gate.{most};
+ghost use Rattle.wot_site.specs.Gate.{most_side};
 ghost use Rattle.wot_types.specs.WellFormedState.{IsWellFormedState};
 ghost use Rattle.wot_types.specs.PagePlaces.{page_place};
 ghost use Rattle.wot_store.specs.Base.{IsBaseOf, IsNoBase};
@@ -26,7 +26,7 @@ use wot_workers::{Gate, Workers};
 
 /// The place behind so many pages, where it and the gate that stands there lie within a side of this size.
 pub fn journal_start(pages: u64, size: u64) -> Option<u64>
-    ensures { result ≡ (if nat_lt (page_place pages) (min size most) then Some (page_place pages) else None) }
+    ensures { result ≡ (if nat_lt (page_place pages) (min size most_side) then Some (page_place pages) else None) }
 {
     let most = size.min(MOST);
     if most <= FIRST || (most - FIRST - 1) / (PAGE as u64) < pages {
@@ -46,14 +46,14 @@ fn unread_pages(e: PagesError) -> StoreError
     }
 }
 
-// The parts of a base that has these contents, up to half a gigabyte, which are gone before its rows are checked.
+// The draft of a base that has these contents, up to half a gigabyte, which are gone before its rows are checked.
 fn take_base<R: Threads + Sync, G: Gate + Sync>(
     workers: &Workers<'_, R, G>,
     alloc: Global,
     contents: Vec<u8>,
 ) -> Result<EngineDraft, StoreError>
-    ensures sound { IfOk result (λ parts. IsWellFormedState parts) }
-    ensures base { IfOk result (λ parts. IsBaseOf contents.items parts) }
+    ensures sound { IfOk result (λ draft. IsWellFormedState draft) }
+    ensures base { IfOk result (λ draft. IsBaseOf contents.items draft) }
     ensures bad { (b : _) → IsErrOf result (StoreError.Bad b) → IsNoBase contents.items b }
     ensures no_disk { IsErrOf result StoreError.DiskFault → ⊥ }
 {
@@ -78,7 +78,7 @@ fn load_base<R: Threads + Sync, S: Site, G: Gate + Sync>(
     requires size { IfHonest (S.seen site.old) (λ s. size ≡ length (disk_of side s.disks).reads) }
     ensures sound { IfOk result (λ r. IsWellFormedState r.0) }
     ensures base { IfOk result (λ r. Honestly (S.seen site.old) (S.seen site.new) (ReadsBase side header r.0)) }
-    ensures start { IfOk result (λ r. (r.1 ≡ page_place header.pages) × (r.1 < size) × (r.1 < most)) }
+    ensures start { IfOk result (λ r. (r.1 ≡ page_place header.pages) × (r.1 < size) × (r.1 < most_side)) }
     ensures stays { OnErr result (Honestly (S.seen site.old) (S.seen site.new) Stays) }
     ensures bad { (b : _) → IsErrOf result (StoreError.Bad b) → Honestly (S.seen site.old) (S.seen site.new) (LacksBase side header b) }
     ensures cause { IsErrOf result StoreError.DiskFault → DiskRose (S.faults site.old) (S.faults site.new) }
@@ -93,7 +93,7 @@ fn load_base<R: Threads + Sync, S: Site, G: Gate + Sync>(
         Err(e) => return Err(unread_pages(e)),
     };
     match take_base(workers, alloc, contents) {
-        Ok(parts) => Ok((parts, start)),
+        Ok(draft) => Ok((draft, start)),
         Err(e) => Err(e),
     }
 }
@@ -134,7 +134,7 @@ pub fn resume<R: Threads + Sync, S: Site, G: Gate + Sync>(
         Ok(replayed) => replayed,
         Err(e) => return Err(e),
     };
-    match replayed.parts.into_engine() {
+    match replayed.draft.into_engine() {
         Ok(engine) => Ok(Resumed {
             engine,
             records: replayed.records,

@@ -9,7 +9,7 @@ ghost use Rattle.wot_site.specs.declared.side.Side.TheVariants.{Zero, One};
 ghost use Rattle.wot_journal.specs.Commit.{MakesCalls};
 ghost use Rattle.wot_types.specs.Image.{image_bytes};
 ghost use Rattle.wot_types.specs.Levels.{rows_of};
-ghost use Rattle.wot_types.specs.PagePlaces.{page_place, pages_needed};
+ghost use Rattle.wot_types.specs.PagePlaces.{first_page, page_place, pages_needed};
 ghost use Rattle.wot_types.specs.State.{opening_state};
 ghost use Rattle.wot_types.specs.WellFormedState.{IsWellFormedState};
 ghost use Rattle.wot_pages.specs.Pages.{contents_for};
@@ -29,7 +29,7 @@ use crate::writing::write_side;
 use std::alloc::Global;
 use std::thread::Threads;
 use wot_live::Engine;
-use wot_pages::pages_needed;
+use wot_pages::{FIRST, pages_needed};
 use wot_site::{DiskFault, Failed, RangeError, Side, Site, read_range};
 use wot_types::Mem;
 use wot_workers::{Gate, Workers};
@@ -101,10 +101,10 @@ fn inspect_side<S: Site>(
     ensures cause { IsErrOf result StoreError.DiskFault → DiskRose (S.faults site.old) (S.faults site.new) }
     ensures quiet { (IsErrOf result StoreError.DiskFault → ⊥) → S.faults site.new ≡ S.faults site.old }
 {
-    if size < 24 {
+    if size < FIRST {
         return Ok(None);
     }
-    match read_range(alloc, site, side, 0, 24) {
+    match read_range(alloc, site, side, 0, FIRST as usize) {
         Ok(bytes) => Ok(header_in(&bytes)),
         Err(RangeError::DiskFault) => Err(StoreError::DiskFault),
         Err(RangeError::Short) => Err(StoreError::Bad(BadStore::Short(side, 0))),
@@ -133,9 +133,9 @@ fn inspect<S: Site>(alloc: Global, site: &mut S, sizes: Sizes) -> Result<Headers
 
 // Whether the gate of a side with this header and size is closed, in front of room for a header.
 fn has_closed_gate(header: Option<Header>, size: u64) -> bool
-    ensures { result ≡ (is_none header && nat_le 24 size) }
+    ensures { result ≡ (is_none header && nat_le first_page size) }
 {
-    header.is_none() && 24 <= size
+    header.is_none() && FIRST <= size
 }
 
 // The engine of a new store, and its image.

@@ -38,24 +38,24 @@ fn read_edit(alloc: Global, payload: Text) -> Result<Edit, RecordError>
     }
 }
 
-// Whether an edit is refused in the state of these parts.
-fn is_refused(parts: &EngineDraft, edit: &Edit) -> bool
+// Whether an edit is refused in the state of this draft.
+fn is_refused(draft: &EngineDraft, edit: &Edit) -> bool
     requires proper { IsProper edit.now }
-    ensures { result ≡ is_some (refusal_of parts.now edit.now) }
+    ensures { result ≡ is_some (refusal_of draft.now edit.now) }
 {
-    refusal_over(parts.table(), parts.trusts(), edit).is_some()
+    refusal_over(draft.table(), draft.trusts(), edit).is_some()
 }
 
 // Makes an edit, if it isn't refused.
-fn make(parts: EngineDraft, edit: Edit) -> Result<EngineDraft, RecordError>
+fn make(draft: EngineDraft, edit: Edit) -> Result<EngineDraft, RecordError>
     requires proper { IsProper edit }
-    ensures made { IfOk result (λ after. after_edit parts edit ≡ Some after) }
-    ensures none { (payload : List ℕ) → IsPayload payload edit → IfErr result (MakesNone parts payload) }
+    ensures made { IfOk result (λ after. after_edit draft edit ≡ Some after) }
+    ensures none { (payload : List ℕ) → IsPayload payload edit → IfErr result (MakesNone draft payload) }
 {
-    if is_refused(&parts, &edit) {
+    if is_refused(&draft, &edit) {
         return Err(RecordError::BadEdit);
     }
-    match edited_draft(parts, edit) {
+    match edited_draft(draft, edit) {
         Ok(after) => Ok(after),
         Err(Mem::Memory) => Err(RecordError::Memory),
     }
@@ -64,14 +64,14 @@ fn make(parts: EngineDraft, edit: Edit) -> Result<EngineDraft, RecordError>
 /// Makes the edit that the payload of a record spells, for several that are counted once.
 pub fn take_record(
     alloc: Global,
-    parts: EngineDraft,
+    draft: EngineDraft,
     payload: Text,
 ) -> Result<EngineDraft, RecordError>
-    ensures made { IfOk result (λ after. Makes parts payload after) }
-    ensures none { IfErr result (MakesNone parts payload) }
+    ensures made { IfOk result (λ after. Makes draft payload after) }
+    ensures none { IfErr result (MakesNone draft payload) }
 {
     match read_edit(alloc, payload) {
-        Ok(edit) => make(parts, edit),
+        Ok(edit) => make(draft, edit),
         Err(e) => Err(e),
     }
 }

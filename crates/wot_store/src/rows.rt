@@ -19,15 +19,15 @@ use wot_table::LentState;
 use wot_types::{Mem, Rows};
 use wot_workers::{Gate, Workers};
 
-/// The parts of a base whose rows all stand. Where it has none that were counted by the rules of now, the workers count them.
+/// The draft of a base whose rows all stand. Where it has none that were counted by the rules of now, the workers count them.
 pub fn take_rows<R: Threads + Sync, G: Gate + Sync>(
     workers: &Workers<'_, R, G>,
     alloc: Global,
     image: Image,
 ) -> Result<EngineDraft, StoreError>
     requires ranges { IsInRange image.options }
-    ensures parts { IfOk result (λ parts. parts ≡ image_state image) }
-    ensures stand { IfOk result (λ parts. AreRowsOf (image_state image) image.rows) }
+    ensures draft { IfOk result (λ draft. draft ≡ image_state image) }
+    ensures stand { IfOk result (λ draft. AreRowsOf (image_state image) image.rows) }
     ensures bad { (b : _) → IsErrOf result (StoreError.Bad b) → (fault : RowFault) × (rows : RowMap) × (b ≡ BadStore.Row fault) × (image.rows ≡ Some rows) × IsLeastFault (image_state image) rows fault }
     ensures no_disk { IsErrOf result StoreError.DiskFault → ⊥ }
 {

@@ -5,7 +5,7 @@ ghost use Rattle.wot_site.specs.Disk.{disk_of};
 ghost use Rattle.wot_site.specs.Seen.{Honestly, IfHonest};
 ghost use Rattle.wot_site.specs.Site.{HasCause, DiskRose};
 ghost use Rattle.wot_journal.specs.Commit.{IsEnd, MakesCalls};
-ghost use Rattle.wot_site.specs.Gate.{most};
+ghost use Rattle.wot_site.specs.Gate.{most_side};
 ghost use Rattle.wot_types.specs.PagePlaces.{page_place, pages_needed};
 ghost use Rattle.wot_store.specs.Base.{header_tail};
 ghost use Rattle.wot_store.specs.Writing.{Becomes, IsKnown, ClosingGate, Filling, OpeningGate, Writing, closed_bytes, with_base, with_open_gate, base_bytes, closing_calls, filling_calls, calls_for};
@@ -46,7 +46,7 @@ fn close_side<S: Site>(site: &mut S, side: Side, is_closed: bool) -> Result<(), 
 
 // Writes the header, the pages of an image and the first gate of a side whose gate is closed; it answers how many pages.
 fn fill_side<S: Site>(site: &mut S, side: Side, epoch: u64, image: &[u8]) -> Result<u64, DiskFault>
-    requires room { page_place (pages_needed (length image.now)) < most }
+    requires room { page_place (pages_needed (length image.now)) < most_side }
     requires closed { IfHonest (S.seen site.old) (λ s. IsEnd 0 (disk_of side s.disks)) }
     ensures pages { IfOk result (λ pages. pages ≡ pages_needed (length image.now)) }
     ensures filled { OnOk result (Honestly (S.seen site.old) (S.seen site.new) (Becomes side (with_base epoch image.now))) }
@@ -92,7 +92,7 @@ pub fn write_side<S: Site>(
     image: &[u8],
     is_closed: bool,
 ) -> Result<u64, DiskFault>
-    requires room { page_place (pages_needed (length image.now)) < most }
+    requires room { page_place (pages_needed (length image.now)) < most_side }
     requires known { IfHonest (S.seen site.old) (λ s. IsKnown is_closed (disk_of side s.disks)) }
     ensures small { epoch < 2 ^ 64 }
     ensures end { IfOk result (λ end. end ≡ page_place (pages_needed (length image.now))) }

@@ -10,7 +10,7 @@ use crate::heading::Heading;
 use crate::held::{push_cert, push_expiry};
 use std::alloc::Global;
 use wot_index::Index;
-use wot_types::{Cert, Key, KeyId, Mem, User};
+use wot_types::{Key, KeyId, Mem, PackedCert, User};
 
 /// The index of these keys.
 pub fn index_of(alloc: Global, heading: Heading, keys: &[Key]) -> Result<Index, Mem>
@@ -66,7 +66,7 @@ fn push_pairs_of_user(
 }
 
 fn push_pairs_of_certs(
-    certs: &[Cert],
+    certs: &[PackedCert],
     heading: Heading,
     id: KeyId,
     to: &mut Vec<(u64, KeyId)>,

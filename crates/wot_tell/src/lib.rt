@@ -1,10 +1,10 @@
 //! Telling texts to a site: a whole text, or one that is told while it is printed.
 #![tactic(auto)]
 
-mod held; // bytes that are taken and not told yet
+mod buffer; // bytes that are taken and not told yet
 mod tell; // a whole text is told
 mod teller; // a text is told while it is printed
 
-pub use held::Held;
+pub use buffer::Buffer;
 pub use tell::tell_all;
 pub use teller::Teller;

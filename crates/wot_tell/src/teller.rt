@@ -7,7 +7,7 @@ ghost use Rattle.wot_tell.specs.Telling.{Telling, TellingPrefix};
 ghost use Rattle.wot_tell.specs.Teller.{HasTaken, Reached, Takes, stand};
 ghost use Rattle.std.proofs.Common.{append_assoc, append-nil, subst, sym};
 
-use crate::held::Held;
+use crate::buffer::Buffer;
 use crate::tell::tell_all;
 use std::convert::Infallible;
 use wot_fields::Sink;
@@ -17,7 +17,7 @@ use wot_site::{Failed, Site};
 /// and tells none of it, and `finish` says so.
 pub struct Teller<'a, S: Site> {
     pub site: &'a mut S,
-    pub held: Held,
+    pub held: Buffer,
     pub failed: bool,
 }
 
@@ -65,7 +65,7 @@ impl<'a, S: Site> Teller<'a, S> {
     {
         Teller {
             site,
-            held: Held::new(),
+            held: Buffer::new(),
             failed: false,
         }
     }

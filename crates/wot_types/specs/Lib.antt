@@ -6,6 +6,7 @@ pub mod Dates
 pub mod Quotes
 pub mod Fingerprint
 pub mod FprBytes
+pub mod PackedCert
 pub mod Trust
 pub mod Ownertrust
 pub mod OwnertrustText

@@ -1,6 +1,10 @@
--- Where the pages of a side stand, and how many pages an image needs.
-use Rattle.std.specs.Prelude.{ℕ, ◌+◌, ◌*◌}
+-- How long a side may be, where its pages stand, and how many pages an image needs.
+use Rattle.std.specs.Prelude.{ℕ, ◌+◌, ◌*◌, ◌-◌, ◌^◌}
 use Rattle.std.specs.Int.{div_ceil}
+
+-- the most bytes of a side
+abbrev pub most_side : ℕ
+most_side = 2 ^ 32 - 1
 
 -- how many bytes of content a page has
 abbrev pub content_size : ℕ

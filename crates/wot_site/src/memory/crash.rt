@@ -1,7 +1,7 @@
 //! What a crash may leave of a site in memory.
 
 ghost use Rattle.std.specs.Prelude.{◌≡◌, IfOk};
-ghost use Rattle.wot_site.specs.Disk.{IsImage};
+ghost use Rattle.wot_site.specs.Disk.{IsCrashImage};
 ghost use Rattle.wot_site.specs.MemorySide.{IsPicked, disk};
 
 use crate::memory::side::MemorySide;
@@ -21,7 +21,7 @@ pub enum Pick {
 
 /// The image of one side.
 pub fn image_of(alloc: Global, side: &MemorySide, pick: Pick) -> Result<Vec<u8>, Mem>
-    ensures image { IfOk result (λ v. IsImage (disk side.now) v.items) }
+    ensures image { IfOk result (λ v. IsCrashImage (disk side.now) v.items) }
     ensures which { IfOk result (λ v. IsPicked pick side.now v.items) }
 {
     match pick {

@@ -1,7 +1,7 @@
 //! A side of the store in memory.
 
 ghost use Rattle.std.specs.Prelude.{◌≡◌, ◌≤◌, length, IfOk, OnOk, OnErr};
-ghost use Rattle.wot_site.specs.Disk.{IsImage};
+ghost use Rattle.wot_site.specs.Disk.{IsCrashImage};
 ghost use Rattle.wot_site.specs.MemorySide.{IsFilled, disk, at_rest, after_writing, synced_now};
 
 use crate::bytes::{fill_range, written_over};
@@ -20,7 +20,7 @@ pub struct MemorySide {
 
 impl Model for MemorySide {
     ghost use Rattle.std.specs.Prelude.{length};
-    ghost use Rattle.wot_site.specs.Disk.{IsImage};
+    ghost use Rattle.wot_site.specs.Disk.{IsCrashImage};
     ghost use Rattle.wot_site.specs.MemorySide.{Bytes};
 
     ghost Value = { Bytes };
@@ -28,7 +28,7 @@ impl Model for MemorySide {
     ghost view = { λ s. record { reads = s.reads.items; synced = s.synced.items; pending = s.pending.items } };
 
     // What was read at the last sync is one of the images: that no pending write was made.
-    ghost invariant = { λ s. IsImage (record { reads = s.reads.items; synced = length s.synced.items; pending = s.pending.items }) s.synced.items };
+    ghost invariant = { λ s. IsCrashImage (record { reads = s.reads.items; synced = length s.synced.items; pending = s.pending.items }) s.synced.items };
 }
 
 impl MemorySide {
@@ -78,7 +78,7 @@ impl MemorySide {
 
     /// The image in which no pending write was made.
     pub fn without(&self, alloc: Global) -> Result<Vec<u8>, Mem>
-        ensures image { IfOk result (λ v. IsImage (disk self.now) v.items) }
+        ensures image { IfOk result (λ v. IsCrashImage (disk self.now) v.items) }
         ensures which { IfOk result (λ v. v.items ≡ self.now.synced) }
     {
         Ok(self.synced.to_vec(alloc)?)
@@ -86,7 +86,7 @@ impl MemorySide {
 
     /// The image in which every write was made.
     pub fn with_all(&self, alloc: Global) -> Result<Vec<u8>, Mem>
-        ensures image { IfOk result (λ v. IsImage (disk self.now) v.items) }
+        ensures image { IfOk result (λ v. IsCrashImage (disk self.now) v.items) }
         ensures which { IfOk result (λ v. v.items ≡ self.now.reads) }
     {
         Ok(self.reads.to_vec(alloc)?)
@@ -94,7 +94,7 @@ impl MemorySide {
 
     /// The image with this byte in each pending range.
     pub fn with_fill(&self, alloc: Global, byte: u8) -> Result<Vec<u8>, Mem>
-        ensures image { IfOk result (λ v. IsImage (disk self.now) v.items) }
+        ensures image { IfOk result (λ v. IsCrashImage (disk self.now) v.items) }
         ensures which { IfOk result (λ v. IsFilled byte (disk self.now) v.items) }
     {
         let mut image = self.reads.to_vec(alloc)?;

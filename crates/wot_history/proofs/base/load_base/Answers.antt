@@ -24,7 +24,7 @@ returns-in-Ok-take_base-clause-base g c =
     let epoch = c.args.epoch in
     let pages = c.args.pages in
     let contents = c.in-Ok.contents.items in
-    let base = c.in-Ok-take_base.parts in
+    let base = c.in-Ok-take_base.draft in
     honest_with (λ (s : Seen). c.args.size ≡ length (disk_of side s.disks).reads) (ReadsPages side epoch pages contents) (FindsBase side epoch pages base) _ _ c.requires.size c.in-Ok.ensures.read
     (λ x y long read. finds_base side epoch pages c.args.size x y long (started pages c.args.size c.in-Some.start (sym c.in-Some.is ∙ c.journal_start.ensures)) contents base read c.in-Ok-take_base.ensures.base)
 

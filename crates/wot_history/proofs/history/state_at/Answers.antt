@@ -35,7 +35,7 @@ pub returns-in-Ok-into_engine-clause-found : goal.returns-in-Ok-into_engine-clau
 returns-in-Ok-into_engine-clause-found g c =
     let side = c.args.side in
     let base = c.in-Ok-load_base.loaded.0 in
-    let state = c.in-Ok-replay_first.parts in
+    let state = c.in-Ok-replay_first.draft in
     rw c.in-Ok-into_engine.ensures
     (honest_then (Then (Sizes side c.in-Ok.size) (FindsBase side c.args.epoch c.args.pages base)) (Replays side (page_place c.args.pages) base c.args.count state) (FindsState side c.args.epoch c.args.pages c.args.count state) _ _ _
     (honest_joined (Sizes side c.in-Ok.size) (FindsBase side c.args.epoch c.args.pages base) _ _ _ c.in-Ok.ensures.ok c.in-Ok-load_base.ensures.base)

@@ -17,20 +17,20 @@ loop-done-preserved g c =
     record {
       within = goes.1;
       bound = goes.2;
-      sound = sound_made l.parts c.in-Ok.made payload l.invariant.sound c.in-Ok.ensures.made;
+      sound = sound_made l.draft c.in-Ok.made payload l.invariant.sound c.in-Ok.ensures.made;
       few = omega (arith, c.loop-done-test.true);
-      came = honest_then (Came c.args.side c.args.start c.args.base l.done l.at l.parts) (Finds c.args.side l.at (Payload payload c.in-Ok-Payload.after)) (Came c.args.side c.args.start c.args.base (l.done + 1) c.in-Ok-Payload.after c.in-Ok.made) _ _ _
+      came = honest_then (Came c.args.side c.args.start c.args.base l.done l.at l.draft) (Finds c.args.side l.at (Payload payload c.in-Ok-Payload.after)) (Came c.args.side c.args.start c.args.base (l.done + 1) c.in-Ok-Payload.after c.in-Ok.made) _ _ _
           l.invariant.came (rw c.in-Ok-Payload.field-0-is at c.in-Ok-Payload.ensures.found)
-          (λ x y z came found. came_more c.args.side c.args.start c.args.base l.done l.at l.parts x y z came payload c.in-Ok-Payload.after c.in-Ok.made found c.in-Ok.ensures.made);
+          (λ x y z came found. came_more c.args.side c.args.start c.args.base l.done l.at l.draft x y z came payload c.in-Ok-Payload.after c.in-Ok.made found c.in-Ok.ensures.made);
       quiet = c.in-Ok-Payload.ensures.quiet (λ is. absurd (cc is)) ∙ l.invariant.quiet;
     }
 
 pub returns-in-Ok-End-clause-stops : goal.returns-in-Ok-End-clause-stops
 returns-in-Ok-End-clause-stops g c =
     let l = c.loop-done in
-    honest_then (Came c.args.side c.args.start c.args.base l.done l.at l.parts) (Finds c.args.side l.at End) (StopsAt c.args.side c.args.start c.args.base c.args.count (Lost (l.done + 1))) _ _ _
+    honest_then (Came c.args.side c.args.start c.args.base l.done l.at l.draft) (Finds c.args.side l.at End) (StopsAt c.args.side c.args.start c.args.base c.args.count (Lost (l.done + 1))) _ _ _
     l.invariant.came (rw c.in-Ok-End.field-0-is at c.in-Ok-End.ensures.found)
-    (λ x y z came found. came_lost c.args.side c.args.start c.args.base l.done l.at l.parts x y came c.args.count (omega (arith, c.loop-done-test.true)) z found)
+    (λ x y z came found. came_lost c.args.side c.args.start c.args.base l.done l.at l.draft x y came c.args.count (omega (arith, c.loop-done-test.true)) z found)
 
 pub returns-in-Err-take_record-clause-stops : goal.returns-in-Err-take_record-clause-stops
 returns-in-Err-take_record-clause-stops g c =
@@ -38,14 +38,14 @@ returns-in-Err-take_record-clause-stops g c =
     let payload = c.in-Ok-Payload.payload in
     let e = c.in-Err-take_record.e in
     rw c.unmade_record.ensures
-    (honest_then (Came c.args.side c.args.start c.args.base l.done l.at l.parts) (Finds c.args.side l.at (Payload payload c.in-Ok-Payload.after)) (StopsAt c.args.side c.args.start c.args.base c.args.count (unmade_record (l.done + 1) e)) _ _ _
+    (honest_then (Came c.args.side c.args.start c.args.base l.done l.at l.draft) (Finds c.args.side l.at (Payload payload c.in-Ok-Payload.after)) (StopsAt c.args.side c.args.start c.args.base c.args.count (unmade_record (l.done + 1) e)) _ _ _
     l.invariant.came (rw c.in-Ok-Payload.field-0-is at c.in-Ok-Payload.ensures.found)
-    (λ x y z came found. came_bad c.args.side c.args.start c.args.base l.done l.at l.parts x y came c.args.count (omega (arith, c.loop-done-test.true)) z payload c.in-Ok-Payload.after e found c.in-Err-take_record.ensures.none))
+    (λ x y z came found. came_bad c.args.side c.args.start c.args.base l.done l.at l.draft x y came c.args.count (omega (arith, c.loop-done-test.true)) z payload c.in-Ok-Payload.after e found c.in-Err-take_record.ensures.none))
 
 pub returns-in-Err-clause-stops : goal.returns-in-Err-clause-stops
 returns-in-Err-clause-stops g c =
     let l = c.loop-done in
     let e = c.in-Err.e in
     rw c.unread_record.ensures
-    (record_unread c.args.side c.args.start c.args.base l.done l.at l.parts c.args.count (omega (arith, c.loop-done-test.true)) e _ _ _ l.invariant.came c.in-Err.ensures.stays
+    (record_unread c.args.side c.args.start c.args.base l.done l.at l.draft c.args.count (omega (arith, c.loop-done-test.true)) e _ _ _ l.invariant.came c.in-Err.ensures.stays
     (λ q is. c.in-Err.ensures.short q (ap (λ e. Err e) is)) (λ q is. c.in-Err.ensures.truncated q (ap (λ e. Err e) is)))

@@ -3,7 +3,7 @@ use Rattle.std.proofs.lemmas.List.{get_or_read}
 use Rattle.wot_site.specs.Disk.{disk_of}
 use Rattle.wot_site.specs.Seen.{Seen}
 use Rattle.wot_site.proofs.Honest.{honest_then, honest_with_then}
-use Rattle.wot_journal.specs.Record.{open_gate, most}
+use Rattle.wot_journal.specs.Record.{open_gate, most_side}
 use Rattle.wot_journal.specs.Range.{IsRange}
 use Rattle.wot_journal.specs.Found.{Finds}
 use Rattle.wot_journal.specs.declared.reading.Step.TheVariants.{Payload}
@@ -20,7 +20,7 @@ returns-in-Ok-read_part-2-clause-found g c =
     let len = c.length_of-len.result in
     let is_open : get_or gate 0 0 ≡ open_gate = sym (get_or_read gate 0 c.index.result.now (omega (arith, c.in-Ok.ensures.length)) c.index.ensures 0) ∙ c.if-index.false in
     let room : at + len + 6 ≤ c.args.size = omega arith in
-    let bound : at + len + 6 ≤ most = omega arith in
+    let bound : at + len + 6 ≤ most_side = omega arith in
     rw c.from_vec.ensures
     (honest_with_then (λ (s : Seen). c.args.size ≡ length (disk_of side s.disks).reads) (Both side at (at + 1) gate head) (IsRange side (at + 5) len payload) (Finds side at (Payload payload (at + 5 + len))) _ _ _
     c.requires.size

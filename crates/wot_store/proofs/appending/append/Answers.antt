@@ -5,7 +5,7 @@ use Rattle.wot_site.specs.Work.{Works}
 use Rattle.wot_site.proofs.Honest.{honest_with}
 use Rattle.wot_journal.specs.Commit.{Commits, IsCommitting}
 use Rattle.wot_store.specs.Shows.{IsStored}
-use Rattle.wot_store.specs.Appending.{IsNext, place_after}
+use Rattle.wot_store.specs.Appending.{IsRecordHere, place_after}
 use Rattle.wot_store.specs.Changing.{IsStoredAfter, ShowsEither}
 use Rattle.wot_store.specs.Written.{WritesBetween}
 use Rattle.wot_store.proofs.Appends.{append_moments, append_done}
@@ -34,14 +34,14 @@ pub returns-in-Ok-clause-written : goal.returns-in-Ok-clause-written
 returns-in-Ok-clause-written g c =
     let place = c.args.place in
     let built = c.args.built.now in
-    honest_with (λ (s : Seen). IsNext place built s.disks) (λ old new. Works (IsCommitting place.side built old.disks) old new) (λ old new. Works (WritesBetween place.side place.end ((place_after place built).end + 1) old.disks) old new) _ _
+    honest_with (λ (s : Seen). IsRecordHere place built s.disks) (λ old new. Works (IsCommitting place.side built old.disks) old new) (λ old new. Works (WritesBetween place.side place.end ((place_after place built).end + 1) old.disks) old new) _ _
     c.requires.next c.commit.ensures.any_moment (λ x y next p. append_writes place built x y next p)
 
 pub returns-in-Err-clause-written : goal.returns-in-Err-clause-written
 returns-in-Err-clause-written g c =
     let place = c.args.place in
     let built = c.args.built.now in
-    honest_with (λ (s : Seen). IsNext place built s.disks) (λ old new. Works (IsCommitting place.side built old.disks) old new) (λ old new. Works (WritesBetween place.side place.end ((place_after place built).end + 1) old.disks) old new) _ _
+    honest_with (λ (s : Seen). IsRecordHere place built s.disks) (λ old new. Works (IsCommitting place.side built old.disks) old new) (λ old new. Works (WritesBetween place.side place.end ((place_after place built).end + 1) old.disks) old new) _ _
     c.requires.next c.commit.ensures.any_moment (λ x y next p. append_writes place built x y next p)
 
 pub returns-in-Ok-clause-bytes : goal.returns-in-Ok-clause-bytes

@@ -26,7 +26,7 @@ returns-in-Ok-take_base-clause-base g c =
     let side = c.args.side in
     let header = c.args.header in
     let contents = c.in-Ok.contents.items in
-    let base = c.in-Ok-take_base.parts in
+    let base = c.in-Ok-take_base.draft in
     honest_with (λ (s : Seen). c.args.size ≡ length (disk_of side s.disks).reads) (ReadsPages side header.epoch header.pages contents) (ReadsBase side header base) _ _ c.requires.size c.in-Ok.ensures.read
     (λ x y long read. reads_base side header c.args.size contents x y long (started header.pages c.args.size c.in-Some.start (sym c.in-Some.is ∙ c.journal_start.ensures)) read base c.in-Ok-take_base.ensures.base)
 

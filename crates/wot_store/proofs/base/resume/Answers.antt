@@ -30,5 +30,5 @@ returns-in-Ok-into_engine-clause-resumed g c =
     let base = c.in-Ok.loaded.0 in
     let replayed = c.in-Ok-replay.replayed in
     rw c.in-Ok-into_engine.ensures
-    (honest_then (ReadsBase side header base) (Replays side (page_place header.pages) base replayed.parts replayed.records replayed.end) (Resumes side header replayed.parts replayed.records replayed.end) _ _ _ c.in-Ok.ensures.base
-    (rw c.in-Ok.ensures.start.0 at c.in-Ok-replay.ensures.replayed) (λ x y z read replays. resumes_then side header base x y z read replayed.parts replayed.records replayed.end replays))
+    (honest_then (ReadsBase side header base) (Replays side (page_place header.pages) base replayed.draft replayed.records replayed.end) (Resumes side header replayed.draft replayed.records replayed.end) _ _ _ c.in-Ok.ensures.base
+    (rw c.in-Ok.ensures.start.0 at c.in-Ok-replay.ensures.replayed) (λ x y z read replays. resumes_then side header base x y z read replayed.draft replayed.records replayed.end replays))

@@ -15,8 +15,8 @@ returns-in-Ok-Some-clause-base g c =
     let contents = c.args.contents.items in
     let image = c.in-Ok-Some.image in
     let found = rw c.deref.ensures.value at (rw c.in-Ok-Some.field-0-is at c.in-Ok-Some.ensures.found) in
-    if_ok_both _ _ _ c.take_rows.result c.take_rows.ensures.parts c.take_rows.ensures.stand
-    (λ parts is stand. subst (λ (s : State). IsBaseOf contents s) (sym is) (record { current = image.rows; spelled = found; rows = stand }))
+    if_ok_both _ _ _ c.take_rows.result c.take_rows.ensures.draft c.take_rows.ensures.stand
+    (λ draft is stand. subst (λ (s : State). IsBaseOf contents s) (sym is) (record { current = image.rows; spelled = found; rows = stand }))
 
 pub returns-in-Ok-Some-clause-bad : goal.returns-in-Ok-Some-clause-bad
 returns-in-Ok-Some-clause-bad g c b is =

@@ -7,7 +7,7 @@ use Rattle.wot_store.specs.Base.{IsBaseOf}
 use Rattle.wot_site.specs.Seen.{Seen}
 use Rattle.wot_site.specs.Work.{Works}
 use Rattle.wot_site.proofs.Honest.{honest_weaker, honest_with}
-use Rattle.wot_journal.specs.Record.{most}
+use Rattle.wot_journal.specs.Record.{most_side}
 use Rattle.wot_types.specs.PagePlaces.{page_place, pages_needed}
 use Rattle.wot_pages.specs.Pages.{contents_for}
 use Rattle.wot_store.specs.Changing.{IsStoredAfter, ShowsEither}
@@ -35,7 +35,7 @@ returns-in-Ok-write_side-clause-compacted g c shown is stored =
     let place = c.args.place in
     let image = c.in-Ok.image.items in
     let base : IsBaseOf (contents_for image) shown.state = subst (λ (s : State). IsBaseOf (contents_for image) s) (sym is) c.in-Ok.ensures.base in
-    let room : page_place (pages_needed (length image)) < most = omega (arith, c.in-Ok.ensures.few) in
+    let room : page_place (pages_needed (length image)) < most_side = omega (arith, c.in-Ok.ensures.few) in
     let long : length image ≡ image_length shown.state = c.in-Ok.ensures.long ∙ ap image_length (sym is) in
     honest_with (λ (s : Seen). IsStored place shown s.disks) (Becomes (other_side place.side) (base_bytes (place.epoch + 1) image)) (IsStoredAfter (compacted_place place c.args.engine.now) (compacted_store shown)) _ _ stored
     (rw (c.other_side-side.ensures, c.deref.ensures.value) at c.in-Ok-write_side.ensures.written)
@@ -46,7 +46,7 @@ returns-in-Ok-write_side-clause-any_moment g c shown is stored =
     let place = c.args.place in
     let image = c.in-Ok.image.items in
     let base : IsBaseOf (contents_for image) shown.state = subst (λ (s : State). IsBaseOf (contents_for image) s) (sym is) c.in-Ok.ensures.base in
-    let room : page_place (pages_needed (length image)) < most = omega (arith, c.in-Ok.ensures.few) in
+    let room : page_place (pages_needed (length image)) < most_side = omega (arith, c.in-Ok.ensures.few) in
     let long : length image ≡ image_length shown.state = c.in-Ok.ensures.long ∙ ap image_length (sym is) in
     honest_with (λ (s : Seen). IsStored place shown s.disks) (Writing (other_side place.side) (place.epoch + 1) image) (ShowsEither shown (compacted_store shown)) _ _ stored
     (rw (c.other_side-side.ensures, c.deref.ensures.value) at c.write_side.ensures.any_moment) (λ x y k p. compact_moments place shown image x y k base room c.write_side.ensures.small long p)
@@ -56,7 +56,7 @@ returns-clause-any_moment g c shown is stored =
     let place = c.args.place in
     let image = c.in-Ok.image.items in
     let base : IsBaseOf (contents_for image) shown.state = subst (λ (s : State). IsBaseOf (contents_for image) s) (sym is) c.in-Ok.ensures.base in
-    let room : page_place (pages_needed (length image)) < most = omega (arith, c.in-Ok.ensures.few) in
+    let room : page_place (pages_needed (length image)) < most_side = omega (arith, c.in-Ok.ensures.few) in
     let long : length image ≡ image_length shown.state = c.in-Ok.ensures.long ∙ ap image_length (sym is) in
     honest_with (λ (s : Seen). IsStored place shown s.disks) (Writing (other_side place.side) (place.epoch + 1) image) (ShowsEither shown (compacted_store shown)) _ _ stored
     (rw (c.other_side-side.ensures, c.deref.ensures.value) at c.write_side.ensures.any_moment) (λ x y k p. compact_moments place shown image x y k base room c.write_side.ensures.small long p)

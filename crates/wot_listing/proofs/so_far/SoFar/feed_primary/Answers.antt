@@ -1,7 +1,7 @@
 use Rattle.std.proofs.Common.{sym, ◌∙◌}
 use Rattle.std.proofs.lemmas.Result.{err_from_is_err_and}
 use Rattle.wot_listing.proofs.LineLemmas.{primary_fails, repeated_key_fails}
-use Rattle.wot_listing.proofs.progress.Progress.feed_primary.Goals as goal
+use Rattle.wot_listing.proofs.so_far.SoFar.feed_primary.Goals as goal
 
 pub returns-in_err-primary : goal.returns-in_err-primary
 returns-in_err-primary c =

@@ -18,7 +18,7 @@ use wot_types::{ListingWhat, RecordKind, UserKind};
 
 /// What is kept of the lines so far. The three numbers stand still at 2^64 - 1.
 #[derive(Debug, Drop)]
-pub struct Progress {
+pub struct SoFar {
     pub lines: u64,
     pub keys: BlockKeys,
     pub block: Option<KeyBlock>,
@@ -26,12 +26,12 @@ pub struct Progress {
     pub passed: u64,
 }
 
-impl Progress {
+impl SoFar {
     /// Before the first line.
-    pub fn new(alloc: Global) -> Progress
+    pub fn new(alloc: Global) -> SoFar
         ensures { result ≡ progress_of [] }
     {
-        Progress {
+        SoFar {
             lines: 0,
             keys: BlockKeys::new(alloc),
             block: None,
@@ -54,7 +54,7 @@ impl Progress {
         ensures { Answers result (first_failing ((is_unnamed self.block, ListingWhat.NoFingerprint) ∷ []))
             (λ blocks. (blocks.keys ≡ map.values (after_block self).keys) × (blocks.kept ≡ self.kept) × (blocks.passed ≡ self.passed)) }
     {
-        let Progress {
+        let SoFar {
             lines: _,
             mut keys,
             block,

@@ -1,6 +1,6 @@
 use Rattle.std.proofs.Common.{◌++◌, ap₂, ◌∙◌, arith}
 use Rattle.std.proofs.lemmas.Slice.{take-put_mid}
-use Rattle.wot_tell.proofs.held.Held.push_bytes.Goals as goal
+use Rattle.wot_tell.proofs.buffer.Buffer.push_bytes.Goals as goal
 
 pub returns : goal.returns
 returns c =

@@ -9,12 +9,12 @@ const ROOM: usize = 32_768;
 
 /// Bytes that are taken and not told yet, at most 32,768 of them.
 #[derive(Drop)]
-pub struct Held {
+pub struct Buffer {
     bytes: [u8; ROOM],
     used: usize,
 }
 
-impl Model for Held {
+impl Model for Buffer {
     ghost use Rattle.std.specs.Prelude.{List, ℕ, ◌≤◌, take};
 
     ghost Value = { List ℕ };
@@ -24,12 +24,12 @@ impl Model for Held {
     ghost invariant = { λ h. h.used ≤ 32768 };
 }
 
-impl Held {
+impl Buffer {
     /// None.
-    pub fn new() -> Held
+    pub fn new() -> Buffer
         ensures { result ≡ [] }
     {
-        Held {
+        Buffer {
             bytes: [0; ROOM],
             used: 0,
         }

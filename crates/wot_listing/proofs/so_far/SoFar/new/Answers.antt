@@ -1,6 +1,6 @@
 use Rattle.std.proofs.Common.{None}
 use Rattle.wot_listing.specs.Machine.{progress_of}
-use Rattle.wot_listing.proofs.progress.Progress.new.Goals as goal
+use Rattle.wot_listing.proofs.so_far.SoFar.new.Goals as goal
 
 pub returns : goal.returns
 unfolding progress_of
