@@ -3,10 +3,10 @@ use Rattle.std.proofs.Common.{◌≡◌, ◌≢◌, ℕ, suc, zero, ◌+◌, ◌
 use Rattle.std.specs.Int.{bit_at}
 use Rattle.std.proofs.lemmas.Bool.{cases_eq}
 use Rattle.std.proofs.lemmas.Grind.{get_or-set_at}
-use Rattle.std.proofs.lemmas.List.{get_or-set_other, get_or-take, get_or_default, same_lists}
+use Rattle.std.proofs.lemmas.List.{get_or-set_other, get_or-take, get_or_default, length-take-le, same_lists}
 use Rattle.std.proofs.lemmas.Nat.Bits.{bit_at-zero}
 use Rattle.wot_types.specs.Expression.{Tree}
-use Rattle.wot_regex.specs.Following.{Holds, IsMeet, IsRow, IsRows, entered, front, has, only, open_node, opened, taking}
+use Rattle.wot_regex.specs.Following.{Holds, IsMeet, IsRow, IsRows, IsStep, entered, front, has, only, open_node, opened, taking}
 use Rattle.wot_regex.specs.Gathering.{Back, all_gathered, all_noted, all_spread, back_start, spread_by}
 use Rattle.wot_regex.specs.Knowing.{found_at, moved_by}
 use Rattle.wot_regex.specs.Reaching.{marked, nowhere, top}
@@ -16,6 +16,7 @@ use Rattle.wot_regex.specs.declared.followers.Row.{Row}
 use Rattle.wot_regex.specs.declared.node.Node.{Node}
 use Rattle.wot_regex.specs.declared.node.Node.TheVariants.{Any, AnyNumber, AtLeastOne, AtMostOne, Byte, Either, End, Followed, Member, Nothing, Range, Start}
 use Rattle.wot_regex.specs.declared.reach.Reach.{Reach}
+use Rattle.wot_regex.specs.declared.steps.Common.{Common}
 use Rattle.wot_regex.proofs.Joins.{AllJoin, BacksJoin, Joins, all_gathered_joins, all_noted_joins, all_spread_joins, exits_join, more, none, nowhere_joins, top_joins}
 use Rattle.wot_regex.proofs.Searches.{at_byte, at_text_end, found_at_end, found_here, search_on}
 use Rattle.wot_regex.proofs.Meets.{AllMeet, meet_at, meet_one, meet_other, spread_meets, spread_plain}
@@ -75,10 +76,10 @@ entered_length nodes start cells = spread_length 0 (opened nodes) (all_noted (re
 
 -- sets of marks
 
-reach_is : (r : Reach) (e : Bool) → r.passes ≡ false → r.ended ≡ e → r ≡ marked e
+pub reach_is : (r : Reach) (e : Bool) → r.passes ≡ false → r.ended ≡ e → r ≡ marked e
 reach_is r e p q = λ i. record { passes = p i; ended = q i }
 
-join_at : {rs qs bs : List Reach} → AllJoin rs qs bs → (i : ℕ) → Joins (get_or rs i nowhere) (get_or qs i nowhere) (get_or bs i nowhere)
+pub join_at : {rs qs bs : List Reach} → AllJoin rs qs bs → (i : ℕ) → Joins (get_or rs i nowhere) (get_or qs i nowhere) (get_or bs i nowhere)
 join_at none i = nowhere_joins
 join_at (more j t) zero = j
 join_at (more j t) (suc i) = join_at t i
@@ -124,7 +125,7 @@ front_all i [] le = refl
 front_all zero (c ∷ cs) le = absurd (omega arith)
 front_all (suc i) (c ∷ cs) le = ap (λ x. c ∷ x) (front_all i cs (omega arith))
 
-front_skips : (i : ℕ) (cs : List Reach) → get_or cs i nowhere ≡ nowhere → front (suc i) cs ≡ front i cs
+pub front_skips : (i : ℕ) (cs : List Reach) → get_or cs i nowhere ≡ nowhere → front (suc i) cs ≡ front i cs
 front_skips i [] e = refl
 front_skips zero (c ∷ cs) e = ap (λ x. x ∷ front 0 cs) e
 front_skips (suc i) (c ∷ cs) e = ap (λ x. c ∷ x) (front_skips i cs e)
@@ -145,11 +146,11 @@ first_joins : (cs : List Reach) → AllJoin (front 0 cs) (front 0 cs) (replicate
 first_joins [] = none
 first_joins (c ∷ cs) = more nowhere_joins (first_joins cs)
 
-or_false : (x : Bool) → x ≡ (x || false)
+pub or_false : (x : Bool) → x ≡ (x || false)
 or_false true = refl
 or_false false = refl
 
-front_joins : (i : ℕ) (cs : List Reach) → ((j : ℕ) → j < length cs → (get_or cs j nowhere).passes ≡ false) → i < length cs → get_or cs i nowhere ≡ marked true → AllJoin (front (suc i) cs) (front i cs) (only (length cs) i)
+pub front_joins : (i : ℕ) (cs : List Reach) → ((j : ℕ) → j < length cs → (get_or cs j nowhere).passes ≡ false) → i < length cs → get_or cs i nowhere ≡ marked true → AllJoin (front (suc i) cs) (front i cs) (only (length cs) i)
 front_joins i [] plain lt e = absurd (omega arith)
 front_joins zero (c ∷ cs) plain lt e =
     let P : Reach → Type 0 = λ x. Joins x nowhere (marked true) in
@@ -162,10 +163,10 @@ front_joins (suc i) (c ∷ cs) plain lt e =
 start_joins : BacksJoin back_start back_start back_start
 start_joins = record { entries = more (record { one = refl; other = refl; ended = refl }) none; cells = none; one = refl; other = refl }
 
-entered_joins : (nodes : List Node) {rs qs bs : List Reach} → AllJoin rs qs bs → AllJoin (entered nodes false rs) (entered nodes false qs) (entered nodes false bs)
+pub entered_joins : (nodes : List Node) {rs qs bs : List Reach} → AllJoin rs qs bs → AllJoin (entered nodes false rs) (entered nodes false qs) (entered nodes false bs)
 entered_joins nodes t = (all_spread_joins 0 (opened nodes) (all_noted_joins (record { start = false; end = false }) nodes t none) start_joins).cells
 
-found_joins : (nodes : List Node) {rs qs bs : List Reach} → AllJoin rs qs bs → found_at nodes false false rs ≡ (found_at nodes false false qs || found_at nodes false false bs)
+pub found_joins : (nodes : List Node) {rs qs bs : List Reach} → AllJoin rs qs bs → found_at nodes false false rs ≡ (found_at nodes false false qs || found_at nodes false false bs)
 found_joins nodes {rs = rs} {qs = qs} {bs = bs} t =
     let r = top (all_gathered (record { start = false; end = false }) nodes rs []) in
     let q = top (all_gathered (record { start = false; end = false }) nodes qs []) in
@@ -175,14 +176,14 @@ found_joins nodes {rs = rs} {qs = qs} {bs = bs} t =
     ∙ exits_join true true r.passes q.ended b.ended
     ∙ ap₂ (λ x y. (x || q.ended) || (y || b.ended)) j.one j.other
 
-row_joined : (nodes : List Node) (new old other : Row) {rs qs bs : List Reach} → length nodes ≤ 512 → AllJoin rs qs bs → IsRow nodes false qs old → IsRow nodes false bs other
+pub row_joined : (nodes : List Node) (new old other : Row) {rs qs bs : List Reach} → length nodes ≤ 512 → AllJoin rs qs bs → IsRow nodes false qs old → IsRow nodes false bs other
     → ((i : ℕ) → i < 512 → has new.next.words i ≡ (has old.next.words i || has other.next.words i)) → new.found ≡ (old.found || other.found) → IsRow nodes false rs new
 row_joined nodes new old other {rs = rs} room t q b next found = record {
   next = holds_joined new.next.words old.next.words other.next.words (entered_joins nodes t) (omega (arith, entered_length nodes false rs)) q.next b.next next;
   found = found ∙ ap₂ (λ x y. x || y) q.found b.found ∙ sym (found_joins nodes t);
 }
 
-module _ (nodes : List Node) (first : Row) (rows : List Row) (words : List ℕ) (cells : List Reach) (i : ℕ) (known : IsRows nodes first rows) (same : length cells ≡ length nodes) (holds : Holds words cells) (lt : i < length nodes) where
+module _ (nodes : List Node) (common : Common) (rows : List Row) (words : List ℕ) (cells : List Reach) (i : ℕ) (known : IsRows nodes common rows) (same : length cells ≡ length nodes) (holds : Holds words cells) (lt : i < length nodes) where
   -- a place that is marked
   pub row_more : (row new other : Row) → length nodes ≤ 512 → other ≡ get_or rows i other → has words i ≡ true → IsRow nodes false (front i cells) row
       → ((j : ℕ) → j < 512 → has new.next.words j ≡ (has row.next.words j || has other.next.words j)) → new.found ≡ (row.found || other.found) → IsRow nodes false (front (i + 1) cells) new
@@ -200,15 +201,19 @@ module _ (nodes : List Node) (first : Row) (rows : List Row) (words : List ℕ) 
       next found)
 
 -- no place so far, and all of them
-pub row_none : (nodes : List Node) (first : Row) (rows : List Row) (cells : List Reach) → IsRows nodes first rows → length cells ≡ length nodes → IsRow nodes false (front 0 cells) first
-row_none nodes first rows cells known same =
-    let P : List Reach → Type 0 = λ x. IsRow nodes false x first in
+pub row_none : (nodes : List Node) (common : Common) (rows : List Row) (cells : List Reach) → IsRows nodes common rows → length cells ≡ length nodes → IsRow nodes false (front 0 cells) common.first
+row_none nodes common rows cells known same =
+    let P : List Reach → Type 0 = λ x. IsRow nodes false x common.first in
     subst P (ap (λ k. replicate k nowhere) (sym same) ∙ sym (front_none cells)) known.none
 
 -- the rows of a table that has fewer parts
-pub rows_taken : (nodes : List Node) (first : Row) (rows : List Row) → IsRows nodes first rows → IsRows nodes first (take (length nodes) rows)
-rows_taken nodes first rows is = record {
+pub rows_taken : (nodes : List Node) (common : Common) (rows : List Row) → length nodes ≤ length rows → IsRows nodes common rows → IsRows nodes common (take (length nodes) rows)
+rows_taken nodes common rows room is = record {
   none = is.none;
+  steps = λ i d lt on.
+      let here : i < length nodes = omega (arith, lt, length-take-le (length nodes) rows room) in
+      let P : Row → Type 0 = λ r. IsStep common.first r i in
+      subst P (sym (get_or-take (length nodes) rows i d here)) (is.steps i d (omega (arith, here, room)) on);
   each = λ i d lt.
       let P : Row → Type 0 = λ r. IsRow nodes false (only (length nodes) i) r in
       subst P (sym (get_or-take (length nodes) rows i d lt)) (is.each i d lt);

@@ -18,4 +18,5 @@ pub mod Meets
 pub mod SetLemmas
 pub mod Followings
 pub mod WordWalks
+pub mod Stepping
 pub mod Knowns

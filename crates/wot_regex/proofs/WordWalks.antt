@@ -9,6 +9,7 @@ use Rattle.wot_regex.specs.Reaching.{marked, nowhere}
 use Rattle.wot_regex.specs.declared.followers.Row.{Row}
 use Rattle.wot_regex.specs.declared.node.Node.{Node}
 use Rattle.wot_regex.specs.declared.reach.Reach.{Reach}
+use Rattle.wot_regex.specs.declared.steps.Common.{Common}
 use Rattle.wot_regex.proofs.Followings.{front_all, front_over, row_more}
 
 -- the marks before a place of the word are gone through, and the others are left
@@ -41,7 +42,7 @@ beyond (c ∷ cs) (suc i) le = beyond cs i (omega arith)
 front_beyond : (i : ℕ) (cs : List Reach) → length cs ≤ i → front (i + 1) cs ≡ front i cs
 front_beyond i cs le = front_all (i + 1) cs (omega arith) ∙ sym (front_all i cs le)
 
-module _ (nodes : List Node) (first : Row) (rows : List Row) (words : List ℕ) (cells : List Reach) (i from word : ℕ) (known : IsRows nodes first rows) (same : length cells ≡ length nodes) (holds : Holds words cells)
+module _ (nodes : List Node) (common : Common) (rows : List Row) (words : List ℕ) (cells : List Reach) (i from word : ℕ) (known : IsRows nodes common rows) (same : length cells ≡ length nodes) (holds : Holds words cells)
     (starts : from ≡ 64 * i) (is_word : word ≡ get_or words i 0) where
   has_place : (j : ℕ) → j < 64 → has words (from + j) ≡ (bit_at word j == 1)
   has_place j lt =
@@ -110,7 +111,7 @@ module _ (nodes : List Node) (first : Row) (rows : List Row) (words : List ℕ) 
         → (length nodes ≤ from + lowest → new ≡ row) → IsRow nodes false (front ((from + lowest) + 1) cells) new
     joined new other room (inl here) is next found kept =
         let on : has words (from + lowest) ≡ true = has_place lowest lowest_in ∙ ap (λ b. b == 1) (sym (w.rest lowest place_ahead lowest_in) ∙ lowest_on) in
-        row_more nodes first rows words cells (from + lowest) known same holds here row new other room (is here) on before_lowest (next here) (found here)
+        row_more nodes common rows words cells (from + lowest) known same holds here row new other room (is here) on before_lowest (next here) (found here)
     joined new other room (inr behind) is next found kept =
         let P : Row → Type 0 = λ r. IsRow nodes false (front ((from + lowest) + 1) cells) r in
         let Q : List Reach → Type 0 = λ x. IsRow nodes false x row in

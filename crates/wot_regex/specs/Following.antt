@@ -1,5 +1,5 @@
 -- Sets of a table's places, and where matches may go on from these.
-use Rattle.std.specs.Prelude.{◌≡◌, ℕ, ◌<◌, ◌≤◌, ◌==◌, ◌&&◌, ◌/◌, ◌%◌, suc, zero, Bool, true, false, List, [], ◌∷◌, get_or, length, replicate, None, Some}
+use Rattle.std.specs.Prelude.{◌≡◌, ℕ, ◌<◌, ◌≤◌, ◌==◌, ◌&&◌, ◌||◌, ◌/◌, ◌%◌, suc, zero, Bool, true, false, List, [], ◌∷◌, get_or, length, replicate, None, Some}
 use Rattle.std.specs.Int.{bit_at}
 use Rattle.wot_regex.specs.Gathering.{all_noted, all_spread, back_start}
 use Rattle.wot_regex.specs.Knowing.{found_at}
@@ -11,6 +11,7 @@ use Rattle.wot_regex.specs.declared.node.Node.{Node}
 use Rattle.wot_regex.specs.declared.node.Node.TheVariants.{Any, Byte, Member, Range}
 use Rattle.wot_regex.specs.declared.reach.Reach.{Reach}
 use Rattle.wot_regex.specs.declared.set.Set.{Set}
+use Rattle.wot_regex.specs.declared.steps.Common.{Common}
 
 -- a place is in a set of words of 64 bits
 abbrev pub has : List ℕ → ℕ → Bool
@@ -57,10 +58,26 @@ only zero i = []
 only (suc n) zero = marked true ∷ replicate n nowhere
 only (suc n) (suc i) = nowhere ∷ only n i
 
--- what comes next inside a text where no place is marked, and where one is
-pub record IsRows (nodes : List Node) (first : Row) (rows : List Row) : Type 0 where
-  pub none : IsRow nodes false (replicate (length nodes) nowhere) first
+-- the places two on from others
+abbrev pub two_on : (ℕ → Bool) → ℕ → Bool
+two_on places zero = false
+two_on places (suc zero) = false
+two_on places (suc (suc i)) = places i
+
+-- a place leads two on, and else only to what comes next where no place is marked
+pub record IsStep (first row : Row) (place : ℕ) : Type 0 where
+  pub next : (i : ℕ) → i < 512 → has row.next.words i ≡ (has first.next.words i || two_on (λ j. j == place) i)
+  pub found : row.found ≡ first.found
+
+-- each of these places is a step
+abbrev pub AreSteps : Row → Set → List Row → Type 0
+AreSteps first steps rows = (i : ℕ) (d : Row) → i < length rows → has steps.words i ≡ true → IsStep first (get_or rows i d) i
+
+-- what comes next inside a text where no place is marked, and where one is; and places that are steps
+pub record IsRows (nodes : List Node) (common : Common) (rows : List Row) : Type 0 where
+  pub none : IsRow nodes false (replicate (length nodes) nowhere) common.first
   pub each : (i : ℕ) (d : Row) → i < length nodes → IsRow nodes false (only (length nodes) i) (get_or rows i d)
+  pub steps : AreSteps common.first common.steps rows
 
 -- the marks of the first places alone
 abbrev pub front : ℕ → List Reach → List Reach
@@ -70,7 +87,7 @@ front (suc i) (c ∷ cs) = c ∷ front i cs
 
 -- the rows, and the symbols that take each byte
 pub record IsFollowers (nodes : List Node) (followers : Followers) : Type 0 where
-  pub rows : IsRows nodes followers.first followers.rows
+  pub rows : IsRows nodes followers.common followers.rows
   pub each_mask : (b : ℕ) (d : Set) → b < 256 → Holds (get_or followers.masks b d).words (taking nodes b)
 
 -- a list keeps what it had

@@ -40,7 +40,7 @@ pub record IsMoves (sets : List Set) (states : List State) (moves : List (List �
 
 pub record IsKnown (nodes : List Node) (known : Known) : Type 0 where
   pub room : length nodes ≤ 512
-  pub rows : IsRows nodes known.first known.rows.items
+  pub rows : IsRows nodes known.common known.rows.items
   pub whole : length known.rows.items ≡ length nodes
   pub masks : IsMasks nodes known.masks
   pub states : IsStates nodes known.states.items

@@ -15,12 +15,14 @@ ghost use Rattle.wot_regex.specs.declared.followers.Row.{Row};
 ghost use Rattle.wot_regex.specs.declared.node.Node.{Node};
 ghost use Rattle.wot_regex.specs.declared.reach.Reach.{Reach};
 ghost use Rattle.wot_regex.specs.declared.set.Set.{Set};
+ghost use Rattle.wot_regex.specs.declared.steps.Common.{Common};
 
 use crate::matching::{gather, reach_at, spread};
 use crate::node::Node;
 use crate::nodes::{Nodes, ROOM};
 use crate::reach::{Place, Reach};
 use crate::set::{PLACES, Set};
+use crate::steps::{Common, row_by_steps, steps_of};
 
 /// Where the symbols are that may come next, and whether a match ends here, inside a text.
 #[derive(Clone, Copy)]
@@ -32,8 +34,8 @@ pub struct Row {
 /// What a long text is searched by, of an expression of which nothing is kept.
 #[derive(Drop)]
 pub struct Followers {
-    /// Where no place is marked.
-    pub first: Row,
+    /// Where no place is marked, and which places are steps.
+    pub common: Common,
     /// Where one place is.
     pub rows: [Row; PLACES],
     /// The symbols that take each byte.
@@ -64,7 +66,7 @@ fn search_sets(nodes: &[Node], followers: &Followers, marks: Set, rest: &[u8]) -
 {
     let mut marks = marks;
     for b in rest {
-        let row = row_from(&followers.first, &followers.rows[..nodes.len()], &marks);
+        let row = row_from(&followers.common, &followers.rows[..nodes.len()], &marks);
         if row.found {
             return true;
         }
@@ -95,12 +97,26 @@ fn mark(marks: &Set, cells: &mut [Reach])
     }
 }
 
-/// What comes next by the marks.
-pub fn row_from(first: &Row, rows: &[Row], marks: &Set) -> Row
+/// What comes next by the marks. Those of steps are moved together.
+pub fn row_from(common: &Common, rows: &[Row], marks: &Set) -> Row
     requires { length rows.now ≤ PLACES }
-    ensures { (nodes : List Node) (cells : List Reach) → length nodes ≡ length rows.now → IsRows nodes first.now rows.now → length cells ≡ length nodes → Holds marks.now.words cells → IsRow nodes false cells result }
+    ensures { (nodes : List Node) (cells : List Reach) → length nodes ≡ length rows.now → IsRows nodes common.now rows.now → length cells ≡ length nodes → Holds marks.now.words cells → IsRow nodes false cells result }
 {
-    let mut row = *first;
+    let mut moved = *marks;
+    moved.meet(&common.steps);
+    let mut others = *marks;
+    others.leave(&common.steps);
+    let mut row = row_by_places(common, rows, &others);
+    row.join(&row_by_steps(&common.first, &moved));
+    row
+}
+
+/// What comes next by the marks, one after another.
+fn row_by_places(common: &Common, rows: &[Row], marks: &Set) -> Row
+    requires { length rows.now ≤ PLACES }
+    ensures { (nodes : List Node) (cells : List Reach) → length nodes ≡ length rows.now → IsRows nodes common.now rows.now → length cells ≡ length nodes → Holds marks.now.words cells → IsRow nodes false cells result }
+{
+    let mut row = common.first;
     for i in 0..8 {
         row.join_word(rows, 64 * i, marks.words[i]);
     }
@@ -112,7 +128,7 @@ impl Row {
     fn join_word(&mut self, rows: &[Row], from: usize, word: u64)
         requires rows { length rows.now ≤ PLACES }
         requires from { from < PLACES }
-        ensures { (nodes : List Node) (first : Row) (words : List ℕ) (cells : List Reach) (i : ℕ) → length nodes ≡ length rows.now → IsRows nodes first rows.now → length cells ≡ length nodes → Holds words cells → from ≡ 64 * i → word ≡ get_or words i 0 → IsRow nodes false (front from cells) self.old → IsRow nodes false (front (from + 64) cells) self.new }
+        ensures { (nodes : List Node) (common : Common) (words : List ℕ) (cells : List Reach) (i : ℕ) → length nodes ≡ length rows.now → IsRows nodes common rows.now → length cells ≡ length nodes → Holds words cells → from ≡ 64 * i → word ≡ get_or words i 0 → IsRow nodes false (front from cells) self.old → IsRow nodes false (front (from + 64) cells) self.new }
     {
         let mut left = word;
         while left != 0 {
@@ -151,9 +167,15 @@ fn followers_of(nodes: &[Node]) -> Followers
     let first = blank_row(nodes, free.as_slice(), false);
     let mut rows = [first; PLACES];
     note_rows(nodes, free.as_slice(), &mut rows);
+    let steps = steps_of(&first, &rows);
     let mut masks = [Set::NONE; 256];
     note_masks(nodes, &mut masks);
-    Followers { first, rows, masks }
+    let common = Common { first, steps };
+    Followers {
+        common,
+        rows,
+        masks,
+    }
 }
 
 /// Notes what comes next for each place alone.

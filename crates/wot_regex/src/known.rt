@@ -20,6 +20,7 @@ use crate::masks::Masks;
 use crate::node::Node;
 use crate::search::search_from;
 use crate::set::{PLACES, Set};
+use crate::steps::{Common, steps_of};
 use std::alloc::Global;
 use wot_types::Mem;
 
@@ -43,9 +44,9 @@ pub struct State {
 #[derive(Drop)]
 pub struct Known {
     pub alloc: Global,
-    /// What comes next inside a text where no place is marked.
-    pub first: Row,
-    /// The same where one place is.
+    /// What comes next inside a text where no place is marked, and which places are steps.
+    pub common: Common,
+    /// What comes next where one place is marked.
     pub rows: Vec<Row>,
     pub masks: Masks,
     pub states: Vec<State>,
@@ -62,6 +63,7 @@ impl Known {
         let first = blank_row(nodes, free.as_slice(), false);
         let mut rows = vec![in alloc; first; nodes.len()]?;
         note_rows(nodes, free.as_slice(), &mut rows);
+        let steps = steps_of(&first, &rows);
         let start = State {
             marks: Set::NONE,
             row: blank_row(nodes, free.as_slice(), true),
@@ -73,7 +75,7 @@ impl Known {
         moves.push([0; CLASSES])?;
         Ok(Known {
             alloc,
-            first,
+            common: Common { first, steps },
             rows,
             masks: Masks::new(alloc),
             states,
@@ -140,7 +142,14 @@ impl Known {
     {
         let mut marks = self.states[at].row.next;
         marks.meet(&self.masks.mask(nodes, b));
-        search_from(nodes, &self.first, &self.rows, &mut self.masks, marks, rest)
+        search_from(
+            nodes,
+            &self.common,
+            &self.rows,
+            &mut self.masks,
+            marks,
+            rest,
+        )
     }
 
     /// The state to which a byte leads, and 0 where there is no room for it.
@@ -232,7 +241,7 @@ impl Known {
         ensures placed { IfOk result (λ to. (d : State) → (get_or self.new.states.items to d).marks.words ≡ marks.words) }
     {
         let to = self.states.len();
-        let row = row_from(&self.first, &self.rows, &marks);
+        let row = row_from(&self.common, &self.rows, &marks);
         self.moves.push([0; CLASSES])?;
         self.states.push(State {
             marks,

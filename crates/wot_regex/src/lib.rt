@@ -18,6 +18,7 @@ mod search; // searching the rest of a text
 mod scope; // whether a scope admits a text
 mod set; // sets of places of a table
 mod stack; // what parts reach, of which the last is taken back first
+mod steps; // places that only lead to the symbol behind them
 
 pub use asked::Asked;
 pub use expr::{Expr, read};

@@ -11,11 +11,12 @@ use crate::followers::{Row, ends, row_from};
 use crate::masks::Masks;
 use crate::node::Node;
 use crate::set::{PLACES, Set};
+use crate::steps::Common;
 
 /// Whether a match ends in the rest of a text, from these marks on, which are not at its start.
 pub fn search_from(
     nodes: &[Node],
-    first: &Row,
+    common: &Common,
     rows: &[Row],
     masks: &mut Masks,
     marks: Set,
@@ -23,7 +24,7 @@ pub fn search_from(
 ) -> bool
     requires room { length nodes.now ≤ PLACES }
     requires whole { length rows.now ≡ length nodes.now }
-    requires rows { IsRows nodes.now first.now rows.now }
+    requires rows { IsRows nodes.now common.now rows.now }
     requires masks { IsMasks nodes.now masks.old }
     ensures masks { IsMasks nodes.now masks.new }
     ensures kept { Keeps masks.old.sets.items masks.new.sets.items }
@@ -31,7 +32,7 @@ pub fn search_from(
 {
     let mut marks = marks;
     for b in rest {
-        let row = row_from(first, rows, &marks);
+        let row = row_from(common, rows, &marks);
         if row.found {
             return true;
         }

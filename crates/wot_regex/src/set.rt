@@ -1,7 +1,8 @@
 //! Sets of places of a table.
 
-ghost use Rattle.std.specs.Prelude.{◌≡◌, ◌≢◌, ◌<◌, ℕ, ◌||◌, ◌&&◌, true};
-ghost use Rattle.wot_regex.specs.Following.{has};
+ghost use Rattle.std.specs.Prelude.{◌≡◌, ◌≢◌, ◌<◌, ◌==◌, ◌+◌, ◌*◌, ℕ, ◌||◌, ◌&&◌, not, true};
+ghost use Rattle.std.specs.Int.{bit_at};
+ghost use Rattle.wot_regex.specs.Following.{has, two_on};
 
 /// So many places at most.
 pub const PLACES: usize = 512;
@@ -65,4 +66,43 @@ impl Set {
             self.words[i] &= other.words[i];
         }
     }
+
+    /// The places of it that are not in another.
+    pub fn leave(&mut self, other: &Set)
+        ensures { (i : ℕ) → i < PLACES → has self.new.words i ≡ (has self.old.words i && not (has other.now.words i)) }
+    {
+        for i in 0..8 {
+            self.words[i] ^= self.words[i] & other.words[i];
+        }
+    }
+
+    /// The places two on from its own, as far as there are any.
+    pub fn two_on(&self) -> Set
+        ensures { (i : ℕ) → i < PLACES → has result.words i ≡ two_on (has self.now.words) i }
+    {
+        let mut set = Set::NONE;
+        for i in 0..8 {
+            set.words[i] = self.word_two_on(i);
+        }
+        set
+    }
+
+    /// A word of the places two on.
+    fn word_two_on(&self, i: usize) -> u64
+        requires { i < 8 }
+        ensures { (j : ℕ) → j < 64 → (bit_at result j == 1) ≡ two_on (has self.now.words) (64 * i + j) }
+    {
+        if i == 0 {
+            return moved_by_two(self.words[0], 0);
+        }
+        moved_by_two(self.words[i], self.words[i - 1])
+    }
+}
+
+/// A word moved by two bits, behind the last two of the word before it.
+fn moved_by_two(word: u64, before: u64) -> u64
+    ensures first { (j : ℕ) → j < 2 → bit_at result j ≡ bit_at before (62 + j) }
+    ensures others { (j : ℕ) → j < 62 → bit_at result (j + 2) ≡ bit_at word j }
+{
+    word << 2 | before >> 62
 }

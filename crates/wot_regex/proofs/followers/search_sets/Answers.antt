@@ -14,7 +14,7 @@ returns-then-row c = λ tree cells found is same holds searching.
     let room : length nodes ≤ length c.args.followers.now.rows = omega (arith, c.requires.room) in
     let lt : i < length text = omega arith in
     let g = going_byte tree nodes false c.loop-b.marks.words text i found lt (c.loop-b.invariant tree cells found is same holds searching) in
-    going_ends tree nodes false c.loop-b.marks.words (drop (i + 1) text) found (get_or text i 0) c.row_from-row.result is g (c.row_from-row.ensures nodes g.cells (sym (length-take-le (length nodes) c.args.followers.now.rows room)) (rows_taken nodes c.args.followers.now.first c.args.followers.now.rows c.requires.followers.rows) g.same g.holds) c.if-row.true
+    going_ends tree nodes false c.loop-b.marks.words (drop (i + 1) text) found (get_or text i 0) c.row_from-row.result is g (c.row_from-row.ensures nodes g.cells (sym (length-take-le (length nodes) c.args.followers.now.rows room)) (rows_taken nodes c.args.followers.now.common c.args.followers.now.rows room c.requires.followers.rows) g.same g.holds) c.if-row.true
 
 pub loop-b-preserved : goal.loop-b-preserved
 loop-b-preserved c = λ tree cells found is same holds searching.
@@ -25,7 +25,7 @@ loop-b-preserved c = λ tree cells found is same holds searching.
     let lt : i < length text = omega arith in
     let b = get_or text i 0 in
     let g = going_byte tree nodes false c.loop-b.marks.words text i found lt (c.loop-b.invariant tree cells found is same holds searching) in
-    going_on tree nodes false c.loop-b.marks.words c.meet.new.self.words _ (drop (i + 1) text) found b c.row_from-row.result c.requires.room is g (c.row_from-row.ensures nodes g.cells (sym (length-take-le (length nodes) c.args.followers.now.rows room)) (rows_taken nodes c.args.followers.now.first c.args.followers.now.rows c.requires.followers.rows) g.same g.holds)
+    going_on tree nodes false c.loop-b.marks.words c.meet.new.self.words _ (drop (i + 1) text) found b c.row_from-row.result c.requires.room is g (c.row_from-row.ensures nodes g.cells (sym (length-take-le (length nodes) c.args.followers.now.rows room)) (rows_taken nodes c.args.followers.now.common c.args.followers.now.rows room c.requires.followers.rows) g.same g.holds)
     c.if-row.false (c.requires.followers.each_mask b _ (omega arith)) c.meet.ensures
 
 pub returns : goal.returns

@@ -34,7 +34,7 @@ returns-clause-known c =
     let P : List State → Type 0 = λ s. IsStates nodes s in
     let Q : List State → Type 0 = λ s. IsMoves sets s c.push.new.self.items in
     let R : List (List ℕ) → Type 0 = λ m. IsMoves sets (states ++ state ∷ []) m in
-    let S : List Row → Type 0 = λ r. IsRows nodes c.args.self.now.first r in
+    let S : List Row → Type 0 = λ r. IsRows nodes c.args.self.now.common r in
     let room : length (states ++ state ∷ []) ≤ length (moves ++ replicate 64 0 ∷ []) = omega (arith, known.moves.rows, length-append states (state ∷ []), length-append moves (replicate 64 0 ∷ [])) in
     record {
       room = known.room;

@@ -1,6 +1,6 @@
 use Rattle.std.proofs.Common.{rules, ◌≡◌, ◌<◌, false, get_or, ◌++◌, ◌∷◌, [], None, List, ℕ, length, replicate, refl, ap, ◌∙◌, sym, subst}
 use Rattle.std.proofs.lemmas.List.{take_at}
-use Rattle.wot_regex.specs.Following.{IsRow, only}
+use Rattle.wot_regex.specs.Following.{AreSteps, IsRow, only}
 use Rattle.wot_regex.specs.States.{IsMoves, IsStates}
 use Rattle.wot_regex.specs.declared.followers.Row.{Row}
 use Rattle.wot_regex.specs.declared.known.State.{State}
@@ -21,9 +21,10 @@ returns c =
     let len : length c.note_rows.new.rows ≡ c.in_ok-rows.rows.len = search rules in
     let items = take_at c.note_rows.new.rows _ c.in_ok-rows.rows.len len in
     let T : List Row → Type 0 = λ r. (i : ℕ) (d : Row) → i < length nodes → IsRow nodes false (only (length nodes) i) (get_or r i d) in
+    let S : List Row → Type 0 = λ r. AreSteps c.blank_row-first.result c.steps_of-steps.result r in
     record {
       room = c.requires.room;
-      rows = record { none = c.blank_row-first.ensures; each = subst T (sym items) c.note_rows.ensures };
+      rows = record { none = c.blank_row-first.ensures; each = subst T (sym items) c.note_rows.ensures; steps = subst S c.deref.ensures.value c.steps_of-steps.ensures };
       whole = ap length items ∙ noted ∙ ap length (c.deref_mut.ensures.value ∙ made) ∙ length_blank (length nodes) c.blank_row-first.result;
       masks = c.new.ensures nodes;
       states = subst P (sym states) (one_state nodes start (first_state nodes start refl refl c.blank_row.ensures) refl);
