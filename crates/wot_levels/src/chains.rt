@@ -8,7 +8,7 @@ ghost use Rattle.wot_types.specs.Scope.{admits};
 
 use crate::introducers::Introducers;
 use wot_regex::Asked;
-use wot_scope::{has_domain, in_scope};
+use wot_scope::by_domain;
 use wot_types::{KeyId, MOST_SCOPE, Options, Row, Rows, Text};
 
 /// The row of whoever delegated to an introducer, where it is of a lower level.
@@ -23,14 +23,26 @@ fn delegator<'a>(introducers: &Introducers<'a>, row: &Row) -> Option<&'a Row>
     }
 }
 
-/// Whether a scope admits a text. One of the domain form, as nearly all are, is tested without reading it as an expression.
+/// Whether a scope of the domain form, as nearly all are, admits a text: this is tested without reading it as an expression. None where it is of
+/// another form, or too long for an expression.
+fn domain_admits(scope: &Text, text: &Text) -> Option<bool>
+    ensures { IfSome result (λ admitted. admitted ≡ admits (Some scope.now) text.now) }
+{
+    if scope.as_bytes().len() <= MOST_SCOPE {
+        by_domain(scope, text)
+    } else {
+        None
+    }
+}
+
+/// Whether a scope admits a text.
 fn scope_admits(scope: &Text, text: &Text, asked: &mut Asked) -> bool
     ensures { result ≡ admits (Some scope.now) text.now }
 {
-    if scope.as_bytes().len() <= MOST_SCOPE && has_domain(scope) {
-        return in_scope(scope, text);
+    match domain_admits(scope, text) {
+        Some(admitted) => admitted,
+        None => asked.admits(scope, text),
     }
-    asked.admits(scope, text)
 }
 
 /// Whether an introducer's own scope admits a text.
