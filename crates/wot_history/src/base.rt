@@ -1,6 +1,6 @@
 //! The state of a base, its rows counted anew.
 
-ghost use Rattle.std.specs.Prelude.{◌≡◌, ◌<◌, length, Option, IfOk, IfErr, IsErrOf};
+ghost use Rattle.std.specs.Prelude.{◌≡◌, ◌<◌, length, Option, IfOk, IfErr};
 ghost use Rattle.wot_types.specs.Candidates.{RowMap};
 ghost use Rattle.wot_types.specs.Image.{IsBase};
 ghost use Rattle.wot_types.specs.PagePlaces.{content_size, page_place};
@@ -9,7 +9,7 @@ ghost use Rattle.wot_types.specs.WellFormedState.{IsWellFormedState};
 ghost use Rattle.wot_site.specs.Disk.{disk_of};
 ghost use Rattle.wot_site.specs.Gate.{most_side};
 ghost use Rattle.wot_site.specs.Seen.{Honestly, IfHonest};
-ghost use Rattle.wot_site.specs.Site.{DiskRose};
+ghost use Rattle.wot_site.specs.Site.{FailsOnlyBy};
 ghost use Rattle.wot_image.specs.States.{image_state};
 ghost use Rattle.wot_history.specs.Reading.{FindsBase, LacksBase, NoBase, unread_pages};
 
@@ -97,8 +97,7 @@ pub fn load_base<R: Threads + Sync, S: Site, G: Gate + Sync>(
     ensures base { IfOk result (λ r. Honestly (S.seen site.old) (S.seen site.new) (FindsBase side epoch pages r.0)) }
     ensures start { IfOk result (λ r. (r.1 ≡ page_place pages) × (r.1 < size) × (r.1 < most_side)) }
     ensures lacks { IfErr result (λ e. Honestly (S.seen site.old) (S.seen site.new) (LacksBase side epoch pages e)) }
-    ensures cause { IsErrOf result HistoryError.DiskFault → DiskRose (S.faults site.old) (S.faults site.new) }
-    ensures quiet { (IsErrOf result HistoryError.DiskFault → ⊥) → S.faults site.new ≡ S.faults site.old }
+    ensures cause { FailsOnlyBy HistoryError.DiskFault (S.faults site.old) (S.faults site.new) result }
 {
     let start = match journal_start(pages, size) {
         Some(start) => start,

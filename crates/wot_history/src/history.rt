@@ -1,10 +1,10 @@
 //! The state after so many edits since the base.
 
-ghost use Rattle.std.specs.Prelude.{◌≡◌, IfOk, IfErr, IsErrOf};
+ghost use Rattle.std.specs.Prelude.{◌≡◌, IfOk, IfErr};
 ghost use Rattle.wot_types.specs.Store.{Store};
 ghost use Rattle.wot_types.specs.WellFormedState.{IsWellFormedState};
 ghost use Rattle.wot_site.specs.Seen.{Honestly, IfHonest};
-ghost use Rattle.wot_site.specs.Site.{DiskRose, Stays};
+ghost use Rattle.wot_site.specs.Site.{FailsOnlyBy, Stays};
 ghost use Rattle.wot_store.specs.declared.place.Place.{Place};
 ghost use Rattle.wot_store.specs.Shows.{IsStored};
 ghost use Rattle.wot_history.specs.History.{IsAsked, IsEarlier};
@@ -39,8 +39,7 @@ pub fn state_at<R: Threads + Sync, S: Site, G: Gate + Sync>(
     ensures found { IfOk result (λ engine. Honestly (S.seen site.old) (S.seen site.new) (FindsState side epoch pages count engine)) }
     ensures lacks { IfErr result (λ e. Honestly (S.seen site.old) (S.seen site.new) (LacksIt side epoch pages count e)) }
     ensures stays { Honestly (S.seen site.old) (S.seen site.new) Stays }
-    ensures cause { IsErrOf result HistoryError.DiskFault → DiskRose (S.faults site.old) (S.faults site.new) }
-    ensures quiet { (IsErrOf result HistoryError.DiskFault → ⊥) → S.faults site.new ≡ S.faults site.old }
+    ensures cause { FailsOnlyBy HistoryError.DiskFault (S.faults site.old) (S.faults site.new) result }
 {
     let size = match site.size(side) {
         Ok(size) => size,

@@ -1,11 +1,11 @@
 //! The first records of a journal.
 
-ghost use Rattle.std.specs.Prelude.{◌≡◌, ◌<◌, length, IfOk, IfErr, IsErrOf};
+ghost use Rattle.std.specs.Prelude.{◌≡◌, ◌<◌, length, IfOk, IfErr};
 ghost use Rattle.wot_types.specs.WellFormedState.{IsWellFormedState};
 ghost use Rattle.wot_site.specs.Disk.{disk_of};
 ghost use Rattle.wot_site.specs.Gate.{most_side};
 ghost use Rattle.wot_site.specs.Seen.{Honestly, IfHonest};
-ghost use Rattle.wot_site.specs.Site.{DiskRose};
+ghost use Rattle.wot_site.specs.Site.{FailsOnlyBy};
 ghost use Rattle.wot_history.specs.Reading.{Replays, StopsAt, unmade_record, unread_record};
 
 use crate::error::HistoryError;
@@ -54,8 +54,7 @@ pub fn replay_first<S: Site>(
     ensures sound { IfOk result (λ draft. IsWellFormedState draft) }
     ensures replayed { IfOk result (λ draft. Honestly (S.seen site.old) (S.seen site.new) (Replays side start base count draft)) }
     ensures stops { IfErr result (λ e. Honestly (S.seen site.old) (S.seen site.new) (StopsAt side start base count e)) }
-    ensures cause { IsErrOf result HistoryError.DiskFault → DiskRose (S.faults site.old) (S.faults site.new) }
-    ensures quiet { (IsErrOf result HistoryError.DiskFault → ⊥) → S.faults site.new ≡ S.faults site.old }
+    ensures cause { FailsOnlyBy HistoryError.DiskFault (S.faults site.old) (S.faults site.new) result }
 {
     let mut draft = base;
     let mut at = start;

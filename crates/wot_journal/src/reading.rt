@@ -4,7 +4,7 @@ ghost use Rattle.std.specs.Prelude.{◌≡◌, ◌≢◌, ◌+◌, ◌-◌, ◌^
 ghost use Rattle.std.specs.Int.{from_be_bytes, to_be_bytes, w32};
 ghost use Rattle.wot_site.specs.Disk.{disk_of};
 ghost use Rattle.wot_site.specs.Seen.{Honestly, IfHonest};
-ghost use Rattle.wot_site.specs.Site.{Stays, DiskRose};
+ghost use Rattle.wot_site.specs.Site.{FailsOnlyBy, Stays};
 ghost use Rattle.wot_journal.specs.Found.{Finds, GoesOn, IsTruncatedAt};
 ghost use Rattle.wot_journal.specs.Range.{IsRange};
 
@@ -50,8 +50,7 @@ pub fn next<S: Site>(
     ensures stays { OnErr result (Honestly (S.seen site.old) (S.seen site.new) Stays) }
     ensures short { (q : _) → IsErrOf result (ReplayError.Short q) → q ≡ at }
     ensures truncated { (q : _) → IsErrOf result (ReplayError.Short q) → Honestly (S.seen site.old) (S.seen site.new) (IsTruncatedAt side at) }
-    ensures cause { IsErrOf result ReplayError.DiskFault → DiskRose (S.faults site.old) (S.faults site.new) }
-    ensures quiet { (IsErrOf result ReplayError.DiskFault → ⊥) → S.faults site.new ≡ S.faults site.old }
+    ensures cause { FailsOnlyBy ReplayError.DiskFault (S.faults site.old) (S.faults site.new) result }
 {
     let gate = match read_part(alloc, site, side, at, 1, at) {
         Ok(gate) => gate,
@@ -103,8 +102,7 @@ fn read_part<S: Site>(
     ensures stays { OnErr result (Honestly (S.seen site.old) (S.seen site.new) Stays) }
     ensures short { (q : _) → IsErrOf result (ReplayError.Short q) → q ≡ place }
     ensures never { (q : _) → IsErrOf result (ReplayError.Short q) → S.seen site.old ≡ None }
-    ensures cause { IsErrOf result ReplayError.DiskFault → DiskRose (S.faults site.old) (S.faults site.new) }
-    ensures quiet { (IsErrOf result ReplayError.DiskFault → ⊥) → S.faults site.new ≡ S.faults site.old }
+    ensures cause { FailsOnlyBy ReplayError.DiskFault (S.faults site.old) (S.faults site.new) result }
 {
     match read_range(alloc, site, side, at, len) {
         Ok(bytes) => Ok(bytes),

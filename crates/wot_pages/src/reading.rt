@@ -3,7 +3,7 @@
 ghost use Rattle.std.specs.Prelude.{◌≡◌, ◌*◌, ◌<◌, ◌≤◌, length, IfOk, OnErr, IsErrOf};
 ghost use Rattle.wot_site.specs.Disk.{disk_of};
 ghost use Rattle.wot_site.specs.Seen.{Honestly, IfHonest};
-ghost use Rattle.wot_site.specs.Site.{Stays, DiskRose};
+ghost use Rattle.wot_site.specs.Site.{FailsOnlyBy, Stays};
 ghost use Rattle.wot_types.specs.PagePlaces.{content_size, most_side, page_place};
 ghost use Rattle.wot_pages.specs.Reading.{ReadsPages, FindsFault};
 
@@ -44,8 +44,7 @@ pub fn read_pages<R: Threads + Sync, S: Site, G: Gate + Sync>(
     ensures stays { OnErr result (Honestly (S.seen site.old) (S.seen site.new) Stays) }
     ensures seal { (k : _) → IsErrOf result (PagesError.Seal k) → Honestly (S.seen site.old) (S.seen site.new) (FindsFault side epoch pages k) }
     ensures there { (k : _) → IsErrOf result (PagesError.Seal k) → k < pages }
-    ensures cause { IsErrOf result PagesError.DiskFault → DiskRose (S.faults site.old) (S.faults site.new) }
-    ensures quiet { (IsErrOf result PagesError.DiskFault → ⊥) → S.faults site.new ≡ S.faults site.old }
+    ensures cause { FailsOnlyBy PagesError.DiskFault (S.faults site.old) (S.faults site.new) result }
 {
     let read = match read_sealed(alloc, site, side, pages) {
         Ok(read) => read,

@@ -2,7 +2,7 @@
 
 ghost use Rattle.std.specs.Prelude.{◌≡◌, ◌+◌, ◌*◌, ◌<◌, ◌≤◌, [], ◌∷◌, ◌++◌, length, take, drop, IfOk, OnErr, IsErrOf};
 ghost use Rattle.wot_site.specs.Seen.{Honestly};
-ghost use Rattle.wot_site.specs.Site.{Stays, DiskRose};
+ghost use Rattle.wot_site.specs.Site.{FailsOnlyBy, Stays};
 ghost use Rattle.wot_types.specs.PagePlaces.{content_size, most_side, page_place, page_size};
 ghost use Rattle.wot_pages.specs.Reading.{ReadsSealed};
 
@@ -60,8 +60,7 @@ pub fn read_sealed<S: Site>(
     ensures read { IfOk result (λ sealed. Honestly (S.seen site.old) (S.seen site.new) (ReadsSealed side pages sealed.contents.items sealed.seals.items)) }
     ensures stays { OnErr result (Honestly (S.seen site.old) (S.seen site.new) Stays) }
     ensures no_seal { (k : _) → IsErrOf result (PagesError.Seal k) → ⊥ }
-    ensures cause { IsErrOf result PagesError.DiskFault → DiskRose (S.faults site.old) (S.faults site.new) }
-    ensures quiet { (IsErrOf result PagesError.DiskFault → ⊥) → S.faults site.new ≡ S.faults site.old }
+    ensures cause { FailsOnlyBy PagesError.DiskFault (S.faults site.old) (S.faults site.new) result }
 {
     let mut sealed = match Sealed::with_room(alloc, pages as usize) {
         Ok(sealed) => sealed,

@@ -1,5 +1,5 @@
 -- What the calls of a site do, as steps between what it tells before and after.
-use Rattle.std.specs.Prelude.{ℕ, ◌≡◌, ◌⊎◌, ◌+◌, ◌-◌, ◌^◌, ◌<◌, ◌≤◌, List, [], ◌∷◌, ◌++◌, length, take, drop, Result, IsErr, OnOk}
+use Rattle.std.specs.Prelude.{ℕ, ◌≡◌, ◌⊎◌, ◌+◌, ◌-◌, ◌^◌, ◌<◌, ◌≤◌, List, [], ◌∷◌, ◌++◌, length, take, drop, Result, IsErr, IsErrOf, OnOk}
 use Rattle.wot_site.specs.Disk.{Disk, Disks, disk_of, with_disk, after_write, after_sync}
 use Rattle.wot_site.specs.Seen.{Seen, Moment, Faults}
 use Rattle.wot_site.specs.declared.asked.Asked.{Asked}
@@ -107,3 +107,8 @@ pub record DiskRose (old new : Faults) : Type 0 where
 pub record HasCause {T E : Type 0} (Raised : Faults → Faults → Type 0) (old new : Faults) (result : Result T E) : Type 0 where
   pub failed : IsErr result → Raised old new
   pub quiet : OnOk result (new ≡ old)
+
+-- a call fails by this fault only where the disk's count rose and no other, and in any other case it leaves every count
+pub record FailsOnlyBy {T E : Type 0} (fault : E) (old new : Faults) (result : Result T E) : Type 0 where
+  pub rose : IsErrOf result fault → DiskRose old new
+  pub quiet : (IsErrOf result fault → ⊥) → new ≡ old

@@ -3,7 +3,7 @@
 ghost use Rattle.std.specs.Prelude.{◌≡◌, ◌+◌, ◌-◌, ◌^◌, ◌<◌, ◌≤◌, length, IfOk, OnErr, IsErrOf};
 ghost use Rattle.wot_site.specs.Disk.{disk_of};
 ghost use Rattle.wot_site.specs.Seen.{Honestly};
-ghost use Rattle.wot_site.specs.Site.{Stays, DiskRose};
+ghost use Rattle.wot_site.specs.Site.{FailsOnlyBy, Stays};
 ghost use Rattle.wot_site.specs.Reading.{IsRange, IsShort};
 
 use crate::failed::Failed;
@@ -36,8 +36,7 @@ pub fn read_range<S: Site>(
     ensures range { IfOk result (λ bytes. Honestly (S.seen site.old) (S.seen site.new) (IsRange side at len bytes.items)) }
     ensures stays { OnErr result (Honestly (S.seen site.old) (S.seen site.new) Stays) }
     ensures short { IsErrOf result RangeError.Short → Honestly (S.seen site.old) (S.seen site.new) (IsShort side at len) }
-    ensures cause { IsErrOf result RangeError.DiskFault → DiskRose (S.faults site.old) (S.faults site.new) }
-    ensures quiet { (IsErrOf result RangeError.DiskFault → ⊥) → S.faults site.new ≡ S.faults site.old }
+    ensures cause { FailsOnlyBy RangeError.DiskFault (S.faults site.old) (S.faults site.new) result }
 {
     let mut bytes = Vec::new(alloc);
     let mut buf = [0u8; PIECE];

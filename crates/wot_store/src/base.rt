@@ -3,7 +3,7 @@
 ghost use Rattle.std.specs.Prelude.{◌≡◌, ◌<◌, ◌≤◌, length, min, nat_lt, if◌then◌else◌, Some, None, IfOk, OnErr, IsErrOf};
 ghost use Rattle.wot_site.specs.Disk.{disk_of};
 ghost use Rattle.wot_site.specs.Seen.{Honestly, IfHonest};
-ghost use Rattle.wot_site.specs.Site.{Stays, DiskRose};
+ghost use Rattle.wot_site.specs.Site.{FailsOnlyBy, Stays};
 ghost use Rattle.wot_site.specs.Gate.{most_side};
 ghost use Rattle.wot_types.specs.WellFormedState.{IsWellFormedState};
 ghost use Rattle.wot_types.specs.PagePlaces.{page_place};
@@ -81,8 +81,7 @@ fn load_base<R: Threads + Sync, S: Site, G: Gate + Sync>(
     ensures start { IfOk result (λ r. (r.1 ≡ page_place header.pages) × (r.1 < size) × (r.1 < most_side)) }
     ensures stays { OnErr result (Honestly (S.seen site.old) (S.seen site.new) Stays) }
     ensures bad { (b : _) → IsErrOf result (StoreError.Bad b) → Honestly (S.seen site.old) (S.seen site.new) (LacksBase side header b) }
-    ensures cause { IsErrOf result StoreError.DiskFault → DiskRose (S.faults site.old) (S.faults site.new) }
-    ensures quiet { (IsErrOf result StoreError.DiskFault → ⊥) → S.faults site.new ≡ S.faults site.old }
+    ensures cause { FailsOnlyBy StoreError.DiskFault (S.faults site.old) (S.faults site.new) result }
 {
     let start = match journal_start(header.pages, size) {
         Some(start) => start,
@@ -123,8 +122,7 @@ pub fn resume<R: Threads + Sync, S: Site, G: Gate + Sync>(
     ensures resumed { IfOk result (λ r. Honestly (S.seen site.old) (S.seen site.new) (Resumes side header r.engine r.records r.end)) }
     ensures stays { OnErr result (Honestly (S.seen site.old) (S.seen site.new) Stays) }
     ensures bad { (b : _) → IsErrOf result (StoreError.Bad b) → Honestly (S.seen site.old) (S.seen site.new) (FailsBy side header b) }
-    ensures cause { IsErrOf result StoreError.DiskFault → DiskRose (S.faults site.old) (S.faults site.new) }
-    ensures quiet { (IsErrOf result StoreError.DiskFault → ⊥) → S.faults site.new ≡ S.faults site.old }
+    ensures cause { FailsOnlyBy StoreError.DiskFault (S.faults site.old) (S.faults site.new) result }
 {
     let (base, start) = match load_base(workers, alloc, site, side, header, size) {
         Ok(loaded) => loaded,

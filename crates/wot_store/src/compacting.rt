@@ -2,7 +2,7 @@
 
 ghost use Rattle.std.specs.Prelude.{◌≡◌, ◌+◌, ◌<◌, Ok, IfOk, OnOk, IsErrOf};
 ghost use Rattle.wot_site.specs.Seen.{Honestly, IfHonest};
-ghost use Rattle.wot_site.specs.Site.{DiskRose, Stays};
+ghost use Rattle.wot_site.specs.Site.{FailsOnlyBy, Stays};
 ghost use Rattle.wot_site.specs.Work.{Works};
 ghost use Rattle.wot_journal.specs.Commit.{MakesCalls};
 ghost use Rattle.wot_types.specs.Image.{image_bytes};
@@ -70,8 +70,7 @@ pub fn compact<S: Site>(
     ensures last { place.epoch ≡ last_epoch → result ≡ Ok place }
     ensures unwritten { place.epoch ≡ last_epoch → Honestly (S.seen site.old) (S.seen site.new) Stays }
     ensures memory { IsErrOf result CompactError.Memory → Honestly (S.seen site.old) (S.seen site.new) Stays }
-    ensures cause { IsErrOf result CompactError.DiskFault → DiskRose (S.faults site.old) (S.faults site.new) }
-    ensures quiet { (IsErrOf result CompactError.DiskFault → ⊥) → S.faults site.new ≡ S.faults site.old }
+    ensures cause { FailsOnlyBy CompactError.DiskFault (S.faults site.old) (S.faults site.new) result }
 {
     if place.epoch == u64::MAX {
         return Ok(place);

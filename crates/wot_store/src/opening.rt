@@ -2,7 +2,7 @@
 
 ghost use Rattle.std.specs.Prelude.{◌≡◌, ◌&&◌, ◌<◌, ◌≤◌, is_none, nat_le, length, IfOk, OnOk, OnErr, IsErrOf, None};
 ghost use Rattle.wot_site.specs.Seen.{Honestly, IfHonest};
-ghost use Rattle.wot_site.specs.Site.{HasCause, DiskRose, Stays};
+ghost use Rattle.wot_site.specs.Site.{DiskRose, FailsOnlyBy, HasCause, Stays};
 ghost use Rattle.wot_site.specs.Disk.{disk_of};
 ghost use Rattle.wot_site.specs.Work.{Works};
 ghost use Rattle.wot_site.specs.declared.side.Side.TheVariants.{Zero, One};
@@ -98,8 +98,7 @@ fn inspect_side<S: Site>(
     ensures says { IfOk result (λ header. Honestly (S.seen site.old) (S.seen site.new) (InspectsSide side header)) }
     ensures stays { OnErr result (Honestly (S.seen site.old) (S.seen site.new) Stays) }
     ensures never { (b : _) → IsErrOf result (StoreError.Bad b) → S.seen site.old ≡ None }
-    ensures cause { IsErrOf result StoreError.DiskFault → DiskRose (S.faults site.old) (S.faults site.new) }
-    ensures quiet { (IsErrOf result StoreError.DiskFault → ⊥) → S.faults site.new ≡ S.faults site.old }
+    ensures cause { FailsOnlyBy StoreError.DiskFault (S.faults site.old) (S.faults site.new) result }
 {
     if size < FIRST {
         return Ok(None);
@@ -118,8 +117,7 @@ fn inspect<S: Site>(alloc: Global, site: &mut S, sizes: Sizes) -> Result<Headers
     ensures says { IfOk result (λ headers. Honestly (S.seen site.old) (S.seen site.new) (Inspects headers)) }
     ensures stays { OnErr result (Honestly (S.seen site.old) (S.seen site.new) Stays) }
     ensures never { (b : _) → IsErrOf result (StoreError.Bad b) → S.seen site.old ≡ None }
-    ensures cause { IsErrOf result StoreError.DiskFault → DiskRose (S.faults site.old) (S.faults site.new) }
-    ensures quiet { (IsErrOf result StoreError.DiskFault → ⊥) → S.faults site.new ≡ S.faults site.old }
+    ensures cause { FailsOnlyBy StoreError.DiskFault (S.faults site.old) (S.faults site.new) result }
 {
     let zero = match inspect_side(alloc, site, Side::Zero, sizes.zero) {
         Ok(header) => header,
@@ -161,8 +159,7 @@ fn create<S: Site>(alloc: Global, site: &mut S, sizes: Sizes) -> Result<Opened, 
     ensures bytes { OnOk result (Honestly (S.seen site.old) (S.seen site.new) (Becomes Zero first_side)) }
     ensures calls { OnOk result (Honestly (S.seen site.old) (S.seen site.new) (MakesCalls (calls_for (nat_le 24 sizes.zero) 1))) }
     ensures written { Honestly (S.seen site.old) (S.seen site.new) (λ old new. Works (Spares One old.disks) old new) }
-    ensures cause { IsErrOf result StoreError.DiskFault → DiskRose (S.faults site.old) (S.faults site.new) }
-    ensures quiet { (IsErrOf result StoreError.DiskFault → ⊥) → S.faults site.new ≡ S.faults site.old }
+    ensures cause { FailsOnlyBy StoreError.DiskFault (S.faults site.old) (S.faults site.new) result }
 {
     let (engine, image) = match new_engine(alloc) {
         Ok(new) => new,
@@ -204,8 +201,7 @@ fn open_shown<R: Threads + Sync, S: Site, G: Gate + Sync>(
     ensures opened { IfOk result (λ o. Honestly (S.seen site.old) (S.seen site.new) (Opens o.place o.engine)) }
     ensures stays { Honestly (S.seen site.old) (S.seen site.new) Stays }
     ensures bad { (b : _) → IsErrOf result (StoreError.Bad b) → Honestly (S.seen site.old) (S.seen site.new) (FindsBad b) }
-    ensures cause { IsErrOf result StoreError.DiskFault → DiskRose (S.faults site.old) (S.faults site.new) }
-    ensures quiet { (IsErrOf result StoreError.DiskFault → ⊥) → S.faults site.new ≡ S.faults site.old }
+    ensures cause { FailsOnlyBy StoreError.DiskFault (S.faults site.old) (S.faults site.new) result }
 {
     let (side, header) = shown;
     let (size, other_closed) = match side {
@@ -243,8 +239,7 @@ pub fn open_store<R: Threads + Sync, S: Site, G: Gate + Sync>(
     ensures written { Honestly (S.seen site.old) (S.seen site.new) (λ old new. Works (WritesOnlyBlank old.disks) old new) }
     ensures any_moment { Honestly (S.seen site.old) (S.seen site.new) Opening }
     ensures calls { OnOk result (Honestly (S.seen site.old) (S.seen site.new) FindsOrCreates) }
-    ensures cause { IsErrOf result StoreError.DiskFault → DiskRose (S.faults site.old) (S.faults site.new) }
-    ensures quiet { (IsErrOf result StoreError.DiskFault → ⊥) → S.faults site.new ≡ S.faults site.old }
+    ensures cause { FailsOnlyBy StoreError.DiskFault (S.faults site.old) (S.faults site.new) result }
 {
     let sizes = match settle(site) {
         Ok(sizes) => sizes,

@@ -22,7 +22,7 @@ loop-done-preserved g c =
       came = honest_then (Came c.args.side c.args.start c.args.base l.done l.at l.draft) (Finds c.args.side l.at (Payload payload c.in-Ok-Payload.after)) (Came c.args.side c.args.start c.args.base (l.done + 1) c.in-Ok-Payload.after c.in-Ok.made) _ _ _
           l.invariant.came (rw c.in-Ok-Payload.field-0-is at c.in-Ok-Payload.ensures.found)
           (λ x y z came found. came_more c.args.side c.args.start c.args.base l.done l.at l.draft x y z came payload c.in-Ok-Payload.after c.in-Ok.made found c.in-Ok.ensures.made);
-      quiet = c.in-Ok-Payload.ensures.quiet (λ is. absurd (cc is)) ∙ l.invariant.quiet;
+      quiet = c.in-Ok-Payload.ensures.cause.quiet (λ is. absurd (cc is)) ∙ l.invariant.quiet;
     }
 
 pub returns-in-Ok-End-clause-stops : goal.returns-in-Ok-End-clause-stops
