@@ -10,7 +10,7 @@ ghost use Rattle.wot_types.specs.State.{State};
 ghost use Rattle.wot_types.specs.Touched.{certs_on, is_touched, named_by_date, named_by_options, named_by_put, named_by_remove};
 ghost use Rattle.wot_types.specs.WellFormed.{IsWellFormed};
 ghost use Rattle.wot_live.specs.declared.todo.Todo.TheVariants.{Named as Listed};
-ghost use Rattle.wot_live.specs.Follows.{Follows, HasIntroducers, HasLeft, IsDueSince, IsListedSince, owned_state, uncounted_state, with_named};
+ghost use Rattle.wot_live.specs.Follows.{Follows, HasIntroducers, HasLeft, IsDueSince, IsListedSince, NamesMore, StaysDue, owned_state, uncounted_state, with_named};
 ghost use Rattle.wot_live.specs.PlainEdit.{IsAllowed, after_plain, named_by_plain};
 
 use crate::count_anew::count_anew;
@@ -38,9 +38,8 @@ impl Uncounted {
     pub fn make(self, edit: PlainEdit) -> Result<Uncounted, Mem>
         requires allowed { IsAllowed (uncounted_state self) edit }
         ensures state { IfOk result (λ new. uncounted_state new ≡ after_plain (uncounted_state self) edit) }
-        ensures since { (s : State) (names : KeySet) → HasIntroducers self.state.table self.todo → IsDueSince s names (uncounted_state self) self.todo
-            → IfOk result (λ new. IsDueSince s (with_named names (named_by_plain (uncounted_state self) edit)) (uncounted_state new) new.todo) }
-        ensures due { (s : State) (names : KeySet) → IsDueSince s names (uncounted_state self) self.todo → IfOk result (λ new. (more : KeySet) × IsDueSince s more (uncounted_state new) new.todo) }
+        ensures since { HasIntroducers self.state.table self.todo → NamesMore self (named_by_plain (uncounted_state self) edit) result }
+        ensures due { StaysDue self result }
     {
         match edit {
             PlainEdit::Put(keys, entries) => self.put(keys, entries),
@@ -55,9 +54,8 @@ impl Uncounted {
         requires well_formed { All IsWellFormed keys }
         requires free { taken_id self.state.table keys ≡ None }
         ensures state { IfOk result (λ new. uncounted_state new ≡ record (uncounted_state self) { keys = with_keys self.state.table keys; trusts = with_entries self.state.trusts entries }) }
-        ensures since { (s : State) (names : KeySet) → HasIntroducers self.state.table self.todo → IsDueSince s names (uncounted_state self) self.todo
-            → IfOk result (λ new. IsDueSince s (with_named names (named_by_put (uncounted_state self) keys entries)) (uncounted_state new) new.todo) }
-        ensures due { (s : State) (names : KeySet) → IsDueSince s names (uncounted_state self) self.todo → IfOk result (λ new. (more : KeySet) × IsDueSince s more (uncounted_state new) new.todo) }
+        ensures since { HasIntroducers self.state.table self.todo → NamesMore self (named_by_put (uncounted_state self) keys entries) result }
+        ensures due { StaysDue self result }
     {
         let todo = self.todo.put(&self.state.table, &keys, &entries)?;
         let state = self.state.put(keys, entries)?;
@@ -68,8 +66,7 @@ impl Uncounted {
     pub fn remove(self, id: KeyId) -> Result<Uncounted, Mem>
         requires there { IsSome (map.get self.state.table id) }
         ensures state { IfOk result (λ new. uncounted_state new ≡ record (uncounted_state self) { keys = map.remove self.state.table id }) }
-        ensures since { (s : State) (names : KeySet) → IsDueSince s names (uncounted_state self) self.todo
-            → IfOk result (λ new. IsDueSince s (with_named names (named_by_remove id)) (uncounted_state new) new.todo) }
+        ensures since { NamesMore self (named_by_remove id) result }
     {
         let todo = self.todo.remove(id)?;
         let state = self.state.remove(id)?;
@@ -79,8 +76,7 @@ impl Uncounted {
     /// Sets the date at which expiries are judged, forward or back, in seconds since 1970.
     pub fn set_date(self, now: u32) -> Result<Uncounted, Mem>
         ensures state { IfOk result (λ new. uncounted_state new ≡ record (uncounted_state self) { date = now }) }
-        ensures since { (s : State) (names : KeySet) → IsDueSince s names (uncounted_state self) self.todo
-            → IfOk result (λ new. IsDueSince s (with_named names (named_by_date (uncounted_state self) now)) (uncounted_state new) new.todo) }
+        ensures since { NamesMore self (named_by_date (uncounted_state self) now) result }
     {
         let todo = self.todo.set_date(&self.state.table, self.state.date, now)?;
         let state = OwnedState {

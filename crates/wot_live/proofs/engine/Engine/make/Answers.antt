@@ -15,4 +15,4 @@ returns-clause-ticks g c =
     let s = c.args.self in
     let named = named_by_plain (uncounted_state c.uncounted.result) c.args.edit in
     edit_bound (λ v. after_plain v c.args.edit) (λ v. named_by_plain v c.args.edit) _ _ c.uncounted.ensures.state c.in_ok-make.ensures.state
-    (c.count.ensures.ticks s named (c.in_ok-make.ensures.since s no_keys c.uncounted.ensures.introducers c.uncounted.ensures.since))
+    (c.count.ensures.ticks s named (c.in_ok-make.ensures.since c.uncounted.ensures.introducers s no_keys c.uncounted.ensures.since))

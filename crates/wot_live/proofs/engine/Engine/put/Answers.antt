@@ -18,4 +18,4 @@ returns-clause-ticks g c =
     let s = c.args.self in
     let named = named_by_put (uncounted_state c.uncounted.result) c.args.keys c.args.entries in
     edit_bound (λ v. record v { keys = with_keys v.keys c.args.keys; trusts = with_entries v.trusts c.args.entries }) (λ v. named_by_put v c.args.keys c.args.entries) _ _ c.uncounted.ensures.state c.in_ok-put.ensures.state
-    (c.count.ensures.ticks s named (c.in_ok-put.ensures.since s no_keys c.uncounted.ensures.introducers c.uncounted.ensures.since))
+    (c.count.ensures.ticks s named (c.in_ok-put.ensures.since c.uncounted.ensures.introducers s no_keys c.uncounted.ensures.since))
