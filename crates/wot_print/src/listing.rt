@@ -29,6 +29,30 @@ use wot_print_laws::printed_reads_back;
 use wot_table::{BlockOrder, Keyblock};
 use wot_types::{KeyId, MOST_CERTS, Mem, Ownertrust, Steps};
 
+/// How keys are printed: with certifications or without, the room to bring these into the block's order, and how many were read for it.
+#[derive(Drop)]
+struct Sheet<'a, L: Ledger> {
+    sigs: bool,
+    order: BlockOrder<'a>,
+    steps: Steps<L>,
+}
+
+impl<'a, L: Ledger> Sheet<'a, L> {
+    /// With none read yet.
+    fn of(sigs: bool, order: BlockOrder<'a>, blank: Blank) -> Sheet<'a, L>
+        requires own { (blank.name ≡ L.name) × (blank.parts ≡ L.parts) × (0 < L.parts) }
+        ensures sigs { result.sigs ≡ sigs }
+        ensures most { result.order.most ≡ order.entry.most }
+        ensures steps { result.steps ≡ 0 }
+    {
+        Sheet {
+            sigs,
+            order,
+            steps: Steps::<L>::open(blank),
+        }
+    }
+}
+
 /// All keys in rising order of key ID, as a listing for which all memory was taken: to print it takes no more.
 #[derive(Drop)]
 pub struct Printout<'a> {
@@ -73,9 +97,9 @@ impl<'a> Printout<'a> {
             engine,
             sigs,
             mut trusts,
-            mut order,
+            order,
         } = self;
-        push_all::<W, Brand>(text, engine, sigs, &mut trusts, &mut order, Blank::new(1))
+        push_all::<W, Brand>(text, engine, sigs, &mut trusts, order, Blank::new(1))
     }
 }
 
@@ -102,16 +126,9 @@ fn list_all(alloc: Global, engine: &Engine, sigs: bool) -> Result<Vec<u8>, Mem>
     printed_reads_back();
     let _totals = engine.table().totals();
     let mut text = Printed::new(alloc);
-    let mut order = block_order(alloc, engine, sigs)?;
+    let order = block_order(alloc, engine, sigs)?;
     let mut trusts = OwnertrustWalk::of(alloc, engine.trusts())?;
-    push_all::<Printed, Brand>(
-        &mut text,
-        engine,
-        sigs,
-        &mut trusts,
-        &mut order,
-        Blank::new(1),
-    )?;
+    push_all::<Printed, Brand>(&mut text, engine, sigs, &mut trusts, order, Blank::new(1))?;
     text.into_vec()
 }
 
@@ -120,8 +137,8 @@ fn list_one(alloc: Global, engine: &Engine, id: KeyId, sigs: bool) -> Result<Vec
     ensures { IfOk result (λ text. text.items ≡ list_text engine.now (Some id) sigs) }
 {
     let mut text = Printed::new(alloc);
-    let mut order = block_order(alloc, engine, sigs)?;
-    push_one::<Printed, Brand>(&mut text, engine, id, sigs, &mut order, Blank::new(1))?;
+    let order = block_order(alloc, engine, sigs)?;
+    push_one::<Printed, Brand>(&mut text, engine, id, sigs, order, Blank::new(1))?;
     text.into_vec()
 }
 
@@ -143,19 +160,19 @@ fn push_all<'a, W: Sink, L: Ledger>(
     engine: &'a Engine,
     sigs: bool,
     trusts: &mut OwnertrustWalk<'a>,
-    order: &mut BlockOrder<'a>,
+    order: BlockOrder<'a>,
     blank: Blank,
 ) -> Result<(), W::Error>
     requires own { (blank.name ≡ L.name) × (blank.parts ≡ L.parts) × (0 < L.parts) }
     requires trusts { (trusts.old.trusts ≡ engine.now.trusts) × (trusts.old.from ≡ 0) }
-    requires room { IsTrue sigs → min (cert_total engine.now.keys) most_certs ≤ order.old.most }
+    requires room { IsTrue sigs → min (cert_total engine.now.keys) most_certs ≤ order.most }
     ensures same { W.name text.new ≡ W.name text.old }
     ensures text { OnOk result (W.adds text.old (list_text engine.now None sigs) text.new) }
     ensures fits { IsTrue sigs → OnOk result (FitsState engine.now) }
 {
-    let mut steps = Steps::<L>::open(blank);
+    let mut sheet = Sheet::<L>::of(sigs, order, blank);
     push_tru(text, engine.options(), engine.date(), engine.next_check())?;
-    push_keys(text, engine, sigs, trusts, order, &mut steps)?;
+    push_keys(text, engine, trusts, &mut sheet)?;
     state_fits(engine);
     Ok(())
 }
@@ -166,39 +183,37 @@ fn push_one<'a, W: Sink, L: Ledger>(
     engine: &'a Engine,
     id: KeyId,
     sigs: bool,
-    order: &mut BlockOrder<'a>,
+    order: BlockOrder<'a>,
     blank: Blank,
 ) -> Result<(), W::Error>
     requires own { (blank.name ≡ L.name) × (blank.parts ≡ L.parts) × (0 < L.parts) }
-    requires room { IsTrue sigs → min (cert_total engine.now.keys) most_certs ≤ order.old.most }
+    requires room { IsTrue sigs → min (cert_total engine.now.keys) most_certs ≤ order.most }
     ensures same { W.name text.new ≡ W.name text.old }
     ensures adds { OnOk result (W.adds text.old (list_text engine.now (Some id) sigs) text.new) }
 {
-    let mut steps = Steps::<L>::open(blank);
+    let mut sheet = Sheet::<L>::of(sigs, order, blank);
     push_tru(text, engine.options(), engine.date(), engine.next_check())?;
-    push_key(text, engine, id, sigs, order, &mut steps)
+    push_key(text, engine, id, &mut sheet)
 }
 
 /// The lines of all keys.
 fn push_keys<'a, W: Sink, L: Ledger>(
     text: &mut W,
     engine: &'a Engine,
-    sigs: bool,
     trusts: &mut OwnertrustWalk<'a>,
-    order: &mut BlockOrder<'a>,
-    steps: &mut Steps<L>,
+    sheet: &mut Sheet<'a, L>,
 ) -> Result<(), W::Error>
     requires trusts { (trusts.old.trusts ≡ engine.now.trusts) × (trusts.old.from ≡ 0) }
-    requires room { IsTrue sigs → min (cert_total engine.now.keys) most_certs ≤ order.old.most }
+    requires room { IsTrue sheet.old.sigs → min (cert_total engine.now.keys) most_certs ≤ sheet.old.order.most }
     ensures same { W.name text.new ≡ W.name text.old }
-    ensures lines { OnOk result (W.adds text.old (flat_map (key_lines engine.now (rows_of engine.now) sigs) (listed_keyblocks engine.now None)) text.new) }
-    ensures fits { IsTrue sigs → OnOk result (All (λ e. FitsKey e.1) (map.entries engine.now.keys)) }
+    ensures lines { OnOk result (W.adds text.old (flat_map (key_lines engine.now (rows_of engine.now) sheet.old.sigs) (listed_keyblocks engine.now None)) text.new) }
+    ensures fits { IsTrue sheet.old.sigs → OnOk result (All (λ e. FitsKey e.1) (map.entries engine.now.keys)) }
 {
     let mut walk = engine.letter_walk();
     for keyblock in engine.table().walk() {
         let kept = trusts.ownertrust_of(keyblock.key().fpr);
         let letters = walk.letters(keyblock.id());
-        push_keyblock(text, &letters, &keyblock, kept, sigs, order, steps)?;
+        push_keyblock(text, &letters, &keyblock, kept, sheet)?;
     }
     Ok(())
 }
@@ -208,13 +223,11 @@ fn push_key<'a, W: Sink, L: Ledger>(
     text: &mut W,
     engine: &'a Engine,
     id: KeyId,
-    sigs: bool,
-    order: &mut BlockOrder<'a>,
-    steps: &mut Steps<L>,
+    sheet: &mut Sheet<'a, L>,
 ) -> Result<(), W::Error>
-    requires room { IsTrue sigs → min (cert_total engine.now.keys) most_certs ≤ order.old.most }
+    requires room { IsTrue sheet.old.sigs → min (cert_total engine.now.keys) most_certs ≤ sheet.old.order.most }
     ensures same { W.name text.new ≡ W.name text.old }
-    ensures adds { OnOk result (W.adds text.old (flat_map (key_lines engine.now (rows_of engine.now) sigs) (listed_keyblocks engine.now (Some id))) text.new) }
+    ensures adds { OnOk result (W.adds text.old (flat_map (key_lines engine.now (rows_of engine.now) sheet.old.sigs) (listed_keyblocks engine.now (Some id))) text.new) }
 {
     // For the room: each key of the table is well formed.
     let _totals = engine.table().totals();
@@ -222,7 +235,7 @@ fn push_key<'a, W: Sink, L: Ledger>(
         Some(keyblock) => {
             let kept = engine.trusts().ownertrust_of(keyblock.key().fpr);
             let letters = engine.letters(id);
-            push_keyblock(text, &letters, &keyblock, kept, sigs, order, steps)
+            push_keyblock(text, &letters, &keyblock, kept, sheet)
         }
         None => Ok(()),
     }
@@ -234,23 +247,22 @@ fn push_keyblock<'a, W: Sink, L: Ledger>(
     letters: &Letters<'_>,
     keyblock: &Keyblock<'a>,
     kept: Ownertrust,
-    sigs: bool,
-    order: &mut BlockOrder<'a>,
-    steps: &mut Steps<L>,
+    sheet: &mut Sheet<'a, L>,
 ) -> Result<(), W::Error>
     requires told { AreOfKey letters.now keyblock.now }
     requires kept { kept ≡ ownertrust_of letters.now.state.trusts keyblock.now.1.fpr }
-    requires room { IsTrue sigs → key_certs keyblock.now.1 ≤ order.old.most }
+    requires room { IsTrue sheet.old.sigs → key_certs keyblock.now.1 ≤ sheet.old.order.most }
     ensures same { W.name text.new ≡ W.name text.old }
-    ensures lines { OnOk result (W.adds text.old (key_lines letters.now.state (rows_of letters.now.state) sigs keyblock.now) text.new) }
-    ensures fits { IsTrue sigs → OnOk result (FitsKey keyblock.now.1) }
-    ensures most { order.new.most ≡ order.old.most }
+    ensures lines { OnOk result (W.adds text.old (key_lines letters.now.state (rows_of letters.now.state) sheet.old.sigs keyblock.now) text.new) }
+    ensures fits { IsTrue sheet.old.sigs → OnOk result (FitsKey keyblock.now.1) }
+    ensures sigs { sheet.new.sigs ≡ sheet.old.sigs }
+    ensures most { sheet.new.order.most ≡ sheet.old.order.most }
 {
     let id = keyblock.id();
     let head = keyblock.key();
     push_pub(text, letters.key_letter(keyblock), kept, id, &head)?;
     push_fpr(text, head.fpr)?;
-    push_users(text, letters, keyblock, head.users, sigs, order, steps)?;
+    push_users(text, letters, keyblock, head.users, sheet)?;
     key_fits(&head);
     Ok(())
 }
@@ -261,20 +273,19 @@ fn push_users<'a, W: Sink, L: Ledger>(
     letters: &Letters<'_>,
     keyblock: &Keyblock<'a>,
     users: u32,
-    sigs: bool,
-    order: &mut BlockOrder<'a>,
-    steps: &mut Steps<L>,
+    sheet: &mut Sheet<'a, L>,
 ) -> Result<(), W::Error>
     requires told { AreOfKey letters.now keyblock.now }
     requires all { users ≡ length keyblock.now.1.users }
-    requires room { IsTrue sigs → key_certs keyblock.now.1 ≤ order.old.most }
+    requires room { IsTrue sheet.old.sigs → key_certs keyblock.now.1 ≤ sheet.old.order.most }
     ensures same { W.name text.new ≡ W.name text.old }
-    ensures lines { OnOk result (W.adds text.old (flat_map (user_lines letters.now.state (rows_of letters.now.state) sigs keyblock.now.0 keyblock.now.1) (spots_from 0 keyblock.now.1.users)) text.new) }
-    ensures fits { IsTrue sigs → OnOk result (All FitsUser keyblock.now.1.users) }
-    ensures most { order.new.most ≡ order.old.most }
+    ensures lines { OnOk result (W.adds text.old (flat_map (user_lines letters.now.state (rows_of letters.now.state) sheet.old.sigs keyblock.now.0 keyblock.now.1) (spots_from 0 keyblock.now.1.users)) text.new) }
+    ensures fits { IsTrue sheet.old.sigs → OnOk result (All FitsUser keyblock.now.1.users) }
+    ensures sigs { sheet.new.sigs ≡ sheet.old.sigs }
+    ensures most { sheet.new.order.most ≡ sheet.old.order.most }
 {
     for user in 0..users {
-        push_user_at(text, letters, keyblock, user, sigs, order, steps)?;
+        push_user_at(text, letters, keyblock, user, sheet)?;
     }
     Ok(())
 }
@@ -285,25 +296,24 @@ fn push_user_at<'a, W: Sink, L: Ledger>(
     letters: &Letters<'_>,
     keyblock: &Keyblock<'a>,
     user: u32,
-    sigs: bool,
-    order: &mut BlockOrder<'a>,
-    steps: &mut Steps<L>,
+    sheet: &mut Sheet<'a, L>,
 ) -> Result<(), W::Error>
     requires told { AreOfKey letters.now keyblock.now }
     requires there { IsSome (spot_of keyblock.now.1 user) }
-    requires room { IsTrue sigs → key_certs keyblock.now.1 ≤ order.old.most }
+    requires room { IsTrue sheet.old.sigs → key_certs keyblock.now.1 ≤ sheet.old.order.most }
     ensures same { W.name text.new ≡ W.name text.old }
     ensures lines { (spot : Spot) → spot_of keyblock.now.1 user ≡ Some spot
-        → OnOk result (W.adds text.old (user_lines letters.now.state (rows_of letters.now.state) sigs keyblock.now.0 keyblock.now.1 spot) text.new) }
+        → OnOk result (W.adds text.old (user_lines letters.now.state (rows_of letters.now.state) sheet.old.sigs keyblock.now.0 keyblock.now.1 spot) text.new) }
     ensures fits { (spot : Spot) → spot_of keyblock.now.1 user ≡ Some spot
-        → IsTrue sigs → OnOk result (FitsUser spot.user) }
-    ensures most { order.new.most ≡ order.old.most }
+        → IsTrue sheet.old.sigs → OnOk result (FitsUser spot.user) }
+    ensures sigs { sheet.new.sigs ≡ sheet.old.sigs }
+    ensures most { sheet.new.order.most ≡ sheet.old.order.most }
 {
     let head = user_in(keyblock, user).unwrap();
     let letter = letters.letter(keyblock, user).unwrap();
     push_user(text, letter, &head)?;
-    if sigs {
-        push_certs(text, keyblock, user, order, steps)?;
+    if sheet.sigs {
+        push_certs(text, keyblock, user, sheet)?;
     }
     user_fits(&head);
     Ok(())
@@ -314,20 +324,20 @@ fn push_certs<'a, W: Sink, L: Ledger>(
     text: &mut W,
     keyblock: &Keyblock<'a>,
     user: u32,
-    order: &mut BlockOrder<'a>,
-    steps: &mut Steps<L>,
+    sheet: &mut Sheet<'a, L>,
 ) -> Result<(), W::Error>
     requires there { IsSome (spot_of keyblock.now.1 user) }
-    requires room { IfSome (spot_of keyblock.now.1 user) (λ spot. length spot.certs ≤ order.old.most) }
+    requires room { IfSome (spot_of keyblock.now.1 user) (λ spot. length spot.certs ≤ sheet.old.order.most) }
     ensures same { W.name text.new ≡ W.name text.old }
     ensures lines { (spot : Spot) → spot_of keyblock.now.1 user ≡ Some spot
         → OnOk result (W.adds text.old (flat_map (λ placed. cert_line placed.cert) spot.certs) text.new) }
     ensures fits { (spot : Spot) → spot_of keyblock.now.1 user ≡ Some spot
         → OnOk result (All (λ placed. FitsCert placed.cert) spot.certs) }
-    ensures most { order.new.most ≡ order.old.most }
+    ensures sigs { sheet.new.sigs ≡ sheet.old.sigs }
+    ensures most { sheet.new.order.most ≡ sheet.old.order.most }
 {
-    keyblock.arrange(user, order, steps);
-    for placed in order.certs.iter() {
+    keyblock.arrange(user, &mut sheet.order, &mut sheet.steps);
+    for placed in sheet.order.certs.iter() {
         cert_fits(&placed.cert);
         push_cert(text, &placed.cert)?;
     }

@@ -25,17 +25,17 @@ push_keyblock-requires g c =
     record {
       told = told_of c.letters-letters.result s id c.in-Some.keyblock (sym same) there c.letters-letters.ensures.told;
       kept = c.ownertrust_of-kept.ensures ∙ (λ i. ownertrust_of (c.trusts.ensures i) (c.key.ensures.fpr i)) ∙ ap (λ (t : State). ownertrust_of t.trusts c.in-Some.keyblock.1.fpr) (sym state);
-      room = λ sigs. room_for_key s.keys c.in-Some.keyblock.0 c.args.order.now.most c.in-Some.keyblock.1 (subst (λ keys. All IsFiled (map.entries keys)) c.table.ensures c.totals-totals.ensures.kept) (c.requires.room sigs) there;
+      room = λ sigs. room_for_key s.keys c.in-Some.keyblock.0 c.args.sheet.now.order.most c.in-Some.keyblock.1 (subst (λ keys. All IsFiled (map.entries keys)) c.table.ensures c.totals-totals.ensures.kept) (c.requires.room sigs) there;
     }
 
 pub returns-in-Some-clause-adds : goal.returns-in-Some-clause-adds
 returns-in-Some-clause-adds g c =
     let s = c.args.engine.now in
     let id = c.args.id in
-    let f = key_lines s (rows_of s) c.args.sigs in
+    let f = key_lines s (rows_of s) c.args.sheet.now.sigs in
     let key = c.in-Some.keyblock in
     let at : option_map (λ (key : Key). (id, key)) (map.get s.keys id) ≡ Some key =
     sym (ap (λ keys. option_map (λ (key : Key). (id, key)) (map.get keys id)) c.table-2.ensures) ∙ sym c.in-Some.ensures in
     let listed : f key ≡ flat_map f (listed_keyblocks s (Some id)) = sym (append-nil (f key)) ∙ sym (ap (λ o. flat_map f (option_to_list o)) at) in
-    let lines = subst (λ (t : State). OnOk c.push_keyblock.result (g.W.Sink.adds c.args.text.now (key_lines t (rows_of t) c.args.sigs key) c.push_keyblock.new.text)) c.letters-letters.ensures.state c.push_keyblock.ensures.lines in
+    let lines = subst (λ (t : State). OnOk c.push_keyblock.result (g.W.Sink.adds c.args.text.now (key_lines t (rows_of t) c.args.sheet.now.sigs key) c.push_keyblock.new.text)) c.letters-letters.ensures.state c.push_keyblock.ensures.lines in
     subst (λ (l : List ℕ). OnOk c.push_keyblock.result (g.W.Sink.adds c.args.text.now l c.push_keyblock.new.text)) listed lines

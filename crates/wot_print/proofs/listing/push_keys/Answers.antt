@@ -1,4 +1,4 @@
-use Rattle.std.proofs.Common.{◌≡◌, ◌≤◌, ℕ, List, [], ◌++◌, All, Some, refl, sym, ap, subst, ◌∙◌, arith}
+use Rattle.std.proofs.Common.{◌≡◌, ◌≤◌, Bool, ℕ, List, [], ◌++◌, All, Some, refl, sym, ap, subst, ◌∙◌, arith}
 use Rattle.std.specs.FinMap as map
 use Rattle.std.specs.List.{flat_map}
 use Rattle.std.proofs.lemmas.List.Elements.{All-cons, All-head, All-nil, All-tail}
@@ -36,9 +36,10 @@ loop-keyblock-init g c =
       rising = subst (λ from. IsRisingFrom from c.into_iter-keyblock-iterator.result) (sym c.letter_walk-walk.ensures.from) (subst (IsRisingFrom 0) (sym all) (rising_entries s.keys));
       found = subst (All (IsEntryOf s.keys)) (sym all) (subst (λ keys. All (IsEntryOf keys) (map.entries keys)) c.table.ensures c.walk-keyblock-items.ensures.found);
       filed = subst (All IsFiled) (sym all) kept;
-      room = λ sigs. subst (All (Within c.args.order.now.most)) (sym all) (room_for_each s.keys c.args.order.now.most kept (c.requires.room sigs));
+      room = λ sigs. subst (All (Within c.args.sheet.now.order.most)) (sym all) (room_for_each s.keys c.args.sheet.now.order.most kept (c.requires.room sigs));
+      sigs = refl;
       same = refl;
-      lines = ([], ap (flat_map (key_lines s (rows_of s) c.args.sigs)) all, g.met.W.Sink.none c.args.text.now);
+      lines = ([], ap (flat_map (key_lines s (rows_of s) c.args.sheet.now.sigs)) all, g.met.W.Sink.none c.args.text.now);
       fits = λ sigs h. subst (All Fits) all h;
     }
 
@@ -66,7 +67,7 @@ push_keyblock-requires g c =
     record {
       told = told_of c.letters-letters.result now c.id.result key c.id.ensures there c.letters-letters.ensures.told;
       kept = c.ownertrust_of-kept.ensures.kept ∙ (λ i. ownertrust_of (c.loop-keyblock.invariant.trusts i) (c.key.ensures.fpr i)) ∙ ap (λ (t : State). ownertrust_of t.trusts key.1.fpr) (sym state);
-      room = λ sigs. All-head (Within c.loop-keyblock.order.most) key c.next.new.self (subst (All (Within c.loop-keyblock.order.most)) c.in-Some.ensures.steps (c.loop-keyblock.invariant.room sigs));
+      room = λ sigs. All-head (Within c.loop-keyblock.sheet.order.most) key c.next.new.self (subst (All (Within c.loop-keyblock.sheet.order.most)) c.in-Some.ensures.steps (c.loop-keyblock.invariant.room (sym c.loop-keyblock.invariant.sigs ∙ sigs)));
     }
 
 pub loop-keyblock-preserved : goal.loop-keyblock-preserved
@@ -76,9 +77,11 @@ loop-keyblock-preserved g c =
     let rest = c.next.new.self in
     let left = c.loop-keyblock.keyblock-iterator in
     let step = c.in-Some.ensures.steps in
-    let f = key_lines s (rows_of s) c.args.sigs in
+    let f = key_lines s (rows_of s) c.args.sheet.now.sigs in
     let so_far = c.loop-keyblock.invariant.lines in
-    let told = subst (λ (t : State). g.W.Sink.adds c.loop-keyblock.text (key_lines t (rows_of t) c.args.sigs key) c.push_keyblock.new.text) (c.letters-letters.ensures.state ∙ c.loop-keyblock.invariant.state) c.in_ok-push_keyblock.ensures.lines in
+    let kept = c.loop-keyblock.invariant.sigs in
+    let told = subst (λ (t : State). g.W.Sink.adds c.loop-keyblock.text (key_lines t (rows_of t) c.args.sheet.now.sigs key) c.push_keyblock.new.text) (c.letters-letters.ensures.state ∙ c.loop-keyblock.invariant.state)
+    (subst (λ (sigs : Bool). g.W.Sink.adds c.loop-keyblock.text (key_lines c.letters-letters.result.state (rows_of c.letters-letters.result.state) sigs key) c.push_keyblock.new.text) kept c.in_ok-push_keyblock.ensures.lines) in
     record {
       state = c.letters-letters.ensures.kept ∙ c.loop-keyblock.invariant.state;
       trusts = c.ownertrust_of-kept.ensures.trusts ∙ c.loop-keyblock.invariant.trusts;
@@ -87,17 +90,18 @@ loop-keyblock-preserved g c =
       found = All-tail (IsEntryOf s.keys) key rest (subst (All (IsEntryOf s.keys)) step c.loop-keyblock.invariant.found);
       filed = All-tail IsFiled key rest (subst (All IsFiled) step c.loop-keyblock.invariant.filed);
       room = λ sigs. subst (λ n. All (Within n) rest) (sym c.in_ok-push_keyblock.ensures.most)
-          (All-tail (Within c.loop-keyblock.order.most) key rest (subst (All (Within c.loop-keyblock.order.most)) step (c.loop-keyblock.invariant.room sigs)));
+          (All-tail (Within c.loop-keyblock.sheet.order.most) key rest (subst (All (Within c.loop-keyblock.sheet.order.most)) step (c.loop-keyblock.invariant.room sigs)));
+      sigs = c.in_ok-push_keyblock.ensures.sigs ∙ kept;
       same = c.push_keyblock.ensures.same ∙ c.loop-keyblock.invariant.same;
       lines = (so_far.0 ++ f key, one_of_left f so_far.0 _ key rest left step so_far.1, g.met.W.Sink.both c.args.text.now c.loop-keyblock.text c.push_keyblock.new.text so_far.0 (f key) so_far.2 told);
-      fits = λ sigs h. c.loop-keyblock.invariant.fits sigs (subst (All Fits) (sym step) (All-cons Fits key rest (c.in_ok-push_keyblock.ensures.fits sigs) h));
+      fits = λ sigs h. c.loop-keyblock.invariant.fits sigs (subst (All Fits) (sym step) (All-cons Fits key rest (c.in_ok-push_keyblock.ensures.fits (kept ∙ sigs)) h));
     }
 
 pub returns-clause-lines : goal.returns-clause-lines
 returns-clause-lines g c =
     let s = c.args.engine.now in
     let so_far = c.loop-keyblock.invariant.lines in
-    let all = none_of_left (key_lines s (rows_of s) c.args.sigs) so_far.0 _ c.loop-keyblock.keyblock-iterator c.in-None.ensures.steps.0 so_far.1 in
+    let all = none_of_left (key_lines s (rows_of s) c.args.sheet.now.sigs) so_far.0 _ c.loop-keyblock.keyblock-iterator c.in-None.ensures.steps.0 so_far.1 in
     subst (λ (l : List ℕ). g.W.Sink.adds c.args.text.now l c.loop-keyblock.text) all so_far.2
 
 pub returns-clause-fits : goal.returns-clause-fits

@@ -19,10 +19,11 @@ invariant-loop-keyblock g l = record {
   rising : IsRisingFrom l.walk.from l.keyblock-iterator;
   found : All (λ (e : ℕ × Key). map.get l.engine.keys e.0 ≡ Some e.1) l.keyblock-iterator;
   filed : All IsFiled l.keyblock-iterator;
-  room : IsTrue l.sigs → All (λ (e : ℕ × Key). key_certs e.1 ≤ l.order.most) l.keyblock-iterator;
+  room : IsTrue l.initial.sheet.sigs → All (λ (e : ℕ × Key). key_certs e.1 ≤ l.sheet.order.most) l.keyblock-iterator;
+  sigs : l.sheet.sigs ≡ l.initial.sheet.sigs;
   same : g.W.Sink.name l.text ≡ g.W.Sink.name l.initial.text;
   lines : (done : List ℕ)
-      × (done ++ flat_map (key_lines l.engine (rows_of l.engine) l.sigs) l.keyblock-iterator ≡ flat_map (key_lines l.engine (rows_of l.engine) l.sigs) (map.entries l.engine.keys))
+      × (done ++ flat_map (key_lines l.engine (rows_of l.engine) l.initial.sheet.sigs) l.keyblock-iterator ≡ flat_map (key_lines l.engine (rows_of l.engine) l.initial.sheet.sigs) (map.entries l.engine.keys))
       × g.W.Sink.adds l.initial.text done l.text;
-  fits : IsTrue l.sigs → All (λ (e : ℕ × Key). FitsKey e.1) l.keyblock-iterator → All (λ (e : ℕ × Key). FitsKey e.1) (map.entries l.engine.keys);
+  fits : IsTrue l.initial.sheet.sigs → All (λ (e : ℕ × Key). FitsKey e.1) l.keyblock-iterator → All (λ (e : ℕ × Key). FitsKey e.1) (map.entries l.engine.keys);
 }

@@ -18,7 +18,7 @@ use Rattle.wot_print.proofs.Room.{room_at}
 use Rattle.wot_print.proofs.Shown.{user_shown}
 use Rattle.wot_print.proofs.Spots.{placed_all, placed_at, placed_lines}
 use Rattle.wot_print.proofs.listing.push_user_at.Goals as goal
-use Rattle.wot_print.proofs.listing.push_user_at.Goals.{then-sigs+in_ok-push_certs, else-sigs}
+use Rattle.wot_print.proofs.listing.push_user_at.Goals.{then-sheet+in_ok-push_certs, else-sheet}
 
 pub unwrap-letter-requires : goal.unwrap-letter-requires
 unwrap-letter-requires g c =
@@ -30,9 +30,9 @@ unwrap-letter-requires g c =
 pub push_certs-requires-clause-room : goal.push_certs-requires-clause-room
 push_certs-requires-clause-room g c =
     let key = c.args.keyblock.now.1 in
-    let most = c.args.order.now.most in
+    let most = c.args.sheet.now.order.most in
     let spot = there_is (spot_of key c.args.user) c.requires.there in
-    subst (λ (o : Option Spot). IfSome o (λ spot. length spot.certs ≤ most)) (sym spot.1) (room_at key c.args.user most spot.0 spot.1 (c.requires.room c.if-sigs.true))
+    subst (λ (o : Option Spot). IfSome o (λ spot. length spot.certs ≤ most)) (sym spot.1) (room_at key c.args.user most spot.0 spot.1 (c.requires.room c.if-sheet.true))
 
 pub returns-clause-lines : goal.returns-clause-lines
 returns-clause-lines g c = λ spot at.
@@ -50,16 +50,16 @@ returns-clause-lines g c = λ spot at.
     let first : g.W.Sink.adds old line c.push_user.new.text =
     subst (λ (l : List ℕ). g.W.Sink.adds old l c.push_user.new.text) (ap (λ l. user_line l (shown_user c.unwrap-head.result)) found ∙ user_shown letter spot.user c.unwrap-head.result head) c.in_ok-push_user.ensures.adds in
     let placed = placed_at 0 key.users user spot at in
-    elim c.if-sigs.branch [
-      | then-sigs+in_ok-push_certs w ↦
-          subst (g.W.Sink.adds old (user_lines s (rows_of s) c.args.sigs id key spot)) (sym w.text-is)
-          (subst (λ (l : List ℕ). g.W.Sink.adds old l w.push_certs.new.text) (with_certs c.args.sigs line certs w.if-sigs.true)
+    elim c.if-sheet.branch [
+      | then-sheet+in_ok-push_certs w ↦
+          subst (g.W.Sink.adds old (user_lines s (rows_of s) c.args.sheet.now.sigs id key spot)) (sym w.text-is)
+          (subst (λ (l : List ℕ). g.W.Sink.adds old l w.push_certs.new.text) (with_certs c.args.sheet.now.sigs line certs w.if-sheet.true)
           (g.met.W.Sink.both old c.push_user.new.text w.push_certs.new.text line certs first
           (subst (λ (l : List ℕ). g.W.Sink.adds c.push_user.new.text l w.push_certs.new.text)
           (ap (flat_map (λ (p : Placed). cert_line p.cert)) (sym placed.1) ∙ placed_lines cert_line placed.0 spot.user.certs) (w.in_ok-push_certs.ensures.lines spot at))))
-      | else-sigs w ↦
-          subst (g.W.Sink.adds old (user_lines s (rows_of s) c.args.sigs id key spot)) (sym w.text-is)
-          (subst (λ (l : List ℕ). g.W.Sink.adds old l c.push_user.new.text) (without_certs c.args.sigs line certs w.if-sigs.false) first)
+      | else-sheet w ↦
+          subst (g.W.Sink.adds old (user_lines s (rows_of s) c.args.sheet.now.sigs id key spot)) (sym w.text-is)
+          (subst (λ (l : List ℕ). g.W.Sink.adds old l c.push_user.new.text) (without_certs c.args.sheet.now.sigs line certs w.if-sheet.false) first)
     ]
 
 pub returns-clause-fits : goal.returns-clause-fits
@@ -68,11 +68,11 @@ returns-clause-fits g c = λ spot at sigs.
     let Tells = λ (head : UserHead). (spot : Spot) → spot_of key c.args.user ≡ Some spot → IsUserHead spot.user head in
     let head = if_there Tells c.user_in.result c.user_in.ensures.head c.unwrap-head.result c.unwrap-head.ensures spot at in
     let placed = placed_at 0 key.users c.args.user spot at in
-    elim c.if-sigs.branch [
-      | then-sigs+in_ok-push_certs w ↦
+    elim c.if-sheet.branch [
+      | then-sheet+in_ok-push_certs w ↦
           c.user_fits.ensures spot.user head
           (placed_all FitsCert placed.0 spot.user.certs (subst (All (λ (p : Placed). FitsCert p.cert)) (sym placed.1) (w.in_ok-push_certs.ensures.fits spot at)))
-      | else-sigs w ↦ absurd (true_false (sym sigs ∙ w.if-sigs.false))
+      | else-sheet w ↦ absurd (true_false (sym sigs ∙ w.if-sheet.false))
     ]
   where
     true_false : true ≡ false → ⊥

@@ -11,9 +11,10 @@ abbrev pub invariant-loop-user : goal.invariant-loop-user
 invariant-loop-user g l = record {
   same : g.W.Sink.name l.text ≡ g.W.Sink.name l.initial.text;
   lines : (done : List ℕ)
-      × (done ++ flat_map (user_lines l.letters.state (rows_of l.letters.state) l.sigs l.keyblock.0 l.keyblock.1) (drop l.user (spots_from 0 l.keyblock.1.users))
-      ≡ flat_map (user_lines l.letters.state (rows_of l.letters.state) l.sigs l.keyblock.0 l.keyblock.1) (spots_from 0 l.keyblock.1.users))
+      × (done ++ flat_map (user_lines l.letters.state (rows_of l.letters.state) l.initial.sheet.sigs l.keyblock.0 l.keyblock.1) (drop l.user (spots_from 0 l.keyblock.1.users))
+      ≡ flat_map (user_lines l.letters.state (rows_of l.letters.state) l.initial.sheet.sigs l.keyblock.0 l.keyblock.1) (spots_from 0 l.keyblock.1.users))
       × g.W.Sink.adds l.initial.text done l.text;
-  fits : IsTrue l.sigs → All (λ (spot : Spot). FitsUser spot.user) (drop l.user (spots_from 0 l.keyblock.1.users)) → All (λ (spot : Spot). FitsUser spot.user) (spots_from 0 l.keyblock.1.users);
-  most : l.order.most ≡ l.initial.order.most;
+  fits : IsTrue l.initial.sheet.sigs → All (λ (spot : Spot). FitsUser spot.user) (drop l.user (spots_from 0 l.keyblock.1.users)) → All (λ (spot : Spot). FitsUser spot.user) (spots_from 0 l.keyblock.1.users);
+  sigs : l.sheet.sigs ≡ l.initial.sheet.sigs;
+  most : l.sheet.order.most ≡ l.initial.sheet.order.most;
 }
