@@ -1,11 +1,9 @@
 //! `wot`: a web of trust engine after GnuPG's, over standard input and output and two files of the current folder.
 #![tactic(auto)]
 
-ghost use Rattle.std.specs.Prelude.{◌≡◌, ◌⊎◌, ℕ, List, [], Some, None, codes, map, string_bytes};
+ghost use Rattle.std.specs.Prelude.{◌≡◌, [], None, codes, map, string_bytes};
 ghost use Rattle.std.specs.Process.{exit_status};
-ghost use Rattle.wot_site.specs.Seen.{Honestly};
-ghost use Rattle.wot_session.specs.Run.{Ran, longest_input};
-ghost use Rattle.wot_session.specs.Stop.{Causes};
+ghost use Rattle.wot_session.specs.Run.{EndsAs, longest_input};
 ghost use Rattle.wot_session.specs.Status.{code_of, line_of};
 ghost use Rattle.wot_session.specs.declared.status.Status as status;
 ghost use Rattle.wot_words.specs.ProgramWords.{command_words};
@@ -68,11 +66,7 @@ fn session<'a, R: Threads + Sync, S: Site>(
 ) -> End<'a>
     // There is a status with this line and this code, and the run is one that ends with it.
     ensures run { (s : status.Status) × (result.line.now ≡ line_of s) × (exit_status result.code ≡ code_of s)
-        × Causes s (S.faults site.old) (S.faults site.new)
-        × (s ≡ Status.Usage → command_words (map string_bytes words.now) ≡ None)
-        × (command_words (map string_bytes words.now) ≡ None → (s ≡ Status.Usage) ⊎ (s ≡ Status.Memory))
-        × ((command : List (List ℕ)) → command_words (map string_bytes words.now) ≡ Some command
-        → Honestly (S.seen site.old) (S.seen site.new) (Ran command longest_input s)) }
+        × EndsAs (map string_bytes words.now) longest_input (S.seen site.old) (S.seen site.new) (S.faults site.old) (S.faults site.new) s }
     ensures untouched { command_words (map string_bytes words.now) ≡ None → site.new ≡ site.old }
 {
     end_with(run(rt, alloc, words, site, &NoGate))

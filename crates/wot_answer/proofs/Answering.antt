@@ -19,9 +19,11 @@ use Rattle.wot_answer.specs.declared.division.Division.{Division}
 use Rattle.wot_answer.specs.declared.division.Division.TheVariants.{Between, Within, Over}
 use Rattle.wot_answer.specs.Answer.{Answers, Does, Ends, IsAsked, IsDivision, IsReply, answer_text, effect_of, is_refusal, reads_on}
 
-module _ (answered : Answered) (p : Position) (line : ReadLine) where
+-- an answer to a line, and the division after it
+module _ (answered : Answered) (division : Division) (p : Position) (line : ReadLine) where
   -- a command is whole, and was answered
-  pub answers_whole : (command : Command) → made_by p.division line ≡ command ∷ [] → Ends answered p.progress.store (outcome p.progress.store command) → IsDivision answered.division (divided_by p.division line) → Answers answered p line
+  pub answers_whole : (command : Command) → made_by p.division line ≡ command ∷ [] → Ends answered p.progress.store (outcome p.progress.store command) → IsDivision division (divided_by p.division line)
+      → Answers (record { answered = answered; division = division }) p line
   answers_whole command made ends now = record {
     text = subst (λ cs. replies p.progress cs ≡ answer_text answered.answer (after_all p.progress cs).store) (sym made) (append-nil _ ∙ ends.text);
     refused = subst (λ cs. (after_all p.progress cs).refused ≡ (p.progress.refused || is_refusal answered.answer (after_all p.progress cs).store)) (sym made) (ap (λ b. p.progress.refused || b) ends.refused);
@@ -32,7 +34,8 @@ module _ (answered : Answered) (p : Position) (line : ReadLine) where
   }
 
   -- no command is whole, and nothing was told
-  pub answers_none : (old : State) → old ≡ p.progress.store.state → made_by p.division line ≡ [] → IsReply answered old skip → IsDivision answered.division (divided_by p.division line) → Answers answered p line
+  pub answers_none : (old : State) → old ≡ p.progress.store.state → made_by p.division line ≡ [] → IsReply answered old skip → IsDivision division (divided_by p.division line)
+      → Answers (record { answered = answered; division = division }) p line
   answers_none old same none reply now =
       let nothing = reply p.progress.store same in
       record {
@@ -47,29 +50,31 @@ module _ (answered : Answered) (p : Position) (line : ReadLine) where
 
   -- between two commands: one whose line is whole
   pub answers_line : p.division ≡ between → opens_block line ≡ false → Ends answered p.progress.store (outcome p.progress.store (of_line line))
-      → IsDivision answered.division (if is_quit (words_in line) then over else between) → Answers answered p line
+      → IsDivision division (if is_quit (words_in line) then over else between) → Answers (record { answered = answered; division = division }) p line
   answers_line here single ends now =
       answers_whole (of_line line) (ap (λ c. made_by c line) here ∙ ap (λ b. if b then [] else of_line line ∷ []) single) ends
-      (subst (IsDivision answered.division) (sym (ap (λ c. divided_by c line) here ∙ ap (λ b. if b then within (opened_command line) else if is_quit (words_in line) then over else between) single)) now)
+      (subst (IsDivision division) (sym (ap (λ c. divided_by c line) here ∙ ap (λ b. if b then within (opened_command line) else if is_quit (words_in line) then over else between) single)) now)
 
   -- one whose block begins
-  pub answers_opened : (old : State) → old ≡ p.progress.store.state → p.division ≡ between → opens_block line ≡ true → IsReply answered old skip → IsDivision answered.division (within (opened_command line)) → Answers answered p line
+  pub answers_opened : (old : State) → old ≡ p.progress.store.state → p.division ≡ between → opens_block line ≡ true → IsReply answered old skip → IsDivision division (within (opened_command line))
+      → Answers (record { answered = answered; division = division }) p line
   answers_opened old same here opens reply now =
       answers_none old same (ap (λ c. made_by c line) here ∙ ap (λ b. if b then [] else of_line line ∷ []) opens) reply
-      (subst (IsDivision answered.division) (sym (ap (λ c. divided_by c line) here ∙ ap (λ b. if b then within (opened_command line) else if is_quit (words_in line) then over else between) opens)) now)
+      (subst (IsDivision division) (sym (ap (λ c. divided_by c line) here ∙ ap (λ b. if b then within (opened_command line) else if is_quit (words_in line) then over else between) opens)) now)
 
+module _ (answered : Answered) (p : Position) (line : ReadLine) where
   -- within a block: its end
   pub answers_end : (command : Command) → p.division ≡ within command → ends command line ≡ true → Ends answered p.progress.store (outcome p.progress.store (closed_command command))
-      → answered.division ≡ Between → Answers answered p line
-  answers_end command here ended replied now =
-      answers_whole (closed_command command) (ap (λ c. made_by c line) here ∙ ap (λ b. if b then closed_command command ∷ [] else []) ended) replied
-      (subst (IsDivision answered.division) (sym (ap (λ c. divided_by c line) here ∙ ap (λ b. if b then between else within (with_line command line)) ended)) (subst (λ c. IsDivision c between) (sym now) tt))
+      → Answers (record { answered = answered; division = Between }) p line
+  answers_end command here ended replied =
+      answers_whole answered Between p line (closed_command command) (ap (λ c. made_by c line) here ∙ ap (λ b. if b then closed_command command ∷ [] else []) ended) replied
+      (subst (IsDivision Between) (sym (ap (λ c. divided_by c line) here ∙ ap (λ b. if b then between else within (with_line command line)) ended)) tt)
 
   -- behind `quit`
-  pub answers_over : (old : State) → old ≡ p.progress.store.state → p.division ≡ over → IsReply answered old skip → answered.division ≡ Over → Answers answered p line
-  answers_over old same here reply now =
-      answers_none old same (ap (λ c. made_by c line) here) reply
-      (subst (IsDivision answered.division) (sym (ap (λ c. divided_by c line) here)) (subst (λ c. IsDivision c over) (sym now) tt))
+  pub answers_over : (old : State) → old ≡ p.progress.store.state → p.division ≡ over → IsReply answered old skip → Answers (record { answered = answered; division = Over }) p line
+  answers_over old same here reply =
+      answers_none answered Over p line old same (ap (λ c. made_by c line) here) reply
+      (subst (IsDivision Over) (sym (ap (λ c. divided_by c line) here)) tt)
 
 -- what the division is where an answer holds it
 pub is_between : (c : lines.Division) → IsDivision Between c → c ≡ between
@@ -90,10 +95,6 @@ within_division block over is = absurd is
 -- a line that a block doesn't go on with ends the block of its command
 pub is_ended : (block : Block) (command : Command) (line : ReadLine) → IsBlockOf block command → reads_on (Within block) line ≡ false → ends command line ≡ true
 is_ended block command line of stops = ap (λ b. not b && ends_block line) of.to_end ∙ not-false _ stops
-
--- an answer whose division is set anew
-pub redivided : (answered : Answered) (division : Division) (s : Store) (o : Outcome) → Ends answered s o → Ends (record answered { division = division }) s o
-redivided answered division s o ends = record { text = ends.text; refused = ends.refused; asked = ends.asked; state = ends.state; does = ends.does }
 
 -- two facts of one result
 pub if_both : {X E : Type 0} (P Q : X → Type 0) (r : Result X E) → IfOk r P → IfOk r Q → IfOk r (λ x. P x × Q x)

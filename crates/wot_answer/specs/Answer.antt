@@ -20,6 +20,7 @@ use Rattle.wot_commands.specs.Heads.{IsProperQuery}
 use Rattle.wot_journal.specs.Record.{Framed}
 use Rattle.wot_answer.specs.Block.{IsBlockOf}
 use Rattle.wot_answer.specs.declared.answer.Answered.{Answered}
+use Rattle.wot_answer.specs.declared.answer.LineAnswered.{LineAnswered}
 use Rattle.wot_answer.specs.declared.division.Division.{Division}
 use Rattle.wot_answer.specs.declared.division.Division.TheVariants.{Between, Within, Over}
 use Rattle.wot_answer.specs.declared.reply.Answer.{Answer}
@@ -119,11 +120,11 @@ pub record Ends (answered : Answered) (s : Store) (o : Outcome) : Type 0 where
 abbrev pub IsReply : Answered → State → Outcome → Type 0
 IsReply answered old o = (s : Store) → old ≡ s.state → Ends answered s o
 
--- the answer to a line where a session has come so far
-pub record Answers (answered : Answered) (p : Position) (line : ReadLine) : Type 0 where
-  pub text : reply_to_line p line ≡ answer_text answered.answer (after_line p line).progress.store
-  pub refused : (after_line p line).progress.refused ≡ (p.progress.refused || is_refusal answered.answer (after_line p line).progress.store)
-  pub asked : IsAsked answered.answer (after_line p line).progress.store
-  pub state : (after_line p line).progress.store.state ≡ answered.engine
-  pub division : IsDivision answered.division (after_line p line).division
-  pub does : Does (effect_of answered.answer) p.progress.store (after_line p line).progress.store
+-- the answer to a line where a session has come so far, and how the lines are divided after it
+pub record Answers (given : LineAnswered) (p : Position) (line : ReadLine) : Type 0 where
+  pub text : reply_to_line p line ≡ answer_text given.answered.answer (after_line p line).progress.store
+  pub refused : (after_line p line).progress.refused ≡ (p.progress.refused || is_refusal given.answered.answer (after_line p line).progress.store)
+  pub asked : IsAsked given.answered.answer (after_line p line).progress.store
+  pub state : (after_line p line).progress.store.state ≡ given.answered.engine
+  pub division : IsDivision given.division (after_line p line).division
+  pub does : Does (effect_of given.answered.answer) p.progress.store (after_line p line).progress.store

@@ -16,7 +16,6 @@ ghost use Rattle.wot_listing.specs.Reading.{HasRead};
 ghost use Rattle.wot_ownertrust.specs.Reading.{reading_of};
 ghost use Rattle.wot_answer.specs.Answer.{Answers, Ends, IsDivision, reads_on};
 ghost use Rattle.wot_answer.specs.Block.{IsBlockOf, IsReadFor};
-ghost use Rattle.wot_answer.specs.declared.division.Division.TheVariants.{Between};
 
 use crate::block::{Block, Body};
 use crate::division::Division;
@@ -33,25 +32,18 @@ use wot_ownertrust::{OwnertrustText, TextError};
 use wot_print::{entries_line, import_line, ok_line};
 use wot_types::{Edit, Fpr, Head, Mem, Refusal, Words};
 
-/// An answer, and what a session holds after it.
+/// The answer to a command, and the engine after it.
 #[derive(Drop)]
 pub struct Answered {
     pub engine: Engine,
     pub answer: Answer,
-    pub division: Division,
 }
 
-impl Answered {
-    /// The same with what a session holds after it.
-    fn with_division(self, division: Division) -> Answered
-        ensures { result ≡ record self { division = division } }
-    {
-        Answered {
-            engine: self.engine,
-            answer: self.answer,
-            division,
-        }
-    }
+/// The answer to a line, and how the lines are divided after it.
+#[derive(Drop)]
+pub struct LineAnswered {
+    pub answered: Answered,
+    pub division: Division,
 }
 
 /// Answers a line without its newline; None is a line that is too long. A line that a block goes on with is read by `Division::read_on`, and not answered here. The journal ends at `end`, and has so many records.
@@ -62,17 +54,26 @@ pub fn answer_line(
     records: u64,
     division: Division,
     line: Option<&[u8]>,
-) -> Result<Answered, Mem>
+) -> Result<LineAnswered, Mem>
     requires known { (c : lines.Division) × IsDivision division c }
     requires ended { reads_on division (option_copied line) ≡ false }
-    ensures answers { IfOk result (λ answered. (p : Position) → engine ≡ p.progress.store.state → end ≡ p.progress.store.end
+    ensures answers { IfOk result (λ given. (p : Position) → engine ≡ p.progress.store.state → end ≡ p.progress.store.end
         → capped records ≡ capped (length p.progress.store.edits)
-        → IsDivision division p.division → Answers answered p (option_copied line.entry)) }
+        → IsDivision division p.division → Answers given p (option_copied line.entry)) }
 {
     match division {
         Division::Between => answer_command(alloc, engine, end, records, line),
-        Division::Within(block) => answer_body(alloc, engine, end, block.body),
-        Division::Over => Ok(say_nothing(alloc, engine, Division::Over)),
+        Division::Within(block) => {
+            let answered = answer_body(alloc, engine, end, block.body)?;
+            Ok(LineAnswered {
+                answered,
+                division: Division::Between,
+            })
+        }
+        Division::Over => Ok(LineAnswered {
+            answered: say_nothing(alloc, engine),
+            division: Division::Over,
+        }),
     }
 }
 
@@ -83,14 +84,20 @@ fn answer_command(
     end: u64,
     records: u64,
     line: Option<&[u8]>,
-) -> Result<Answered, Mem>
-    ensures answers { IfOk result (λ answered. (p : Position) → engine ≡ p.progress.store.state → end ≡ p.progress.store.end
+) -> Result<LineAnswered, Mem>
+    ensures answers { IfOk result (λ given. (p : Position) → engine ≡ p.progress.store.state → end ≡ p.progress.store.end
         → capped records ≡ capped (length p.progress.store.edits)
-        → p.division ≡ between → Answers answered p (option_copied line.entry)) }
+        → p.division ≡ between → Answers given p (option_copied line.entry)) }
 {
     match line {
         Some(line) => answer_text(alloc, engine, end, records, line),
-        None => refuse(alloc, engine, Refusal::LineTooLong),
+        None => {
+            let answered = refuse(alloc, engine, Refusal::LineTooLong)?;
+            Ok(LineAnswered {
+                answered,
+                division: Division::Between,
+            })
+        }
     }
 }
 
@@ -101,10 +108,10 @@ fn answer_text(
     end: u64,
     records: u64,
     line: &[u8],
-) -> Result<Answered, Mem>
-    ensures answers { IfOk result (λ answered. (p : Position) → engine ≡ p.progress.store.state → end ≡ p.progress.store.end
+) -> Result<LineAnswered, Mem>
+    ensures answers { IfOk result (λ given. (p : Position) → engine ≡ p.progress.store.state → end ≡ p.progress.store.end
         → capped records ≡ capped (length p.progress.store.edits)
-        → p.division ≡ between → Answers answered p (Some line.now)) }
+        → p.division ≡ between → Answers given p (Some line.now)) }
 {
     let words = line_words(alloc, without_return(line))?;
     if has_block(&words) {
@@ -112,10 +119,16 @@ fn answer_text(
             to_end: false,
             body: Body::begin(alloc, &words)?,
         };
-        return Ok(say_nothing(alloc, engine, Division::Within(block)));
+        return Ok(LineAnswered {
+            answered: say_nothing(alloc, engine),
+            division: Division::Within(block),
+        });
     }
     let answered = answer_words(alloc, engine, end, records, &words)?;
-    Ok(answered.with_division(division_after(&words)))
+    Ok(LineAnswered {
+        answered,
+        division: division_after(&words),
+    })
 }
 
 /// An accepted `quit` ends the session.
@@ -129,7 +142,7 @@ fn division_after(words: &Words) -> Division
     }
 }
 
-/// Answers a command whose block is unfinished at the end of the input. The division that it answers says nothing.
+/// Answers a command whose block is unfinished at the end of the input.
 pub fn answer_end(alloc: Global, engine: Engine, end: u64, block: Block) -> Result<Answered, Mem>
     requires known { (command : Command) × IsBlockOf block command }
     ensures ends { IfOk result (λ answered. (s : Store) (command : Command) → engine ≡ s.state → end ≡ s.end
@@ -151,7 +164,6 @@ fn answer_body(alloc: Global, engine: Engine, end: u64, body: Body) -> Result<An
     requires known { (command : Command) × IsReadFor body command }
     ensures ends { IfOk result (λ answered. (s : Store) (command : Command) → engine ≡ s.state → end ≡ s.end
         → IsReadFor body command → Ends answered s (outcome s (closed_command command))) }
-    ensures division { IfOk result (λ answered. answered.division ≡ Between) }
 {
     match body {
         Body::Refused(refusal) => refuse(alloc, engine, refusal),
@@ -170,7 +182,6 @@ fn import_listing(
     requires known { (lines : List Line) × HasRead listing lines }
     ensures ends { IfOk result (λ answered. (s : Store) (lines : List Line) → engine ≡ s.state → end ≡ s.end
         → HasRead listing lines → Ends answered s (listing_outcome (fault_at_end lines) s lines)) }
-    ensures division { IfOk result (λ answered. answered.division ≡ Between) }
 {
     match listing.finish() {
         Ok(Blocks { keys, kept, passed }) => {
@@ -198,7 +209,6 @@ fn set_entries(
     requires known { (lines : List Line) × (text ≡ reading_of lines) }
     ensures ends { IfOk result (λ answered. (s : Store) (lines : List Line) → engine ≡ s.state → end ≡ s.end
         → text ≡ reading_of lines → Ends answered s (entries_outcome (ownertrust_fault lines) s lines)) }
-    ensures division { IfOk result (λ answered. answered.division ≡ Between) }
 {
     match text.into_entries(alloc) {
         Ok(entries) => {
@@ -226,10 +236,9 @@ pub fn answer_words(
 ) -> Result<Answered, Mem>
     ensures ends { IfOk result (λ answered. (s : Store) → engine ≡ s.state → end ≡ s.end → capped records ≡ capped (length s.edits)
         → Ends answered s (outcome s (begun_command words.now))) }
-    ensures division { IfOk result (λ answered. answered.division ≡ Between) }
 {
     if words.is_empty() {
-        return Ok(say_nothing(alloc, engine, Division::Between));
+        return Ok(say_nothing(alloc, engine));
     }
     match read_head(words) {
         Ok(Head::Edit(edit)) => {
@@ -247,7 +256,6 @@ pub fn answer_words(
 /// Takes away the key of a fingerprint.
 fn delete_key(alloc: Global, engine: Engine, end: u64, fpr: &Fpr) -> Result<Answered, Mem>
     ensures ends { IfOk result (λ answered. (s : Store) → engine ≡ s.state → end ≡ s.end → Ends answered s (delete_outcome s fpr.now)) }
-    ensures division { IfOk result (λ answered. answered.division ≡ Between) }
 {
     if !engine.table().has_fpr(fpr) {
         return refuse(alloc, engine, Refusal::NoSuchKey);

@@ -8,11 +8,10 @@ ghost use Rattle.wot_types.specs.Payload.{IsWritten, IsProper, payload};
 ghost use Rattle.wot_types.specs.Store.{Store};
 ghost use Rattle.wot_answer.specs.Answer.{Ends};
 ghost use Rattle.wot_answer.specs.EditReply.{reply_text};
-ghost use Rattle.wot_answer.specs.declared.division.Division.TheVariants.{Between};
 
 use crate::answer::Answered;
 use crate::edit_reply::EditReply;
-use crate::reply::{Answer, Effect, Reply, answered, refuse};
+use crate::reply::{Answer, Effect, Reply, refuse};
 use std::alloc::Global;
 use wot_commands::{change, refusal};
 use wot_journal::{BuildError, Built, build_in_place};
@@ -31,7 +30,6 @@ pub fn make_edit(
 ) -> Result<Answered, Mem>
     requires proper { IsProper edit }
     ensures ends { IfOk result (λ answered. (s : Store) → engine ≡ s.state → end ≡ s.end → Ends answered s (edit_outcome (reply_text reply (state_after s.state edit)) s edit)) }
-    ensures division { IfOk result (λ answered. answered.division ≡ Between) }
 {
     match refusal(&engine, &edit) {
         Some(refusal) => refuse(alloc, engine, refusal),
@@ -50,13 +48,12 @@ fn make_allowed(
     requires proper { IsProper edit }
     requires allowed { refusal_of engine edit ≡ None }
     ensures ends { IfOk result (λ answered. (s : Store) → engine ≡ s.state → end ≡ s.end → Ends answered s (edit_outcome (reply_text reply (state_after s.state edit)) s edit)) }
-    ensures division { IfOk result (λ answered. answered.division ≡ Between) }
 {
     match build_record(alloc, &edit, end) {
         Ok(built) => {
             let (engine, text) = make(alloc, engine, edit, reply)?;
             let answer = Answer::Told(Reply::Text(text), Effect::Append(built));
-            Ok(answered(engine, answer))
+            Ok(Answered { engine, answer })
         }
         Err(BuildError::JournalFull) => refuse(alloc, engine, Refusal::JournalFull),
         Err(BuildError::Memory) => Err(Mem::Memory),

@@ -12,7 +12,7 @@ mod reply; // a reply with the engine that it leaves
 mod supposing; // what an edit would change, and on whose ownertrust a letter hangs
 mod words; // the words of a line
 
-pub use answer::{Answered, answer_end, answer_line, answer_words, begin_block};
+pub use answer::{Answered, LineAnswered, answer_end, answer_line, answer_words, begin_block};
 pub use block::Block;
 pub use division::Division;
 pub use query::answer_in;

@@ -13,10 +13,9 @@ ghost use Rattle.wot_types.specs.WhyText.{why_text};
 ghost use Rattle.wot_types.specs.Store.{Store};
 ghost use Rattle.wot_commands.specs.Heads.{IsProperQuery};
 ghost use Rattle.wot_answer.specs.Answer.{Ends, IsEarlierQuery, IsPresentQuery, effect_by, is_err, reply_of};
-ghost use Rattle.wot_answer.specs.declared.division.Division.TheVariants.{Between};
 
 use crate::answer::Answered;
-use crate::reply::{Answer, Effect, Reply, answered, refuse};
+use crate::reply::{Answer, Effect, Reply, refuse};
 use crate::supposing::{changes_text, losses_text};
 use std::alloc::Global;
 use std::marker::Brand;
@@ -38,7 +37,6 @@ pub fn answer_query(
     requires proper { IsProperQuery query }
     ensures ends { IfOk result (λ answered. (s : Store) → engine ≡ s.state → capped records ≡ capped (length s.edits)
         → Ends answered s (query_outcome s query)) }
-    ensures division { IfOk result (λ answered. answered.division ≡ Between) }
 {
     match query {
         Query::AtList(edits) => ask_earlier(alloc, engine, records, edits, Query::List),
@@ -71,23 +69,23 @@ fn ask_earlier(
     requires earlier { IsEarlierQuery query }
     ensures ends { IfOk result (λ answered. (s : Store) → engine ≡ s.state → capped records ≡ capped (length s.edits)
         → Ends answered s (earlier_outcome s edits query)) }
-    ensures division { IfOk result (λ answered. answered.division ≡ Between) }
 {
     if edits > records {
         return refuse(alloc, engine, Refusal::NoSuchTime(records));
     }
-    Ok(answered(engine, Answer::Earlier(edits, query)))
+    let answer = Answer::Earlier(edits, query);
+    Ok(Answered { engine, answer })
 }
 
 /// Answers a query of the engine's state.
 fn answer_now(alloc: Global, engine: Engine, query: Query) -> Result<Answered, Mem>
     requires proper { IsPresentQuery query }
     ensures ends { IfOk result (λ answered. (s : Store) → engine ≡ s.state → Ends answered s (outcome_in s.state query)) }
-    ensures division { IfOk result (λ answered. answered.division ≡ Between) }
 {
     let effect = effect_of(&query);
     let (engine, reply) = answer_in(alloc, engine, query)?;
-    Ok(answered(engine, Answer::Told(reply, effect)))
+    let answer = Answer::Told(reply, effect);
+    Ok(Answered { engine, answer })
 }
 
 /// The reply to a query in the state of this engine, which is handed back with the same state.

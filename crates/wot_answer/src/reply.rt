@@ -3,10 +3,8 @@
 ghost use Rattle.std.specs.Prelude.{◌≡◌, IfOk};
 ghost use Rattle.wot_types.specs.Outcome.{refuse, skip};
 ghost use Rattle.wot_answer.specs.Answer.{IsReply, is_err};
-ghost use Rattle.wot_answer.specs.declared.division.Division.TheVariants.{Between};
 
 use crate::answer::Answered;
-use crate::division::Division;
 use std::alloc::Global;
 use wot_journal::Built;
 use wot_live::Engine;
@@ -58,33 +56,20 @@ pub enum Answer {
 /// A refused command's `err` line; the engine stays.
 pub fn refuse(alloc: Global, engine: Engine, refusal: Refusal) -> Result<Answered, Mem>
     ensures reply { IfOk result (λ answered. IsReply answered engine (refuse refusal)) }
-    ensures division { IfOk result (λ answered. answered.division ≡ Between) }
 {
     let line = refused(alloc, &refusal)?;
-    Ok(answered(engine, Answer::Told(Reply::Refused(line), Effect::Nothing)))
-}
-
-/// The answer to a whole command, and the engine as the command leaves it.
-pub fn answered(engine: Engine, answer: Answer) -> Answered
-    ensures engine { result.engine ≡ engine }
-    ensures answer { result.answer ≡ answer }
-    ensures division { result.division ≡ Between }
-{
-    Answered {
+    Ok(Answered {
         engine,
-        answer,
-        division: Division::Between,
-    }
+        answer: Answer::Told(Reply::Refused(line), Effect::Nothing),
+    })
 }
 
 /// Nothing is told, and nothing is done.
-pub fn say_nothing(alloc: Global, engine: Engine, division: Division) -> Answered
+pub fn say_nothing(alloc: Global, engine: Engine) -> Answered
     ensures reply { IsReply result engine skip }
-    ensures division { result.division ≡ division }
 {
     Answered {
         engine,
         answer: Answer::Told(Reply::Text(Vec::new(alloc)), Effect::Nothing),
-        division,
     }
 }

@@ -29,7 +29,7 @@ use Rattle.wot_session.specs.Stop.{IsNoBadStore}
 use Rattle.wot_session.specs.declared.session.Session.{Session}
 use Rattle.wot_session.specs.declared.stop.Stop.{Stop}
 use Rattle.wot_session.specs.declared.stop.Stop.TheVariants.{TellFault}
-use Rattle.wot_session.proofs.Givings.{Doing, Leading, given_none, giving_all, giving_prefix, nothing_written, still_holds, undone}
+use Rattle.wot_session.proofs.Givings.{Doing, Leading, given_none, giving_all, giving_prefix, holds_there, nothing_written, place_at, still_holds, undone}
 
 -- ---- reading it
 
@@ -83,14 +83,18 @@ known_sound stop sound (Some x) = sound
 
 -- ---- giving the reply
 
--- a query of an earlier state that is due: the store stays
-module _ (session : Session) (n : ℕ) (query : Query) (a : Option Seen) (p : Progress) (after : Position) (text : List ℕ) (due : IsDueHere session (Earlier n query) a p after text) where
+-- a query of an earlier state that is due at the place that the session has: the store stays
+module _ (session : Session) (place : Place) (n : ℕ) (query : Query) (a : Option Seen) (p : Progress) (after : Position) (text : List ℕ)
+    (there : session.place ≡ Some place) (due : IsDueHere session (Earlier n query) a p after text) where
   still : after.progress.store ≡ p.store
   still = due.due.does
 
+  holds : Holds place a p.store
+  holds = holds_there session.place place due.place a p.store there due.there due.holds
+
   -- the store that is open has so many edits
-  pub open_there : Holds session.place a after.progress.store
-  open_there = subst (Holds session.place a) (sym still) due.holds
+  pub open_there : Holds place a after.progress.store
+  open_there = subst (Holds place a) (sym still) holds
 
   pub many : n ≤ length after.progress.store.edits
   many = due.due.asked.0
@@ -104,17 +108,17 @@ module _ (session : Session) (n : ℕ) (query : Query) (a : Option Seen) (p : Pr
   doing b stays =
       honest_then (Doing p.store after.progress.store) Stays (Doing p.store after.progress.store) a a b
       (honest_and (ShowsEither p.store after.progress.store) (Leading p.store after.progress.store) a a
-      (undone session.place p.store after.progress.store a due.holds) (nothing_written p.store after.progress.store a)) stays
+      (undone place p.store after.progress.store a holds) (nothing_written p.store after.progress.store a)) stays
       (λ x y z done same. subst (Doing p.store after.progress.store x) (sym same) done)
 
-  still_there : (b : Option Seen) → Honestly a b Stays → Holds session.place b after.progress.store
+  still_there : (b : Option Seen) → Honestly a b Stays → Holds place b after.progress.store
   still_there b stays = stays_open a b open_there stays
     where
-      stays_open : (a b : Option Seen) → Holds session.place a after.progress.store → Honestly a b Stays → Holds session.place b after.progress.store
+      stays_open : (a b : Option Seen) → Holds place a after.progress.store → Honestly a b Stays → Holds place b after.progress.store
       stays_open None None holds stays = tt
       stays_open None (Some y) holds stays = absurd stays
       stays_open (Some x) None holds stays = absurd stays
-      stays_open (Some x) (Some y) holds stays = subst (λ (s : Seen). IsStored session.place after.progress.store s.disks) (sym stays) holds
+      stays_open (Some x) (Some y) holds stays = subst (λ (s : Seen). IsStored place after.progress.store s.disks) (sym stays) holds
 
   -- it stopped before the reply
   pub earlier_stopped : (b : Option Seen) (stop : Stop) → IfHonest a (λ x. IsNoBadStore stop) → Honestly a b Stays → Honestly a b (GivenPrefix p.store after.progress.store text stop)
@@ -130,26 +134,28 @@ module _ (session : Session) (n : ℕ) (query : Query) (a : Option Seen) (p : Pr
     pub earlier_given : Honestly b c (Telling ready) → Honestly a c (Given p.store after.progress.store text)
     earlier_given tells =
         honest_with (λ x. RepliesThere engine reply) (Given p.store after.progress.store ready) (Given p.store after.progress.store text) a c replies
-        (giving_all session.place p.store after.progress.store a b c (still_there b stays) (doing b stays) ready ready refl tells)
+        (giving_all place p.store after.progress.store a b c (still_there b stays) (doing b stays) ready ready refl tells)
         (λ x z replies given. subst (λ text. Given p.store after.progress.store text x z) (ready_text replies) given)
 
     -- a prefix of it
     pub earlier_prefix : Honestly b c (TellingPrefix ready) → Honestly a c (GivenPrefix p.store after.progress.store text TellFault)
     earlier_prefix tells =
         honest_with (λ x. RepliesThere engine reply) (GivenPrefix p.store after.progress.store ready TellFault) (GivenPrefix p.store after.progress.store text TellFault) a c replies
-        (giving_prefix session.place p.store after.progress.store a b c (still_there b stays) (doing b stays) ready ready refl tells)
+        (giving_prefix place p.store after.progress.store a b c (still_there b stays) (doing b stays) ready ready refl tells)
         (λ x z replies given. subst (λ text. GivenPrefix p.store after.progress.store text TellFault x z) (ready_text replies) given)
 
     -- the session stays where it was, and knows whether the query was refused
-    pub earlier_here : (refused : Bool) → refused ≡ (session.refused || is_err reply) → Honestly b c (Telling ready) → IsHere (record session { refused = refused }) c after
+    pub earlier_here : (refused : Bool) → refused ≡ (session.refused || is_err reply) → Honestly b c (Telling ready) → IsHere (record session { place = Some place; refused = refused }) c after
     earlier_here refused same tells = record {
       at = record {
         engine = due.due.engine;
         sound = subst (λ (s : Store). IsWellFormedState s.state) (sym still) due.due.sound;
-        place = subst (IsPlace session.place) (sym still) due.due.place;
+        place = subst (IsPlace place) (sym still) (place_at session.place place p.store there due.due.place);
         division = due.due.division;
       };
-      holds = still_holds session.place after.progress.store ready b c (still_there b stays) tells;
+      place = place;
+      there = refl;
+      holds = still_holds place after.progress.store ready b c (still_there b stays) tells;
       refused = knows a b c due.refused replies stays tells;
     }
       where

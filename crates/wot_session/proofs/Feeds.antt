@@ -15,7 +15,6 @@ use Rattle.wot_answer.specs.declared.reply.Answer.{Answer}
 use Rattle.wot_answer.specs.declared.division.Division.TheVariants.{Between, Over, Within}
 use Rattle.wot_site.specs.Seen.{Seen, Honestly, IfHonest}
 use Rattle.wot_site.proofs.Honest.{honest_then, honest_weaker}
-use Rattle.wot_types.specs.Store.{Store}
 use Rattle.wot_store.specs.Shows.{IsStored}
 use Rattle.wot_store.specs.declared.place.Place.{Place}
 use Rattle.wot_session.specs.declared.session.Session.{Session}
@@ -56,12 +55,9 @@ pub commands_push : (p : Position) (xs : List ReadLine) (line : ReadLine) → co
 commands_push p xs line = whole_append p.division xs (line ∷ []) ∙ ap (λ last. commands_in p xs ++ last) (one_line (after_lines p xs).division line)
 
 -- a session at the place at which the store is open
-pub holds_at : {place other : Place} (seen : Option Seen) (store : Store) → other ≡ place → Holds place seen store → Holds other seen store
-holds_at seen store same holds = subst (λ (place : Place). Holds place seen store) (sym same) holds
-
-pub here_at : {place : Place} (session : Session) (seen : Option Seen) (p : Position) → session.place ≡ place → IsAt session p → Holds place seen p.progress.store
+pub here_at : {place : Place} (session : Session) (seen : Option Seen) (p : Position) → session.place ≡ Some place → IsAt session p → Holds place seen p.progress.store
     → KnowsRefused session seen p.progress.refused → IsHere session seen p
-here_at session seen p same at holds known = record { at = at; holds = holds_at seen p.progress.store same holds; refused = known }
+here_at {place = place} session seen p there at holds known = record { at = at; place = place; there = there; holds = holds; refused = known }
 
 -- a session that has answered nothing knows of no refusal
 pub knows_start : (session : Session) (seen : Option Seen) → session.refused ≡ false → KnowsRefused session seen false
@@ -75,22 +71,24 @@ knows_at old held (Some x) refused same known = same ∙ known
 
 -- a session that is where another was, with the same store and as many refusals
 pub here_as : (old held : Session) (seen : Option Seen) (p : Position) → held.place ≡ old.place → held.refused ≡ old.refused → IsAt held p → IsHere old seen p → IsHere held seen p
-here_as old held seen p place refused at here = here_at held seen p place at here.holds (knows_at old held seen p.progress.refused refused here.refused)
+here_as old held seen p place refused at here = here_at held seen p (place ∙ here.there) at here.holds (knows_at old held seen p.progress.refused refused here.refused)
 
 -- an answer that is due there
 pub due_here : (old held : Session) (answer : Answer) (seen : Option Seen) (p after : Position) (text : List ℕ) → held.place ≡ old.place → held.refused ≡ old.refused
     → IsHere old seen p → IsDue held answer p.progress after text → IsDueHere held answer seen p.progress after text
 due_here old held answer seen p after text place refused here due = record {
   due = due;
-  holds = holds_at seen p.progress.store place here.holds;
+  place = here.place;
+  there = place ∙ here.there;
+  holds = here.holds;
   refused = knows_at old held seen p.progress.refused refused here.refused;
 }
 
 -- what a site that tells has where a session is
-abbrev pub Known : Session → Position → Seen → Type 0
-Known session p s = IsStored session.place p.progress.store s.disks × (session.refused ≡ p.progress.refused)
+abbrev pub Known : Place → Session → Position → Seen → Type 0
+Known place session p s = IsStored place p.progress.store s.disks × (session.refused ≡ p.progress.refused)
 
-pub known_here : (session : Session) (seen : Option Seen) (p : Position) → IsHere session seen p → IfHonest seen (Known session p)
+pub known_here : (session : Session) (seen : Option Seen) (p : Position) → (here : IsHere session seen p) → IfHonest seen (Known here.place session p)
 known_here session None p here = tt
 known_here session (Some x) p here = (here.holds, here.refused)
 
@@ -110,7 +108,7 @@ pub feeding_start : (a : Option Seen) (session : Session) (bytes : List ℕ) →
 feeding_start a session bytes = record {
   done = [];
   at = λ p here. here;
-  said = λ p here. start_said session.place p a here.holds;
+  said = λ p here. start_said here.place p a here.holds;
   whole = refl;
   line = refl;
 }

@@ -1,6 +1,7 @@
 -- What an answer does to the store, and then its reply.
 use Rattle.std.proofs.Common.{◌≡◌, inl, inr, ℕ, ◌+◌, Bool, true, false, List, [], ◌++◌, length, Option, Some, None, ◌||◌, refl, sym, ap, ◌∙◌, subst, append_assoc, arith}
 use Rattle.std.specs.Prelude.{nat_eq}
+use Rattle.std.specs.Option.{IsSomeAnd}
 use Rattle.std.proofs.lemmas.List.{append-nil, length_push}
 use Rattle.std.proofs.lemmas.Bool.Decides.{nat_tests}
 use Rattle.std.proofs.lemmas.Option.{same_Some}
@@ -318,28 +319,37 @@ module _ (place : Place) (s t : Store) (a b c : Option Seen) (holds : Holds plac
 pub still_known : (K : Type 0) (P : Seen → Seen → Type 0) (a b : Option Seen) → IfHonest a (λ x. K) → Honestly a b P → IfHonest b (λ x. K)
 still_known K P a b known step = honest_after (λ x. K) (λ x. K) P a b known step (λ x y known step. known)
 
--- a reply that is due, by the engine that the session has
-module _ (session : Session) (engine : State) (reply : Reply) (effect : Effect) (p : Progress) (after : Position) (text : List ℕ)
-    (is : session.engine ≡ Some engine) (due : IsDue session (Replied reply effect) p after text) where
+-- the place that a session has
+pub place_at : (has : Option Place) (place : Place) (store : Store) → has ≡ Some place → IsSomeAnd has (λ place. IsPlace place store) → IsPlace place store
+place_at has place store there at = subst (λ has. IsSomeAnd has (λ place. IsPlace place store)) there at
+
+pub holds_there : (has : Option Place) (place other : Place) (seen : Option Seen) (store : Store) → has ≡ Some place → has ≡ Some other → Holds other seen store → Holds place seen store
+holds_there has place other seen store there known holds = subst (λ (place : Place). Holds place seen store) (same_Some other place (sym known ∙ there)) holds
+
+-- a reply that is due, by the engine and at the place that the session has
+module _ (session : Session) (engine : State) (place : Place) (reply : Reply) (effect : Effect) (p : Progress) (after : Position) (text : List ℕ)
+    (is : session.engine ≡ Some engine) (there : session.place ≡ Some place) (due : IsDue session (Replied reply effect) p after text) where
   engine_is : engine ≡ after.progress.store.state
   engine_is = same_Some engine after.progress.store.state (sym is ∙ due.engine)
 
-  pub due_performs : Performs session.place engine effect p.store after.progress.store
-  due_performs = record { at = due.place; sound = due.sound; does = due.does; state = engine_is }
+  pub due_performs : Performs place engine effect p.store after.progress.store
+  due_performs = record { at = place_at session.place place p.store there due.place; sound = due.sound; does = due.does; state = engine_is }
 
   pub due_text : reply_of reply engine ≡ text
   due_text = ap (reply_of reply) engine_is ∙ due.text
 
   -- it was given
-  pub given_here : (place : Place) (refused : Bool) (seen : Option Seen) → refused ≡ (session.refused || is_err reply) → IsPlace place after.progress.store → Holds place seen after.progress.store
-      → IfHonest seen (λ s. session.refused ≡ p.refused) → IsHere (record session { place = place; refused = refused }) seen after
-  given_here place refused seen same at holds known = record {
+  pub given_here : (new : Place) (refused : Bool) (seen : Option Seen) → refused ≡ (session.refused || is_err reply) → IsPlace new after.progress.store → Holds new seen after.progress.store
+      → IfHonest seen (λ s. session.refused ≡ p.refused) → IsHere (record session { place = Some new; refused = refused }) seen after
+  given_here new refused seen same at holds known = record {
     at = record {
       engine = due.engine;
       sound = does_sound effect p.store after.progress.store due.sound due.does;
       place = at;
       division = due.division;
     };
+    place = new;
+    there = refl;
     holds = holds;
     refused = knows seen known;
   }

@@ -45,7 +45,7 @@ running_start s a session most at line goes = record {
   at = at;
   line = line;
   bound = omega arith;
-  reached = start_reached session.place s a at.holds (not_over session s at.at goes);
+  reached = start_reached at.place s a at.holds (not_over session s at.at goes);
 }
 
 module _ {s : Position} {first now : Option Seen} {session : Session} {most room : ℕ} (running : Running s first now session most room) where

@@ -215,7 +215,9 @@ less_room n room m is less = grind (arith, is)
 pub taken_here : (session : Session) (p : Position) (n : ℕ) (buf : List ℕ) (a b : Option Seen) → IsHere session a p → Honestly a b (Takes n buf) → IsHere session b p
 taken_here session p n buf a b here takes = record {
   at = here.at;
-  holds = still_taken session.place p.progress.store n buf a b here.holds takes;
+  place = here.place;
+  there = here.there;
+  holds = still_taken here.place p.progress.store n buf a b here.holds takes;
   refused = honest_after (λ x. session.refused ≡ p.progress.refused) (λ y. session.refused ≡ p.progress.refused) (Takes n buf) a b here.refused takes (λ x y known took. known);
 }
 

@@ -1,20 +1,22 @@
 -- What a whole run does: the theorem of the program.
-use Rattle.std.specs.Prelude.{ℕ, Bool, true, false, ◌≡◌, ◌⊎◌, ◌-◌, ◌^◌, ◌<◌, ◌≤◌, List, ◌++◌, length, take, All}
+use Rattle.std.specs.Prelude.{ℕ, Bool, true, false, Option, Some, None, ◌≡◌, ◌⊎◌, ◌-◌, ◌^◌, ◌<◌, ◌≤◌, List, ◌++◌, length, take, All}
 use Rattle.wot_types.specs.Store.{Store}
 use Rattle.wot_types.specs.Commands.{Command, takes_input}
 use Rattle.wot_types.specs.Commands.Division.{over}
 use Rattle.wot_types.specs.LineByLine.{at_first}
 use Rattle.wot_types.specs.Session.{acknowledged_count, at_start, commands_of, end_of, output_of}
 use Rattle.wot_site.specs.Disk.{Disks, Leaves, reads_of}
-use Rattle.wot_site.specs.Seen.{Moment, Seen}
+use Rattle.wot_site.specs.Seen.{Faults, Honestly, Moment, Seen}
 use Rattle.wot_site.specs.Site.{Stays}
 use Rattle.wot_site.specs.Work.{Quiet, Since, Works, moment_of}
 use Rattle.wot_store.specs.Opening.{AreBlank, AreUnwritten, FindsBad, IsSettled, Opening, WritesOnlyBlank}
 use Rattle.wot_store.specs.Shows.{Shows, all_settled}
 use Rattle.wot_session.specs.Input.{IsPunctual, division_at, so_far_at}
 use Rattle.wot_tell.specs.Telling.{IsPrefixOf}
+use Rattle.wot_words.specs.ProgramWords.{command_words}
 use Rattle.wot_session.specs.CrashImages.{IsSafe, ShowsState}
 use Rattle.wot_session.specs.OpenStore.{IsOpen}
+use Rattle.wot_session.specs.Stop.{Causes}
 use Rattle.wot_session.specs.Turn.{IsBetween}
 use Rattle.wot_session.specs.Words.{IsUnread, Read}
 use Rattle.wot_session.specs.Written.{Trail, change_count}
@@ -120,3 +122,10 @@ Ran words most status.DiskFault = λ old new. Unopened words old new ⊎ RunStop
 Ran words most (status.BadStore bad) = λ old new. Unopened words old new × FindsBad bad old new
 Ran words most status.Memory = λ old new. Stays old new ⊎ (Unopened words old new × IsSettled old new) ⊎ RunStopped words most Memory old new
 Ran words most status.TooLong = RunStopped words most TooLong
+
+-- a run with these words and this bound ended with this status: the cause of it, and what the run did
+pub record EndsAs (words : List (List ℕ)) (most : ℕ) (seen after : Option Seen) (faults risen : Faults) (ended : Status) : Type 0 where
+  pub causes : Causes ended faults risen
+  pub usage : ended ≡ status.Usage → command_words words ≡ None
+  pub unread : command_words words ≡ None → (ended ≡ status.Usage) ⊎ (ended ≡ status.Memory)
+  pub ran : (command : List (List ℕ)) → command_words words ≡ Some command → Honestly seen after (Ran command most ended)

@@ -1,5 +1,6 @@
 -- How a session's fields stand for how far it has come.
 use Rattle.std.specs.Prelude.{◌≡◌, ℕ, Bool, ◌||◌, List, length, Option, Some}
+use Rattle.std.specs.Option.{IsSomeAnd}
 use Rattle.wot_types.specs.Store.{Store}
 use Rattle.wot_types.specs.LineByLine.{Position}
 use Rattle.wot_types.specs.Numbers.{capped}
@@ -10,7 +11,7 @@ use Rattle.wot_answer.specs.Answer.{Does, IsAsked, IsDivision, answer_text, effe
 use Rattle.wot_answer.specs.declared.reply.Answer.{Answer}
 use Rattle.wot_answer.specs.declared.division.Division.TheVariants.{Over}
 use Rattle.wot_answer.specs.declared.reply.Effect.{Effect}
-use Rattle.wot_site.specs.Seen.{IfHonest, Seen}
+use Rattle.wot_site.specs.Seen.{Honestly, IfHonest, Seen}
 use Rattle.wot_store.specs.Shows.{IsStored}
 use Rattle.wot_store.specs.declared.opening.Opened.{Opened}
 use Rattle.wot_store.specs.declared.place.Place.{Place}
@@ -26,7 +27,7 @@ pub record IsPlace (place : Place) (store : Store) : Type 0 where
 pub record IsAt (session : Session) (p : Position) : Type 0 where
   pub engine : session.engine ≡ Some p.progress.store.state
   pub sound : IsWellFormedState p.progress.store.state
-  pub place : IsPlace session.place p.progress.store
+  pub place : IsSomeAnd session.place (λ place. IsPlace place p.progress.store)
   pub division : IsDivision session.division p.division
 
 -- the site, if it tells, has this store open at this place
@@ -41,8 +42,18 @@ KnowsRefused session seen refused = IfHonest seen (λ s. session.refused ≡ ref
 -- the session has come so far, and the site's store is its own
 pub record IsHere (session : Session) (seen : Option Seen) (p : Position) : Type 0 where
   pub at : IsAt session p
-  pub holds : Holds session.place seen p.progress.store
+  pub place : Place
+  pub there : session.place ≡ Some place
+  pub holds : Holds place seen p.progress.store
   pub refused : KnowsRefused session seen p.progress.refused
+
+-- from wherever the session had come, the site went so
+abbrev pub FromHere : Session → Option Seen → Option Seen → (Position → Seen → Seen → Type 0) → Type 0
+FromHere session before after P = (p : Position) → IsHere session before p → Honestly before after (P p)
+
+-- from wherever the session had come, it has come on to there
+abbrev pub MovesTo : Session → Option Seen → Session → Option Seen → (Position → Position) → Type 0
+MovesTo session before new after next = (p : Position) → IsHere session before p → IsHere new after (next p)
 
 -- it has come to some point of some input
 abbrev pub IsSomewhere : Session → Option Seen → Type 0
@@ -59,15 +70,26 @@ pub record IsDue (session : Session) (answer : Answer) (p : Progress) (after : P
   pub asked : IsAsked answer after.progress.store
   pub engine : session.engine ≡ Some after.progress.store.state
   pub sound : IsWellFormedState p.store.state
-  pub place : IsPlace session.place p.store
+  pub place : IsSomeAnd session.place (λ place. IsPlace place p.store)
   pub division : IsDivision session.division after.division
   pub does : Does (effect_of answer) p.store after.progress.store
 
 -- the same, where the site's store is the session's own
 pub record IsDueHere (session : Session) (answer : Answer) (seen : Option Seen) (p : Progress) (after : Position) (reply : List ℕ) : Type 0 where
   pub due : IsDue session answer p after reply
-  pub holds : Holds session.place seen p.store
+  pub place : Place
+  pub there : session.place ≡ Some place
+  pub holds : Holds place seen p.store
   pub refused : KnowsRefused session seen p.refused
+
+-- whatever the answer was due with, the site went so from the one store to the other, with this reply
+abbrev pub AsDue : Session → Answer → Option Seen → Option Seen → (Store → Store → List ℕ → Seen → Seen → Type 0) → Type 0
+AsDue session answer before after P =
+    (p : Progress) (next : Position) (reply : List ℕ) → IsDueHere session answer before p next reply → Honestly before after (P p.store next.progress.store reply)
+
+-- wherever the answer was to lead, the session has come there
+abbrev pub ComesWhereDue : Session → Answer → Option Seen → Session → Option Seen → Type 0
+ComesWhereDue session answer before new after = (p : Progress) (next : Position) (reply : List ℕ) → IsDueHere session answer before p next reply → IsHere new after next
 
 -- to perform the effect leads the store at this place from the one to the other, whose state the engine has
 pub record Performs (place : Place) (engine : State) (effect : Effect) (s t : Store) : Type 0 where

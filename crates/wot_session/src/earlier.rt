@@ -28,14 +28,14 @@ pub fn read_earlier<R: Threads + Sync, S: Site, G: Gate + Sync>(
     workers: &Workers<'_, R, G>,
     alloc: Global,
     site: &mut S,
-    place: Place,
+    place: &Place,
     n: u64,
     query: Query,
 ) -> Result<(Engine, Reply), Stop>
     requires query { IsEarlierQuery query }
-    ensures reply { IfOk result (λ read. (s : Store) → Holds place (S.seen site.old) s → n ≤ length s.edits
+    ensures reply { IfOk result (λ read. (s : Store) → Holds place.now (S.seen site.old) s → n ≤ length s.edits
         → IfHonest (S.seen site.old) (λ _. RepliesIn (earlier_state s n) query read.0 read.1)) }
-    ensures sound { IfErr result (λ stop. (s : Store) → Holds place (S.seen site.old) s → n ≤ length s.edits
+    ensures sound { IfErr result (λ stop. (s : Store) → Holds place.now (S.seen site.old) s → n ≤ length s.edits
         → IfHonest (S.seen site.old) (λ _. IsNoBadStore stop)) }
     ensures stays { Honestly (S.seen site.old) (S.seen site.new) Stays }
     ensures cause { StopsTelling (S.faults site.old) (S.faults site.new) result }

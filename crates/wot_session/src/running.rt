@@ -3,7 +3,7 @@
 ghost use Rattle.std.specs.Prelude.{◌≡◌, [], Some, IfOk, IfErr};
 ghost use Rattle.wot_site.specs.Seen.{Honestly};
 ghost use Rattle.wot_types.specs.LineByLine.{Position};
-ghost use Rattle.wot_session.specs.SessionState.{IsHere, IsOver, IsSomewhere};
+ghost use Rattle.wot_session.specs.SessionState.{FromHere, IsOver, IsSomewhere};
 ghost use Rattle.wot_session.specs.Input.{SessionEnded, SessionStopped};
 ghost use Rattle.wot_session.specs.Answering.{HasStopCause};
 
@@ -27,8 +27,8 @@ pub fn run_session<R: Threads + Sync, S: Site, G: Gate + Sync>(
     requires somewhere { IsSomewhere session.old (S.seen site.old) }
     requires line { session.old.line ≡ Some [] }
     requires going { IsOver session.old → ⊥ }
-    ensures ended { IfOk result (λ refused. (s : Position) → IsHere session.old (S.seen site.old) s → Honestly (S.seen site.old) (S.seen site.new) (SessionEnded s most refused)) }
-    ensures stopped { IfErr result (λ stop. (s : Position) → IsHere session.old (S.seen site.old) s → Honestly (S.seen site.old) (S.seen site.new) (SessionStopped s most stop)) }
+    ensures ended { IfOk result (λ refused. FromHere session.old (S.seen site.old) (S.seen site.new) (λ s. SessionEnded s most refused)) }
+    ensures stopped { IfErr result (λ stop. FromHere session.old (S.seen site.old) (S.seen site.new) (λ s. SessionStopped s most stop)) }
     ensures cause { HasStopCause (S.faults site.old) (S.faults site.new) result }
 {
     let mut buf = [0u8; PIECE];

@@ -12,7 +12,7 @@ ghost use Rattle.wot_site.specs.Site.{Stays};
 ghost use Rattle.wot_site.specs.Seen.{Honestly};
 ghost use Rattle.wot_session.specs.AtEnd.{at_end, closed_at, last_commands};
 ghost use Rattle.wot_session.specs.OpenLine.{more, whole_from, open_from, last_lines};
-ghost use Rattle.wot_session.specs.SessionState.{CanGive, IsAt, IsDue, IsDueHere, IsHere, IsOver, IsPlace, IsSomewhere};
+ghost use Rattle.wot_session.specs.SessionState.{AsDue, CanGive, ComesWhereDue, FromHere, IsAt, IsDue, IsOver, IsPlace, IsSomewhere, MovesTo};
 ghost use Rattle.wot_session.specs.Answering.{Given, GivenPrefix, HasStopCause, Said, SaidPrefix, StopsTelling};
 ghost use Rattle.wot_session.specs.Turn.{Turned, StoppedTurn};
 
@@ -27,7 +27,8 @@ use std::alloc::Global;
 use std::mem;
 use std::thread::Threads;
 use wot_answer::{
-    Answer, Answered, Block, Division, Effect, Reply, answer_end, answer_line, answer_words,
+    Answer, Answered, Block, Division, Effect, LineAnswered, Reply, answer_end, answer_line,
+    answer_words,
 };
 use wot_live::Engine;
 use wot_site::{Failed, Site};
@@ -41,8 +42,8 @@ pub struct Session {
     alloc: Global,
     // What the accepted edits led to. It is gone once an answer found no memory, which ends the session.
     engine: Option<Engine>,
-    // Where the journal ends.
-    place: Place,
+    // Where the journal ends. It is gone once the disk failed, which ends the session.
+    place: Option<Place>,
     refused: bool,
     division: Division,
     line: OpenLine,
@@ -55,13 +56,13 @@ impl Session {
             → IsDivision division p.division → IsAt result p }
         ensures refused { result.refused ≡ false }
         ensures line { result.line ≡ Some [] }
-        ensures place { result.place ≡ opened.place }
+        ensures place { result.place ≡ Some opened.place }
         ensures division { result.division ≡ division }
     {
         Session {
             alloc,
             engine: Some(opened.engine),
-            place: opened.place,
+            place: Some(opened.place),
             refused: false,
             division,
             line: OpenLine::new(alloc),
@@ -131,7 +132,7 @@ impl Session {
         }
     }
 
-    // Keeps what an answer leaves, but for the division, which counts only where more lines may come; the answer is handed on.
+    // Keeps the engine that an answer leaves; the answer is handed on.
     fn keep(&mut self, answered: Answered) -> Answer
         ensures answer { result ≡ answered.answer }
         ensures engine { self.new.engine ≡ Some answered.engine }
@@ -153,19 +154,22 @@ impl Session {
         ensures refused { self.new.refused ≡ self.old.refused }
         ensures line { OnOk result (self.new.line ≡ Some []) }
     {
+        let Some(place) = &self.place else {
+            return Err(Mem::Memory);
+        };
         let Some(engine) = self.engine.take() else {
             return Err(Mem::Memory);
         };
         let division = mem::replace(&mut self.division, Division::Over);
-        let mut answered = answer_line(
+        let LineAnswered { answered, division } = answer_line(
             self.alloc,
             engine,
-            self.place.end,
-            self.place.records,
+            place.end,
+            place.records,
             division,
             self.line.get(),
         )?;
-        mem::swap(&mut self.division, &mut answered.division);
+        self.division = division;
         let answer = self.keep(answered);
         self.line.clear();
         Ok(answer)
@@ -179,14 +183,12 @@ impl Session {
         answer: Answer,
     ) -> Result<(), Stop>
         requires { CanGive self.old answer (S.seen site.old) }
-        ensures here { OnOk result ((p : Progress) (after : Position) (reply : List ℕ) → IsDueHere self.old answer (S.seen site.old) p after reply
-            → IsHere self.new (S.seen site.new) after) }
+        ensures here { OnOk result (ComesWhereDue self.old answer (S.seen site.old) self.new (S.seen site.new)) }
         ensures line { self.new.line ≡ self.old.line }
-        ensures given { OnOk result ((p : Progress) (after : Position) (reply : List ℕ) → IsDueHere self.old answer (S.seen site.old) p after reply
-            → Honestly (S.seen site.old) (S.seen site.new) (Given p.store after.progress.store reply)) }
-        ensures prefix { IfErr result (λ stop. (p : Progress) (after : Position) (reply : List ℕ) → IsDueHere self.old answer (S.seen site.old) p after reply
-            → Honestly (S.seen site.old) (S.seen site.new) (GivenPrefix p.store after.progress.store reply stop)) }
+        ensures given { OnOk result (AsDue self.old answer (S.seen site.old) (S.seen site.new) Given) }
+        ensures prefix { IfErr result (λ stop. AsDue self.old answer (S.seen site.old) (S.seen site.new) (λ s t reply. GivenPrefix s t reply stop)) }
         ensures memory { IsErrOf result Stop.Memory → Honestly (S.seen site.old) (S.seen site.new) Stays }
+        ensures gone { IsErrOf result Stop.DiskFault → self.new.place ≡ None }
         ensures cause { StopsTelling (S.faults site.old) (S.faults site.new) result }
     {
         match answer {
@@ -204,14 +206,12 @@ impl Session {
         effect: Effect,
     ) -> Result<(), Stop>
         requires { CanGive self.old (Answer.Told reply effect) (S.seen site.old) }
-        ensures here { OnOk result ((p : Progress) (after : Position) (text : List ℕ) → IsDueHere self.old (Answer.Told reply effect) (S.seen site.old) p after text
-            → IsHere self.new (S.seen site.new) after) }
+        ensures here { OnOk result (ComesWhereDue self.old (Answer.Told reply effect) (S.seen site.old) self.new (S.seen site.new)) }
         ensures line { self.new.line ≡ self.old.line }
-        ensures given { OnOk result ((p : Progress) (after : Position) (text : List ℕ) → IsDueHere self.old (Answer.Told reply effect) (S.seen site.old) p after text
-            → Honestly (S.seen site.old) (S.seen site.new) (Given p.store after.progress.store text)) }
-        ensures prefix { IfErr result (λ stop. (p : Progress) (after : Position) (text : List ℕ) → IsDueHere self.old (Answer.Told reply effect) (S.seen site.old) p after text
-            → Honestly (S.seen site.old) (S.seen site.new) (GivenPrefix p.store after.progress.store text stop)) }
+        ensures given { OnOk result (AsDue self.old (Answer.Told reply effect) (S.seen site.old) (S.seen site.new) Given) }
+        ensures prefix { IfErr result (λ stop. AsDue self.old (Answer.Told reply effect) (S.seen site.old) (S.seen site.new) (λ s t reply. GivenPrefix s t reply stop)) }
         ensures memory { IsErrOf result Stop.Memory → Honestly (S.seen site.old) (S.seen site.new) Stays }
+        ensures gone { IsErrOf result Stop.DiskFault → self.new.place ≡ None }
         ensures cause { StopsTelling (S.faults site.old) (S.faults site.new) result }
     {
         let refused = self.is_refused_after(&reply);
@@ -222,8 +222,11 @@ impl Session {
             Ok(ready) => ready,
             Err(Mem::Memory) => return Err(Stop::Memory),
         };
-        match do_effect(self.alloc, site, engine, self.place, &effect) {
-            Ok(place) => self.place = place,
+        let Some(place) = self.place.take() else {
+            return Err(Stop::Memory);
+        };
+        match do_effect(self.alloc, site, engine, place, &effect) {
+            Ok(after) => self.place = Some(after),
             Err(stop) => return Err(stop),
         }
         self.refused = refused;
@@ -242,20 +245,22 @@ impl Session {
         query: Query,
     ) -> Result<(), Stop>
         requires { CanGive self.old (Answer.Earlier n query) (S.seen site.old) }
-        ensures here { OnOk result ((p : Progress) (after : Position) (text : List ℕ) → IsDueHere self.old (Answer.Earlier n query) (S.seen site.old) p after text
-            → IsHere self.new (S.seen site.new) after) }
+        ensures here { OnOk result (ComesWhereDue self.old (Answer.Earlier n query) (S.seen site.old) self.new (S.seen site.new)) }
         ensures line { self.new.line ≡ self.old.line }
-        ensures given { OnOk result ((p : Progress) (after : Position) (text : List ℕ) → IsDueHere self.old (Answer.Earlier n query) (S.seen site.old) p after text
-            → Honestly (S.seen site.old) (S.seen site.new) (Given p.store after.progress.store text)) }
-        ensures prefix { IfErr result (λ stop. (p : Progress) (after : Position) (text : List ℕ) → IsDueHere self.old (Answer.Earlier n query) (S.seen site.old) p after text
-            → Honestly (S.seen site.old) (S.seen site.new) (GivenPrefix p.store after.progress.store text stop)) }
+        ensures given { OnOk result (AsDue self.old (Answer.Earlier n query) (S.seen site.old) (S.seen site.new) Given) }
+        ensures prefix { IfErr result (λ stop. AsDue self.old (Answer.Earlier n query) (S.seen site.old) (S.seen site.new) (λ s t reply. GivenPrefix s t reply stop)) }
         ensures memory { IsErrOf result Stop.Memory → Honestly (S.seen site.old) (S.seen site.new) Stays }
+        ensures gone { IsErrOf result Stop.DiskFault → self.new.place ≡ None }
         ensures cause { StopsTelling (S.faults site.old) (S.faults site.new) result }
     {
-        let (engine, reply) = match read_earlier(workers, self.alloc, site, self.place, n, query) {
+        let Some(place) = self.place.take() else {
+            return Err(Stop::Memory);
+        };
+        let (engine, reply) = match read_earlier(workers, self.alloc, site, &place, n, query) {
             Ok(read) => read,
             Err(stop) => return Err(stop),
         };
+        self.place = Some(place);
         self.refused = self.is_refused_after(&reply);
         let reply = match make_ready(workers, self.alloc, &engine, reply) {
             Ok(reply) => reply,
@@ -274,13 +279,10 @@ impl Session {
         site: &mut S,
     ) -> Result<(), Stop>
         requires { IsSomewhere self.old (S.seen site.old) }
-        ensures at { OnOk result ((p : Position) → IsHere self.old (S.seen site.old) p
-            → IsHere self.new (S.seen site.new) (after_line p self.old.line)) }
+        ensures at { OnOk result (MovesTo self.old (S.seen site.old) self.new (S.seen site.new) (λ p. after_line p self.old.line)) }
         ensures line { OnOk result (self.new.line ≡ Some []) }
-        ensures told { OnOk result ((p : Position) → IsHere self.old (S.seen site.old) p
-            → Honestly (S.seen site.old) (S.seen site.new) (Said p.progress (made_by p.division self.old.line))) }
-        ensures prefix { IfErr result (λ stop. (p : Position) → IsHere self.old (S.seen site.old) p
-            → Honestly (S.seen site.old) (S.seen site.new) (SaidPrefix p.progress (made_by p.division self.old.line) stop)) }
+        ensures told { OnOk result (FromHere self.old (S.seen site.old) (S.seen site.new) (λ p. Said p.progress (made_by p.division self.old.line))) }
+        ensures prefix { IfErr result (λ stop. FromHere self.old (S.seen site.old) (S.seen site.new) (λ p. SaidPrefix p.progress (made_by p.division self.old.line) stop)) }
         ensures cause { StopsTelling (S.faults site.old) (S.faults site.new) result }
     {
         match self.read_on() {
@@ -303,13 +305,10 @@ impl Session {
         bytes: &[u8],
     ) -> Result<(), Stop>
         requires { IsSomewhere self.old (S.seen site.old) }
-        ensures at { OnOk result ((p : Position) → IsHere self.old (S.seen site.old) p
-            → IsHere self.new (S.seen site.new) (after_line p (more self.old.line bytes.now))) }
+        ensures at { OnOk result (MovesTo self.old (S.seen site.old) self.new (S.seen site.new) (λ p. after_line p (more self.old.line bytes.now))) }
         ensures line { OnOk result (self.new.line ≡ Some []) }
-        ensures told { OnOk result ((p : Position) → IsHere self.old (S.seen site.old) p
-            → Honestly (S.seen site.old) (S.seen site.new) (Said p.progress (made_by p.division (more self.old.line bytes.now)))) }
-        ensures prefix { IfErr result (λ stop. (p : Position) → IsHere self.old (S.seen site.old) p
-            → Honestly (S.seen site.old) (S.seen site.new) (SaidPrefix p.progress (made_by p.division (more self.old.line bytes.now)) stop)) }
+        ensures told { OnOk result (FromHere self.old (S.seen site.old) (S.seen site.new) (λ p. Said p.progress (made_by p.division (more self.old.line bytes.now)))) }
+        ensures prefix { IfErr result (λ stop. FromHere self.old (S.seen site.old) (S.seen site.new) (λ p. SaidPrefix p.progress (made_by p.division (more self.old.line bytes.now)) stop)) }
         ensures cause { StopsTelling (S.faults site.old) (S.faults site.new) result }
     {
         match self.read_whole(bytes) {
@@ -331,13 +330,10 @@ impl Session {
         bytes: &[u8],
     ) -> Result<(), Stop>
         requires { IsSomewhere self.old (S.seen site.old) }
-        ensures at { OnOk result ((p : Position) → IsHere self.old (S.seen site.old) p
-            → IsHere self.new (S.seen site.new) (after_lines p (whole_from self.old.line bytes.now))) }
+        ensures at { OnOk result (MovesTo self.old (S.seen site.old) self.new (S.seen site.new) (λ p. after_lines p (whole_from self.old.line bytes.now))) }
         ensures line { OnOk result (IsOver self.new ⊎ (self.new.line ≡ open_from self.old.line bytes.now)) }
-        ensures told { OnOk result ((p : Position) → IsHere self.old (S.seen site.old) p
-            → Honestly (S.seen site.old) (S.seen site.new) (Said p.progress (commands_in p (whole_from self.old.line bytes.now)))) }
-        ensures prefix { IfErr result (λ stop. (p : Position) → IsHere self.old (S.seen site.old) p
-            → Honestly (S.seen site.old) (S.seen site.new) (SaidPrefix p.progress (commands_in p (whole_from self.old.line bytes.now)) stop)) }
+        ensures told { OnOk result (FromHere self.old (S.seen site.old) (S.seen site.new) (λ p. Said p.progress (commands_in p (whole_from self.old.line bytes.now)))) }
+        ensures prefix { IfErr result (λ stop. FromHere self.old (S.seen site.old) (S.seen site.new) (λ p. SaidPrefix p.progress (commands_in p (whole_from self.old.line bytes.now)) stop)) }
         ensures cause { StopsTelling (S.faults site.old) (S.faults site.new) result }
     {
         let mut rest = bytes;
@@ -363,12 +359,9 @@ impl Session {
         site: &mut S,
     ) -> Result<(), Stop>
         requires { IsSomewhere self.old (S.seen site.old) }
-        ensures at { OnOk result ((p : Position) → IsHere self.old (S.seen site.old) p
-            → IsHere self.new (S.seen site.new) (after_lines p (last_lines self.old.line))) }
-        ensures told { OnOk result ((p : Position) → IsHere self.old (S.seen site.old) p
-            → Honestly (S.seen site.old) (S.seen site.new) (Said p.progress (commands_in p (last_lines self.old.line)))) }
-        ensures prefix { IfErr result (λ stop. (p : Position) → IsHere self.old (S.seen site.old) p
-            → Honestly (S.seen site.old) (S.seen site.new) (SaidPrefix p.progress (commands_in p (last_lines self.old.line)) stop)) }
+        ensures at { OnOk result (MovesTo self.old (S.seen site.old) self.new (S.seen site.new) (λ p. after_lines p (last_lines self.old.line))) }
+        ensures told { OnOk result (FromHere self.old (S.seen site.old) (S.seen site.new) (λ p. Said p.progress (commands_in p (last_lines self.old.line)))) }
+        ensures prefix { IfErr result (λ stop. FromHere self.old (S.seen site.old) (S.seen site.new) (λ p. SaidPrefix p.progress (commands_in p (last_lines self.old.line)) stop)) }
         ensures cause { StopsTelling (S.faults site.old) (S.faults site.new) result }
     {
         if self.line.is_empty() {
@@ -399,10 +392,13 @@ impl Session {
         ensures place { self.new.place ≡ self.old.place }
         ensures refused { self.new.refused ≡ self.old.refused }
     {
+        let Some(place) = &self.place else {
+            return Err(Mem::Memory);
+        };
         let Some(engine) = self.engine.take() else {
             return Err(Mem::Memory);
         };
-        let answered = answer_end(self.alloc, engine, self.place.end, block)?;
+        let answered = answer_end(self.alloc, engine, place.end, block)?;
         Ok(self.keep(answered))
     }
 
@@ -423,11 +419,9 @@ impl Session {
         site: &mut S,
     ) -> Result<(), Stop>
         requires { IsSomewhere self.old (S.seen site.old) }
-        ensures at { OnOk result ((p : Position) → IsHere self.old (S.seen site.old) p → IsHere self.new (S.seen site.new) (closed_at p)) }
-        ensures told { OnOk result ((p : Position) → IsHere self.old (S.seen site.old) p
-            → Honestly (S.seen site.old) (S.seen site.new) (Said p.progress (unfinished_commands p.division))) }
-        ensures prefix { IfErr result (λ stop. (p : Position) → IsHere self.old (S.seen site.old) p
-            → Honestly (S.seen site.old) (S.seen site.new) (SaidPrefix p.progress (unfinished_commands p.division) stop)) }
+        ensures at { OnOk result (MovesTo self.old (S.seen site.old) self.new (S.seen site.new) closed_at) }
+        ensures told { OnOk result (FromHere self.old (S.seen site.old) (S.seen site.new) (λ p. Said p.progress (unfinished_commands p.division))) }
+        ensures prefix { IfErr result (λ stop. FromHere self.old (S.seen site.old) (S.seen site.new) (λ p. SaidPrefix p.progress (unfinished_commands p.division) stop)) }
         ensures cause { StopsTelling (S.faults site.old) (S.faults site.new) result }
     {
         let answer = match self.close() {
@@ -444,11 +438,9 @@ impl Session {
         site: &mut S,
     ) -> Result<(), Stop>
         requires { IsSomewhere self.old (S.seen site.old) }
-        ensures at { OnOk result ((p : Position) → IsHere self.old (S.seen site.old) p → IsHere self.new (S.seen site.new) (at_end p self.old.line)) }
-        ensures told { OnOk result ((p : Position) → IsHere self.old (S.seen site.old) p
-            → Honestly (S.seen site.old) (S.seen site.new) (Said p.progress (last_commands p self.old.line))) }
-        ensures prefix { IfErr result (λ stop. (p : Position) → IsHere self.old (S.seen site.old) p
-            → Honestly (S.seen site.old) (S.seen site.new) (SaidPrefix p.progress (last_commands p self.old.line) stop)) }
+        ensures at { OnOk result (MovesTo self.old (S.seen site.old) self.new (S.seen site.new) (λ p. at_end p self.old.line)) }
+        ensures told { OnOk result (FromHere self.old (S.seen site.old) (S.seen site.new) (λ p. Said p.progress (last_commands p self.old.line))) }
+        ensures prefix { IfErr result (λ stop. FromHere self.old (S.seen site.old) (S.seen site.new) (λ p. SaidPrefix p.progress (last_commands p self.old.line) stop)) }
         ensures cause { StopsTelling (S.faults site.old) (S.faults site.new) result }
     {
         if let Err(stop) = self.answer_last(workers, site) {
@@ -465,16 +457,13 @@ impl Session {
         ensures place { self.new.place ≡ self.old.place }
         ensures refused { self.new.refused ≡ self.old.refused }
     {
+        let Some(place) = &self.place else {
+            return Err(Mem::Memory);
+        };
         let Some(engine) = self.engine.take() else {
             return Err(Mem::Memory);
         };
-        let answered = answer_words(
-            self.alloc,
-            engine,
-            self.place.end,
-            self.place.records,
-            words,
-        )?;
+        let answered = answer_words(self.alloc, engine, place.end, place.records, words)?;
         Ok(self.keep(answered))
     }
 
@@ -487,12 +476,9 @@ impl Session {
     ) -> Result<(), Stop>
         requires some { 0 < length words.now }
         requires somewhere { IsSomewhere self.old (S.seen site.old) }
-        ensures at { OnOk result ((p : Position) → IsHere self.old (S.seen site.old) p
-            → IsHere self.new (S.seen site.new) (record p { progress = after_command p.progress (begun_command words.now) })) }
-        ensures told { OnOk result ((p : Position) → IsHere self.old (S.seen site.old) p
-            → Honestly (S.seen site.old) (S.seen site.new) (Said p.progress (begun_command words.now ∷ []))) }
-        ensures prefix { IfErr result (λ stop. (p : Position) → IsHere self.old (S.seen site.old) p
-            → Honestly (S.seen site.old) (S.seen site.new) (SaidPrefix p.progress (begun_command words.now ∷ []) stop)) }
+        ensures at { OnOk result (MovesTo self.old (S.seen site.old) self.new (S.seen site.new) (λ p. record p { progress = after_command p.progress (begun_command words.now) })) }
+        ensures told { OnOk result (FromHere self.old (S.seen site.old) (S.seen site.new) (λ p. Said p.progress (begun_command words.now ∷ []))) }
+        ensures prefix { IfErr result (λ stop. FromHere self.old (S.seen site.old) (S.seen site.new) (λ p. SaidPrefix p.progress (begun_command words.now ∷ []) stop)) }
         ensures cause { StopsTelling (S.faults site.old) (S.faults site.new) result }
     {
         let answer = match self.reply_to_words(words) {
@@ -515,13 +501,10 @@ impl Session {
         requires some { 0 < length buf.old }
         ensures fits { IfOk result (λ n. n ≤ length buf.new) }
         ensures room { IfOk result (λ n. n ≤ room) }
-        ensures at { IfOk result (λ n. (p : Position) → IsHere self.old (S.seen site.old) p
-            → IsHere self.new (S.seen site.new) (after_lines p (whole_from self.old.line (take n buf.new)))) }
+        ensures at { IfOk result (λ n. MovesTo self.old (S.seen site.old) self.new (S.seen site.new) (λ p. after_lines p (whole_from self.old.line (take n buf.new)))) }
         ensures line { IfOk result (λ n. IsOver self.new ⊎ (self.new.line ≡ open_from self.old.line (take n buf.new))) }
-        ensures turned { IfOk result (λ n. (p : Position) → IsHere self.old (S.seen site.old) p
-            → Honestly (S.seen site.old) (S.seen site.new) (Turned p self.old.line (take n buf.new))) }
-        ensures stopped { IfErr result (λ stop. (p : Position) → IsHere self.old (S.seen site.old) p
-            → Honestly (S.seen site.old) (S.seen site.new) (StoppedTurn p self.old.line room stop)) }
+        ensures turned { IfOk result (λ n. FromHere self.old (S.seen site.old) (S.seen site.new) (λ p. Turned p self.old.line (take n buf.new))) }
+        ensures stopped { IfErr result (λ stop. FromHere self.old (S.seen site.old) (S.seen site.new) (λ p. StoppedTurn p self.old.line room stop)) }
         ensures cause { HasStopCause (S.faults site.old) (S.faults site.new) result }
     {
         let taken = match site.take(buf) {

@@ -24,26 +24,32 @@ set_entries-requires c = record {
       (block_texts command.block, (subst (λ body. HasHad body (command_of read.words) command.block) c.in-Ownertrust.is read.had).2);
 }
 
-pub returns-in-Refused-clause-ends : goal.returns-in-Refused-clause-ends
-returns-in-Refused-clause-ends c =
-    IfOk-weaker c.refuse.result _ _
-    (λ answered reply s command same at read.
-    subst (Ends answered s) (sym (refused_is s (closed_command command) read.words read.given read.opens c.in-Refused.refusal
-    (subst (λ body. HasHad body (command_of read.words) command.block) c.in-Refused.is read.had))) (reply s same))
-    c.refuse.ensures.reply
+pub returns-in-Refused : goal.returns-in-Refused
+returns-in-Refused c = record {
+  ends =
+      IfOk-weaker c.refuse.result _ _
+      (λ answered reply s command same at read.
+      subst (Ends answered s) (sym (refused_is s (closed_command command) read.words read.given read.opens c.in-Refused.refusal
+      (subst (λ body. HasHad body (command_of read.words) command.block) c.in-Refused.is read.had))) (reply s same))
+      c.refuse.ensures.reply;
+}
 
-pub returns-in-Listing-clause-ends : goal.returns-in-Listing-clause-ends
-returns-in-Listing-clause-ends c =
-    IfOk-weaker c.import_listing.result _ _
-    (λ answered ends s command same at read.
-    let had = subst (λ body. HasHad body (command_of read.words) command.block) c.in-Listing.is read.had in
-    subst (Ends answered s) (sym (read_is s (closed_command command) read.words read.given read.opens Import had.0 had.1 ∙ listing_is s (closed_command command) refl)) (ends s (block_texts command.block) same at had.2))
-    c.import_listing.ensures.ends
+pub returns-in-Listing : goal.returns-in-Listing
+returns-in-Listing c = record {
+  ends =
+      IfOk-weaker c.import_listing.result _ _
+      (λ answered ends s command same at read.
+      let had = subst (λ body. HasHad body (command_of read.words) command.block) c.in-Listing.is read.had in
+      subst (Ends answered s) (sym (read_is s (closed_command command) read.words read.given read.opens Import had.0 had.1 ∙ listing_is s (closed_command command) refl)) (ends s (block_texts command.block) same at had.2))
+      c.import_listing.ensures.ends;
+}
 
-pub returns-in-Ownertrust-clause-ends : goal.returns-in-Ownertrust-clause-ends
-returns-in-Ownertrust-clause-ends c =
-    IfOk-weaker c.set_entries.result _ _
-    (λ answered ends s command same at read.
-    let had = subst (λ body. HasHad body (command_of read.words) command.block) c.in-Ownertrust.is read.had in
-    subst (Ends answered s) (sym (read_is s (closed_command command) read.words read.given read.opens Ownertrust had.0 had.1 ∙ entries_are s (closed_command command) refl)) (ends s (block_texts command.block) same at had.2))
-    c.set_entries.ensures.ends
+pub returns-in-Ownertrust : goal.returns-in-Ownertrust
+returns-in-Ownertrust c = record {
+  ends =
+      IfOk-weaker c.set_entries.result _ _
+      (λ answered ends s command same at read.
+      let had = subst (λ body. HasHad body (command_of read.words) command.block) c.in-Ownertrust.is read.had in
+      subst (Ends answered s) (sym (read_is s (closed_command command) read.words read.given read.opens Ownertrust had.0 had.1 ∙ entries_are s (closed_command command) refl)) (ends s (block_texts command.block) same at had.2))
+      c.set_entries.ensures.ends;
+}

@@ -1,13 +1,12 @@
 use Rattle.std.proofs.Common.{◌≡◌, Some, [], true, false, if◌then◌else◌, refl, sym, ap, subst, ◌∙◌}
-use Rattle.wot_types.specs.Commands.{begun_command, is_quit, line_words, of_line, opened_command}
+use Rattle.wot_types.specs.Commands.{begun_command, is_quit, line_words, opened_command}
 use Rattle.wot_types.specs.Commands.Division.{between, over, within}
 use Rattle.wot_types.specs.Grammar.{command_of, has_block}
 use Rattle.wot_types.specs.Lines.{without_return}
 use Rattle.wot_types.specs.Outcome.{outcome}
 use Rattle.wot_answer.specs.Answer.{Ends, IsDivision}
 use Rattle.wot_answer.specs.Block.{HasHad, IsBlockOf}
-use Rattle.wot_answer.specs.declared.answer.Answered.{Answered}
-use Rattle.wot_answer.proofs.Answering.{answers_line, answers_opened, redivided}
+use Rattle.wot_answer.proofs.Answering.{answers_line, answers_opened}
 use Rattle.wot_answer.proofs.answer.answer_text.Goals as goal
 
 pub returns-then-has_block : goal.returns-then-has_block
@@ -21,8 +20,7 @@ returns-then-has_block c =
     } in
     record {
       answers = λ p same at many here.
-          answers_opened c.say_nothing.result p (Some c.args.line.now) c.args.engine same here opens c.say_nothing.ensures.reply
-          (subst (λ division. IsDivision division (within (opened_command (Some c.args.line.now)))) (sym c.say_nothing.ensures.division) block);
+          answers_opened c.say_nothing.result _ p (Some c.args.line.now) c.args.engine same here opens c.say_nothing.ensures.reply block;
     }
 
 pub returns : goal.returns
@@ -32,10 +30,7 @@ returns c =
     let single : has_block words ≡ false = ap has_block (sym is) ∙ sym c.has_block.ensures ∙ c.if-has_block.false in
     record {
       answers = λ p same at many here.
-          answers_line _ p (Some c.args.line.now) here single
-          (subst (λ answered. Ends answered p.progress.store (outcome p.progress.store (of_line (Some c.args.line.now)))) (sym c.with_division.ensures)
-          (redivided c.in_ok-answered.answered c.division_after.result p.progress.store _
-          (subst (λ w. Ends c.in_ok-answered.answered p.progress.store (outcome p.progress.store (begun_command w))) is (c.in_ok-answered.ensures.ends p.progress.store same at many))))
-          (subst (λ division. IsDivision division (if is_quit (Some words) then over else between)) (sym (ap (λ (answered : Answered). answered.division) c.with_division.ensures))
-          (subst (λ w. IsDivision c.division_after.result (if is_quit (Some w) then over else between)) is c.division_after.ensures));
+          answers_line c.in_ok-answered.answered c.division_after.result p (Some c.args.line.now) here single
+          (subst (λ w. Ends c.in_ok-answered.answered p.progress.store (outcome p.progress.store (begun_command w))) is (c.in_ok-answered.ensures.ends p.progress.store same at many))
+          (subst (λ w. IsDivision c.division_after.result (if is_quit (Some w) then over else between)) is c.division_after.ensures);
     }

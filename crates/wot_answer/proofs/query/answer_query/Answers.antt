@@ -10,5 +10,4 @@ returns-in_default c = record {
       IfOk-weaker c.answer_now.result _ _
       (λ answered ends s same many. subst (Ends answered s) (sym (present_outcome c.args.query c.in_default.not-AtList c.in_default.not-AtListOne c.in_default.not-AtWhy s)) (ends s same))
       c.answer_now.ensures.ends;
-  division = c.answer_now.ensures.division;
 }

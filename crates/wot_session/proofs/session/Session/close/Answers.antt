@@ -1,20 +1,19 @@
-use Rattle.std.proofs.Common.{◌≡◌, ◌∙◌, ap, refl, subst, sym}
+use Rattle.std.proofs.Common.{◌≡◌, ◌∙◌, refl, subst, sym}
+use Rattle.std.specs.Option.{IsSomeAnd}
 use Rattle.std.proofs.lemmas.List.{append-nil}
 use Rattle.std.proofs.lemmas.Result.{IfOk-weaker}
 use Rattle.wot_types.specs.Commands.{Command, Division, unfinished_commands}
 use Rattle.wot_types.specs.Commands.Division.{between, within, over}
 use Rattle.wot_types.specs.LineByLine.{Position, closing_reply}
-use Rattle.wot_types.specs.Numbers.{capped}
 use Rattle.wot_types.specs.Session.{after_all, after_command, replies, reply_to}
 use Rattle.wot_answer.specs.Answer.{IsDivision}
 use Rattle.wot_answer.specs.Block.{IsBlockOf}
 use Rattle.wot_answer.specs.declared.block.Block.{Block}
 use Rattle.wot_answer.specs.declared.division.Division.TheVariants.{Within, Over}
 use Rattle.wot_answer.specs.declared.reply.Answer.{Answer}
-use Rattle.wot_store.specs.declared.place.Place.{Place}
 use Rattle.wot_session.specs.declared.session.Session.{Session}
 use Rattle.wot_session.specs.AtEnd.{closed_at}
-use Rattle.wot_session.specs.SessionState.{IsAt, IsDue}
+use Rattle.wot_session.specs.SessionState.{IsAt, IsDue, IsPlace}
 use Rattle.wot_session.proofs.session.Session.close.Goals as goal
 
 -- where a command was unfinished, and it was answered by a session that is over
@@ -36,7 +35,7 @@ module _ (old held new : Session) (answer : Answer) (block : Block) (engine : he
           let due = all (record p { division = over }) command (record {
             engine = engine ∙ at.engine;
             sound = at.sound;
-            place = record { epoch = ap (λ (place : Place). place.epoch) place ∙ at.place.epoch; end = ap (λ (place : Place). place.end) place ∙ at.place.end; records = ap (λ (place : Place). capped place.records) place ∙ at.place.records };
+            place = subst (λ place. IsSomeAnd place (λ place. IsPlace place p.progress.store)) (sym place) at.place;
             division = subst (λ known. IsDivision known over) (sym ended) tt;
           }) (block_is (within command) same) in
           subst Closed (sym same) (record {
