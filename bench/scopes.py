@@ -29,7 +29,8 @@ SCOPES = {
     "1,000 introducers, each with an expression": Scopes(1000, lambda number: rf"@(mail|lists)\.d{number}\.example\.org>$", lambda number: f"lists.d{number}."),
 }
 # the worst that were found: by these a text of two letters comes to a new state at almost each byte
-WORST = {"`a` and 253 times `.`": "a" + "." * 253 + "$", "`(a|b)*a` and `(a|b)` over and over": "(a|b)*a" + "(a|b)" * 49 + "$"}
+WORST = {"`a` and 253 times `.`": "a" + "." * 253 + "$", "`(a|b)*a` and `(a|b)` over and over": "(a|b)*a" + "(a|b)" * 49 + "$",
+         "`a`, 50 times `(.?.)`, and `c`": "a" + "(.?.)" * 50 + "c$"}
 
 
 def sig(issuer, trusts="", scope=""):
