@@ -208,7 +208,8 @@ class Letters:
         self.head = ":".join(fields)
         if now < date or 0 < next_check <= now:
             self.head = ":".join([fields[0], "o", *fields[2:]])
-            raise wot.WotError(f"the store tells of {wot.moment(date)}, and the next check is at {wot.moment(next_check)}: run wot-sync")
+            due = f"the next check is at {wot.moment(next_check)}" if next_check else "nothing expires"
+            raise wot.WotError(f"the store tells of {wot.moment(date)}, and {due}: run wot-sync")
 
     def missing(self, fingerprint):
         """Whether the store was asked and does not have this key."""

@@ -84,6 +84,12 @@ def early():
                 done = at.run("wot-sync", *words)
             left = [name for name in at.beside() if name not in (*before, "store.lock")]
             yield " ".join(words), (done.returncode, done.stderr.splitlines()[-1:], left), (2, [f"wot-sync: {told}"], [])
+        (at.here / "hand").mkdir()
+        (at.here / "linked").symlink_to("hand")
+        for name in ("hand", "linked"):
+            done = at.run("wot-sync", name)
+            refused = f"wot-sync: {at.here}/{name} is no link that a sync made: move it away, or name another place\n"
+            yield f"a store that is {name}", (done.returncode, done.stderr, os.listdir(at.here / name)), (2, refused, [])
         roots = [f"0x{me}", " ".join(re.findall("....", me)).lower()]
         done = at.run("wot-sync", *(word for root in roots for word in ("--root", root)), "--store", "elsewhere")
         yield "as gpg prints it, and a store that is named", (done.returncode, done.stderr, (at.here / "elsewhere" / "wot.0").exists()), (0, "", True)
