@@ -1,12 +1,13 @@
 -- Rows that are added one after the other.
-use Rattle.std.proofs.Common.{◌≡◌, ℕ, List, [], ◌∷◌, ◌++◌, All, reverse, refl, sym, ap, subst, ◌∙◌, nat_cmp, map as mapped}
+use Rattle.std.proofs.Common.{◌≡◌, ◌||◌, ℕ, Bool, true, false, List, [], ◌∷◌, ◌++◌, All, reverse, refl, sym, ap, subst, ◌∙◌, nat_cmp, map as mapped}
 use Rattle.std.specs.Cmp.{nat_cmp_total}
 use Rattle.std.specs.FinMap.{empty, entries, from_entries, len-empty, nat_cmp-IsAntisymmetric}
 use Rattle.std.proofs.lemmas.List.{append-nil}
-use Rattle.std.proofs.lemmas.List.Elements.{All-nil}
+use Rattle.std.specs.List.{list_any}
+use Rattle.std.proofs.lemmas.List.Elements.{All-nil, All-cons, All-head, All-tail}
 use Rattle.wot_types.specs.declared.row.Row.{Row}
 use Rattle.wot_types.specs.Candidates.{RowMap}
-use Rattle.wot_types.specs.Rows.{IsOwnRow, with_row, with_rows}
+use Rattle.wot_types.specs.Rows.{IsKeptRow, has_scope, with_row, with_rows}
 use Rattle.wot_types.proofs.FinMaps.{All-insert, no_entries}
 use Rattle.wot_types.proofs.Maps.{in_turn}
 
@@ -21,11 +22,29 @@ rows_after (row ∷ rows) before = rows_after rows (keyed row ∷ before) ∙ ap
 pub rows_alone : (rows : List Row) → with_rows empty rows ≡ from_entries {R = nat_cmp} (reverse (mapped keyed rows))
 rows_alone rows = rows_after rows [] ∙ ap (from_entries {R = nat_cmp}) (append-nil (reverse (mapped keyed rows)))
 
-own_after : (rows : List Row) (before : RowMap) → All IsOwnRow (entries before) → All IsOwnRow (entries (with_rows before rows))
-own_after [] before own = own
-own_after (row ∷ rows) before own =
-    own_after rows (with_row before row) (All-insert nat_cmp_total nat_cmp-IsAntisymmetric IsOwnRow before row.key row own refl)
+kept_after : (P : ℕ × Row → Type 0) (rows : List Row) (before : RowMap) → All P (entries before) → All (λ row. P (keyed row)) rows → All P (entries (with_rows before rows))
+kept_after P [] before were are = were
+kept_after P (row ∷ rows) before were are =
+    kept_after P rows (with_row before row)
+    (All-insert nat_cmp_total nat_cmp-IsAntisymmetric P before row.key row were (All-head (λ row. P (keyed row)) row rows are))
+    (All-tail (λ row. P (keyed row)) row rows are)
 
--- each stands under its own key
-pub own_alone : (rows : List Row) → All IsOwnRow (entries (with_rows empty rows))
-own_alone rows = own_after rows empty (subst (All IsOwnRow) (sym (no_entries (empty {R = nat_cmp}) (len-empty nat_cmp Row))) (All-nil IsOwnRow))
+pub neither_first : (a b : Bool) → (a || b) ≡ false → a ≡ false
+neither_first true b h = cc
+neither_first false b h = refl
+
+pub neither_second : (a b : Bool) → (a || b) ≡ false → b ≡ false
+neither_second true b h = cc
+neither_second false b h = h
+
+scopes_told : (scoped : Bool) (rows : List Row) → (scoped ≡ false → list_any has_scope rows ≡ false) → All (λ row. IsKeptRow scoped (keyed row)) rows
+scopes_told scoped [] none = All-nil (λ row. IsKeptRow scoped (keyed row))
+scopes_told scoped (row ∷ rows) none =
+    All-cons (λ row. IsKeptRow scoped (keyed row)) row rows (refl, λ is. neither_first (has_scope row) (list_any has_scope rows) (none is))
+    (scopes_told scoped rows (λ is. neither_second (has_scope row) (list_any has_scope rows) (none is)))
+
+-- each stands under its own key, and none has a scope where none of them had one
+pub kept_alone : (scoped : Bool) (rows : List Row) → scoped ≡ list_any has_scope rows → All (IsKeptRow scoped) (entries (with_rows empty rows))
+kept_alone scoped rows told =
+    let none = subst (All (IsKeptRow scoped)) (sym (no_entries (empty {R = nat_cmp}) (len-empty nat_cmp Row))) (All-nil (IsKeptRow scoped)) in
+    kept_after (IsKeptRow scoped) rows empty none (scopes_told scoped rows (λ is. sym told ∙ is))

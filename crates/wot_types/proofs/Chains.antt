@@ -2,10 +2,11 @@
 use Rattle.std.proofs.Common.{◌≡◌, ◌<◌, ◌≤◌, ◌&&◌, ℕ, zero, suc, true, false, cond, nat_lt, List, [], ◌∷◌, Option, Some, None, option_and_then, IfSome, refl, sym, ap, subst, ◌∙◌, arith}
 use Rattle.std.specs.FinMap as finmap
 use Rattle.std.specs.List.{list_all}
-use Rattle.std.specs.Option.{option_map_or}
+use Rattle.std.specs.Option.{is_some, option_map_or}
 use Rattle.std.proofs.lemmas.Bool.Decides.{nat_tests}
 use Rattle.wot_types.specs.declared.row.Row.{Row}
 use Rattle.wot_types.specs.Candidates.{RowMap, chain, chain_admits, chain_of, chain_within, delegator, if_below}
+use Rattle.wot_types.specs.Rows.{HaveNoScopes, has_scope}
 use Rattle.wot_types.specs.Scope.{admits}
 
 -- ---- a row that may be missing, by its level
@@ -99,6 +100,26 @@ module _ (rows : RowMap) where
       rest : (d : Option Row) → list_all (λ link. admits link.scope text) (option_map_or (chain_of rows) d []) ≡ option_map_or (λ above. chain_admits rows above text) d true
       rest None = refl
       rest (Some above) = refl
+
+  free : (text : List ℕ) (scope : Option (List ℕ)) → is_some scope ≡ false → admits scope text ≡ true
+  free text None h = refl
+  free text (Some s) h = cc
+
+  free_within : HaveNoScopes rows → (text : List ℕ) (n : ℕ) (row : Row) → has_scope row ≡ false → list_all (λ link. admits link.scope text) (chain_within n rows row) ≡ true
+  unfolding chain_within
+  free_within none text zero row own = ap (λ b. b && true) (free text row.scope own)
+  free_within none text (suc n) row own =
+      ap (λ b. b && list_all (λ link. admits link.scope text) (option_map_or (chain_within n rows) (delegator rows row) [])) (free text row.scope own)
+      ∙ elim (delegator rows row) as (λ d. delegator rows row ≡ d → list_all (λ link. admits link.scope text) (option_map_or (chain_within n rows) d []) ≡ true) [
+        | None ↦ λ _. refl
+        | Some above ↦ λ is.
+            let at = delegator_at row above is in
+            free_within none text n above (subst (λ r. IfSome r (λ row. has_scope row ≡ false)) at.2 (none at.0))
+      ] refl
+
+  -- where no row has a scope, each chain admits each text
+  pub admits_each : HaveNoScopes rows → (row : Row) → has_scope row ≡ false → (text : List ℕ) → chain_admits rows row text ≡ true
+  admits_each none row own text = free_within none text row.level row own
 
 -- ---- chains hang on rows of lower levels
 

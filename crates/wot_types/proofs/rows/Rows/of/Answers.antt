@@ -1,14 +1,15 @@
-use Rattle.std.proofs.Common.{rules, All, map, nat_cmp, sym, subst, ◌∙◌}
+use Rattle.std.proofs.Common.{rules, All, map, nat_cmp, sym, ap, subst, ◌∙◌}
 use Rattle.std.specs.BTreeMap.{IsFromIterResult}
 use Rattle.std.specs.Cmp.{nat_cmp_total}
+use Rattle.std.specs.List.{list_any}
 use Rattle.std.specs.FinMap as finmap
 use Rattle.std.specs.FinMap.{nat_cmp-IsAntisymmetric}
 use Rattle.std.proofs.lemmas.Iterator.{YieldsList-from_map}
 use Rattle.std.proofs.lemmas.Iterator.Adapters.{YieldsList-from_vec, fact_from_collect}
 use Rattle.std.proofs.lemmas.Iterator.Consumers.{YieldsList-at}
 use Rattle.std.proofs.lemmas.Result.{IfOk-at_ok}
-use Rattle.wot_types.specs.Rows.{IsOwnRow}
-use Rattle.wot_types.proofs.AddRows.{keyed, own_alone, rows_alone}
+use Rattle.wot_types.specs.Rows.{IsKeptRow, has_scope}
+use Rattle.wot_types.proofs.AddRows.{keyed, kept_alone, rows_alone}
 use Rattle.wot_types.proofs.Maps.{collected}
 use Rattle.wot_types.proofs.rows.Rows.of.Goals as goal
 
@@ -20,4 +21,4 @@ returns c =
     collected nat_cmp_total nat_cmp-IsAntisymmetric (map keyed rows) c.in_ok-collect.field-0 made ∙ sym (rows_alone rows)
 
 pub invariant_of-result : goal.invariant_of-result
-invariant_of-result c = subst (λ m. All IsOwnRow (finmap.entries m)) (sym (returns c)) (own_alone c.args.rows)
+invariant_of-result c = subst (λ m. All (IsKeptRow c.are_scoped-scoped.result) (finmap.entries m)) (sym (returns c)) (kept_alone c.are_scoped-scoped.result c.args.rows (c.are_scoped-scoped.ensures ∙ ap (list_any has_scope) c.as_slice.ensures))
