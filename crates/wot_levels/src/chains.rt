@@ -55,7 +55,7 @@ fn is_in_scope(row: &Row, text: &Text, asked: &mut Asked) -> bool
     }
 }
 
-/// Whether each scope along an introducer's chain admits a text. Levels fall along it, so it ends.
+/// Whether each scope along an introducer's chain admits a text. Levels fall along it, so it ends; where no row has a scope it isn't walked.
 fn chain_admits<'a>(
     introducers: &Introducers<'a>,
     row: &'a Row,
@@ -64,6 +64,9 @@ fn chain_admits<'a>(
 ) -> bool
     ensures { result ≡ chain_admits introducers.now row.now text.now }
 {
+    if row.scope.is_none() && !introducers.may_have_scopes() {
+        return true;
+    }
     let mut next = Some(row);
     while let Some(link) = next {
         if !is_in_scope(link, text, asked) {

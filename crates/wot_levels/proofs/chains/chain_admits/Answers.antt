@@ -1,9 +1,15 @@
-use Rattle.std.proofs.Common.{◌&&◌, true, Option, sym, ap, ◌∙◌}
+use Rattle.std.proofs.Common.{◌&&◌, not, true, Option, sym, ap, ◌∙◌}
 use Rattle.std.specs.Option.{option_copied, option_map_or}
 use Rattle.wot_types.specs.declared.row.Row.{Row}
 use Rattle.wot_types.specs.Candidates.{chain_admits, delegator}
-use Rattle.wot_types.proofs.Chains.{admits_step}
+use Rattle.wot_types.proofs.Chains.{admits_each, admits_step}
 use Rattle.wot_levels.proofs.chains.chain_admits.Goals as goal
+
+pub returns-then-not-may_have_scopes : goal.returns-then-not-may_have_scopes
+returns-then-not-may_have_scopes c =
+    let rows = c.args.introducers.now in
+    let own = c.is_none.ensures ∙ ap not c.if-is_none.true in
+    sym (admits_each rows (c.may_have_scopes.ensures c.if-not-may_have_scopes.true) c.args.row.now own c.args.text.now)
 
 pub returns-then-not-is_in_scope : goal.returns-then-not-is_in_scope
 returns-then-not-is_in_scope c =
