@@ -22,7 +22,7 @@ use Rattle.wot_types.specs.Listing.{is_same_user}
 use Rattle.wot_types.specs.Limits.{least_completes, least_depth, least_level, least_marginals, least_sample, most_certs, most_level, most_sample, most_users}
 use Rattle.wot_types.specs.Records.{is_capability, is_hash_byte, is_kept_class}
 use Rattle.wot_types.specs.WellFormed.{AreDistinctUsers, IsScope, IsCert, IsUser, IsWellFormed}
-use Rattle.wot_spelling.specs.Checks.{has_scope, is_cert, is_user, are_distinct, is_marked_once, has_few_certs, is_well_formed, is_rising, are_importable, is_in_range, is_sample_count, are_rising_entries, are_settable}
+use Rattle.wot_spelling.specs.Checks.{is_kept_scope, is_cert, is_user, are_distinct, is_marked_once, has_few_certs, is_well_formed, is_rising, are_importable, is_in_range, is_sample_count, are_rising_entries, are_settable}
 use Rattle.wot_types.specs.Payload.{IsInRange, IsRisingBy, AreSettable}
 use Rattle.wot_types.specs.Accepted.{AreImportable}
 use Rattle.wot_spelling.specs.Stored.{are_rising_rows, are_stored}
@@ -66,7 +66,7 @@ below a b = record { is = λ e. grind (arith, nat_tests); yes = λ h. grind (ari
 another : (a b : ℕ) → Tells (not (a == b)) (a ≢ b)
 another a b = record { is = λ e. grind (arith, nat_tests); yes = λ h. grind (arith, nat_tests) }
 
-scope_tells : (scope : Option (List ℕ)) → Tells (has_scope scope) (IsScope scope)
+scope_tells : (scope : Option (List ℕ)) → Tells (is_kept_scope scope) (IsScope scope)
 scope_tells None = record { is = λ e. tt; yes = λ h. refl }
 scope_tells (Some scope) = record { is = λ e. scope_is scope e; yes = λ h. scope_yes scope h }
 
@@ -206,5 +206,5 @@ pub stored_tells : (rows : List Row) → Tells (are_stored rows) (AreStored rows
 unfolding are_stored
 stored_tells rows =
     reads _ _ (AreStored rows)
-    (both _ _ _ _ (each (λ row. has_scope row.scope) (λ row. IsScope row.scope) (λ row. scope_tells row.scope) rows) (rising_rows_tells rows))
+    (both _ _ _ _ (each (λ row. is_kept_scope row.scope) (λ row. IsScope row.scope) (λ row. scope_tells row.scope) rows) (rising_rows_tells rows))
     (λ h. record { each = h.0; rising = h.1 }) (λ h. (h.each, h.rising))

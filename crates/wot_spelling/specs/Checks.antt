@@ -19,13 +19,13 @@ abbrev pub is_scope : List ℕ → Bool
 is_scope t = nat_le 1 (length t) && nat_le (length t) longest_scope
 
 -- where there is a scope it is one
-abbrev pub has_scope : Option (List ℕ) → Bool
-has_scope None = true
-has_scope (Some scope) = is_scope scope
+abbrev pub is_kept_scope : Option (List ℕ) → Bool
+is_kept_scope None = true
+is_kept_scope (Some scope) = is_scope scope
 
 -- a certification on the key with this key ID: by another, of a kept class
 unfoldable pub is_cert : ℕ → Cert → Bool
-is_cert id cert = not (cert.issuer == id) && (is_kept_class cert.class && has_scope cert.scope)
+is_cert id cert = not (cert.issuer == id) && (is_kept_class cert.class && is_kept_scope cert.scope)
 
 -- a user ID of the key with this key ID
 unfoldable pub is_user : ℕ → User → Bool

@@ -3,7 +3,7 @@ use Rattle.std.specs.Prelude.{Bool, true, ◌&&◌, nat_lt, List, [], ◌∷◌}
 use Rattle.std.specs.List.{list_all}
 use Rattle.wot_types.specs.declared.format.Format.{Format}
 use Rattle.wot_types.specs.declared.row.Row.{Row}
-use Rattle.wot_spelling.specs.Checks.{has_scope}
+use Rattle.wot_spelling.specs.Checks.{is_kept_scope}
 use Rattle.wot_spelling.specs.Reading.{Read, kept, list_at, row_at}
 
 -- key IDs strictly rise
@@ -14,7 +14,7 @@ are_rising_rows (row ∷ next ∷ rows) = nat_lt row.key next.key && are_rising_
 
 -- a regular expression has 1 to 255 bytes
 unfoldable pub are_stored : List Row → Bool
-are_stored rows = list_all (λ row. has_scope row.scope) rows && are_rising_rows rows
+are_stored rows = list_all (λ row. is_kept_scope row.scope) rows && are_rising_rows rows
 
 -- rows that are stored in a format
 unfoldable pub rows_at : Format → Read (List Row)

@@ -6,7 +6,7 @@ ghost use Rattle.std.specs.List.{list_all};
 ghost use Rattle.wot_types.specs.Ownertrust.{is_unset, kept_of};
 ghost use Rattle.wot_types.specs.Records.{is_capability, is_hash_byte};
 ghost use Rattle.wot_spelling.specs.Stored.{are_rising_rows, are_stored};
-ghost use Rattle.wot_spelling.specs.Checks.{are_rising_entries, are_settable, are_distinct, are_importable, has_few_certs, has_scope, is_cert, is_in_range, is_marked_once, is_rising, is_sample_count, is_user, is_well_formed};
+ghost use Rattle.wot_spelling.specs.Checks.{are_rising_entries, are_settable, are_distinct, are_importable, has_few_certs, is_kept_scope, is_cert, is_in_range, is_marked_once, is_rising, is_sample_count, is_user, is_well_formed};
 
 use std::alloc::Global;
 use wot_marks::{Marks, add_mark, is_among_marked};
@@ -16,8 +16,8 @@ use wot_types::{
     is_capability, is_hash_byte, is_kept_class,
 };
 
-fn has_scope(scope: Option<&Scope>) -> bool
-    ensures { result ≡ has_scope (option_copied scope.entry) }
+fn is_kept_scope(scope: Option<&Scope>) -> bool
+    ensures { result ≡ is_kept_scope (option_copied scope.entry) }
 {
     match scope {
         None => true,
@@ -29,7 +29,7 @@ fn has_scope(scope: Option<&Scope>) -> bool
 fn is_cert(id: KeyId, cert: &PackedCert) -> bool
     ensures { result ≡ is_cert id cert.now }
 {
-    cert.issuer() != id && is_kept_class(cert.class()) && has_scope(cert.scope())
+    cert.issuer() != id && is_kept_class(cert.class()) && is_kept_scope(cert.scope())
 }
 
 fn is_hash(bytes: &[u8]) -> bool
@@ -217,9 +217,9 @@ pub fn are_settable(entries: &[Entry]) -> bool
 }
 
 fn have_scopes(rows: &[Row]) -> bool
-    ensures { result ≡ list_all (λ row. has_scope row.scope) rows.now }
+    ensures { result ≡ list_all (λ row. is_kept_scope row.scope) rows.now }
 {
-    rows.iter().all(|row| has_scope(row.scope.as_ref()))
+    rows.iter().all(|row| is_kept_scope(row.scope.as_ref()))
 }
 
 #[tactic(auto, unfolding(crate::specs::Stored::are_rising_rows))]
