@@ -19,4 +19,5 @@ pub mod SetLemmas
 pub mod Followings
 pub mod WordWalks
 pub mod Stepping
+pub mod Eights
 pub mod Knowns

@@ -2,7 +2,7 @@
 use Rattle.std.proofs.Common.{◌≡◌, ◌≢◌, ℕ, suc, zero, ◌+◌, ◌<◌, ◌≤◌, ◌==◌, ◌⊎◌, inl, inr, Bool, true, false, ◌&&◌, ◌||◌, not, List, [], ◌∷◌, length, get_or, refl, sym, ap, ap₂, ◌∙◌, subst, arith}
 use Rattle.std.proofs.lemmas.Bool.{cases_eq}
 use Rattle.std.proofs.lemmas.List.{get_or_default}
-use Rattle.wot_regex.specs.Following.{Holds, IsRow, IsRows, IsStep, entered, front, has, only, two_on}
+use Rattle.wot_regex.specs.Following.{Holds, IsRow, IsRows, IsStep, cells_by, entered, front, has, only, two_on}
 use Rattle.wot_regex.specs.Knowing.{found_at}
 use Rattle.wot_regex.specs.Reaching.{marked, nowhere}
 use Rattle.wot_regex.specs.declared.followers.Row.{Row}
@@ -168,23 +168,19 @@ module _ (nodes : List Node) (common : Common) (rows : List Row) (words : List �
 
 -- cells with these marks
 
-abbrev cells_by : (ℕ → Bool) → ℕ → List Reach
-cells_by m zero = []
-cells_by m (suc n) = marked (m 0) ∷ cells_by (λ x. m (suc x)) n
-
-cells_by_length : (m : ℕ → Bool) (n : ℕ) → length (cells_by m n) ≡ n
+pub cells_by_length : (m : ℕ → Bool) (n : ℕ) → length (cells_by m n) ≡ n
 cells_by_length m zero = refl
 cells_by_length m (suc n) = ap (λ k. suc k) (cells_by_length (λ x. m (suc x)) n)
 
-cells_by_at : (m : ℕ → Bool) (n i : ℕ) → i < n → get_or (cells_by m n) i nowhere ≡ marked (m i)
+pub cells_by_at : (m : ℕ → Bool) (n i : ℕ) → i < n → get_or (cells_by m n) i nowhere ≡ marked (m i)
 cells_by_at m zero i lt = absurd (omega arith)
 cells_by_at m (suc n) zero lt = refl
 cells_by_at m (suc n) (suc i) lt = cells_by_at (λ x. m (suc x)) n i (omega arith)
 
-holds_by : (words : List ℕ) (n : ℕ) → Holds words (cells_by (has words) n)
+pub holds_by : (words : List ℕ) (n : ℕ) → Holds words (cells_by (has words) n)
 holds_by words n i lt = cells_by_at (has words) n i (omega (arith, lt, cells_by_length (has words) n))
 
-parts_join : (cells : List Reach) (f g : ℕ → Bool) → ((i : ℕ) → i < length cells → get_or cells i nowhere ≡ marked (f i || g i)) → AllJoin cells (cells_by f (length cells)) (cells_by g (length cells))
+pub parts_join : (cells : List Reach) (f g : ℕ → Bool) → ((i : ℕ) → i < length cells → get_or cells i nowhere ≡ marked (f i || g i)) → AllJoin cells (cells_by f (length cells)) (cells_by g (length cells))
 parts_join [] f g is = none
 parts_join (c ∷ cs) f g is =
     let P : Reach → Type 0 = λ x. Joins x (marked (f 0)) (marked (g 0)) in

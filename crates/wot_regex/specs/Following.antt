@@ -1,5 +1,5 @@
 -- Sets of a table's places, and where matches may go on from these.
-use Rattle.std.specs.Prelude.{◌≡◌, ℕ, ◌<◌, ◌≤◌, ◌==◌, ◌&&◌, ◌||◌, ◌/◌, ◌%◌, suc, zero, Bool, true, false, List, [], ◌∷◌, get_or, length, replicate, None, Some}
+use Rattle.std.specs.Prelude.{◌≡◌, ℕ, ◌<◌, ◌≤◌, ◌==◌, ◌&&◌, ◌||◌, ◌*◌, ◌/◌, ◌%◌, suc, zero, Bool, true, false, List, [], ◌∷◌, get_or, length, replicate, None, Some}
 use Rattle.std.specs.Int.{bit_at}
 use Rattle.wot_regex.specs.Gathering.{all_noted, all_spread, back_start}
 use Rattle.wot_regex.specs.Knowing.{found_at}
@@ -84,6 +84,21 @@ abbrev pub front : ℕ → List Reach → List Reach
 front i [] = []
 front zero (c ∷ cs) = nowhere ∷ front zero cs
 front (suc i) (c ∷ cs) = c ∷ front i cs
+
+-- the cells of so many places, marked where this says so
+abbrev pub cells_by : (ℕ → Bool) → ℕ → List Reach
+cells_by marks zero = []
+cells_by marks (suc n) = marked (marks 0) ∷ cells_by (λ i. marks (suc i)) n
+
+-- a place is one of these eight and is marked by the bits of a value
+abbrev pub in_eight : ℕ → ℕ → ℕ → Bool
+in_eight eight value i = (i / 8 == eight) && (bit_at value (i % 8) == 1)
+
+-- for each eight places, what comes next by each way to mark them
+pub record IsTable (nodes : List Node) (table : List Row) : Type 0 where
+  pub few : length table ≤ 16384
+  pub whole : length nodes ≤ 8 * (length table / 256)
+  pub each : (k : ℕ) (d : Row) → k < length table → IsRow nodes false (cells_by (in_eight (k / 256) (k % 256)) (length nodes)) (get_or table k d)
 
 -- the rows, and the symbols that take each byte
 pub record IsFollowers (nodes : List Node) (followers : Followers) : Type 0 where

@@ -112,7 +112,7 @@ pub fn row_from(common: &Common, rows: &[Row], marks: &Set) -> Row
 }
 
 /// What comes next by the marks, one after another.
-fn row_by_places(common: &Common, rows: &[Row], marks: &Set) -> Row
+pub fn row_by_places(common: &Common, rows: &[Row], marks: &Set) -> Row
     requires { length rows.now ≤ PLACES }
     ensures { (nodes : List Node) (cells : List Reach) → length nodes ≡ length rows.now → IsRows nodes common.now rows.now → length cells ≡ length nodes → Holds marks.now.words cells → IsRow nodes false cells result }
 {
@@ -150,7 +150,7 @@ impl Row {
     }
 
     /// Adds what comes next by another.
-    fn join(&mut self, other: &Row)
+    pub fn join(&mut self, other: &Row)
         ensures next { (i : ℕ) → i < PLACES → has self.new.next.words i ≡ (has self.old.next.words i || has other.now.next.words i) }
         ensures found { self.new.found ≡ (self.old.found || other.now.found) }
     {

@@ -143,6 +143,7 @@ impl Known {
         let mut marks = self.states[at].row.next;
         marks.meet(&self.masks.mask(nodes, b));
         search_from(
+            self.alloc,
             nodes,
             &self.common,
             &self.rows,

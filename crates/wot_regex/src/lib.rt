@@ -19,6 +19,7 @@ mod scope; // whether a scope admits a text
 mod set; // sets of places of a table
 mod stack; // what parts reach, of which the last is taken back first
 mod steps; // places that only lead to the symbol behind them
+mod table; // what comes next by each way to mark eight places
 
 pub use asked::Asked;
 pub use expr::{Expr, read};

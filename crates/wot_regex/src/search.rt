@@ -7,14 +7,17 @@ ghost use Rattle.wot_regex.specs.Searching.{Searching};
 ghost use Rattle.wot_regex.specs.Table.{nodes_of};
 ghost use Rattle.wot_regex.specs.declared.reach.Reach.{Reach};
 
-use crate::followers::{Row, ends, row_from};
+use crate::followers::{Row, ends};
 use crate::masks::Masks;
 use crate::node::Node;
 use crate::set::{PLACES, Set};
 use crate::steps::Common;
+use crate::table::{row_by, table_for};
+use std::alloc::Global;
 
 /// Whether a match ends in the rest of a text, from these marks on, which are not at its start.
 pub fn search_from(
+    alloc: Global,
     nodes: &[Node],
     common: &Common,
     rows: &[Row],
@@ -30,9 +33,10 @@ pub fn search_from(
     ensures kept { Keeps masks.old.sets.items masks.new.sets.items }
     ensures found { (tree : Tree) (cells : List Reach) (found : Bool) → nodes.now ≡ nodes_of tree → length cells ≡ length nodes.now → Holds marks.words cells → Searching tree cells false rest.now found → result ≡ found }
 {
+    let table = table_for(alloc, nodes, common, rows, rest.len());
     let mut marks = marks;
     for b in rest {
-        let row = row_from(common, rows, &marks);
+        let row = row_by(nodes, common, rows, table.as_ref(), &marks);
         if row.found {
             return true;
         }

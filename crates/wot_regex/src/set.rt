@@ -1,8 +1,8 @@
 //! Sets of places of a table.
 
-ghost use Rattle.std.specs.Prelude.{◌≡◌, ◌≢◌, ◌<◌, ◌==◌, ◌+◌, ◌*◌, ℕ, ◌||◌, ◌&&◌, not, true};
+ghost use Rattle.std.specs.Prelude.{◌≡◌, ◌≢◌, ◌<◌, ◌==◌, ◌+◌, ◌*◌, ◌/◌, ℕ, ◌||◌, ◌&&◌, not, true};
 ghost use Rattle.std.specs.Int.{bit_at};
-ghost use Rattle.wot_regex.specs.Following.{has, two_on};
+ghost use Rattle.wot_regex.specs.Following.{has, in_eight, two_on};
 
 /// So many places at most.
 pub const PLACES: usize = 512;
@@ -47,6 +47,26 @@ impl Set {
         if on {
             self.add(place);
         }
+    }
+
+    /// Which of eight places, counted from 0, are in it, as bits.
+    pub fn eight(&self, at: usize) -> usize
+        requires { at < PLACES / 8 }
+        ensures below { result < 256 }
+        ensures bits { (j : ℕ) → j < 8 → (bit_at result j == 1) ≡ has self.now.words (8 * at + j) }
+    {
+        ((self.words[at / 8] >> (8 * (at % 8))) % 256) as usize
+    }
+
+    /// The set that has of eight places those of these bits, and no others.
+    pub fn of_eight(at: usize, bits: usize) -> Set
+        requires at { at < PLACES / 8 }
+        requires bits { bits < 256 }
+        ensures { (i : ℕ) → i < PLACES → has result.words i ≡ in_eight at bits i }
+    {
+        let mut set = Set::NONE;
+        set.words[at / 8] = (bits as u64) << (8 * (at % 8));
+        set
     }
 
     /// The places that are in either.
