@@ -337,7 +337,7 @@ class Reasons:
             if not admits(row.scope, text):
                 whose = "its scope: it is" if key_id == issuer else f"the scope of who delegated to it: {self.people.name(key_id)} is"
                 return f"outside {whose} trusted for {scope_in_words(row.scope)}"
-        return "no introducer of it"
+        return f"no introducer of it, as far as can be told by min-cert-level {self.people.level}: if the store has another, give it by --min-cert-level"
 
     def level_of(self, key):
         """The level on which a valid key stands, or would stand, one above the least on which its certifiers are enough; and the rows with its own."""
@@ -407,6 +407,13 @@ class Output:
 
     def put(self):
         """Puts what was written to the file in place."""
+        try:
+            self.put_in_place()
+        except OSError as fault:
+            # a write tells no name
+            raise wot.WotError(f"{self.path}: {fault.strerror}") from fault
+
+    def put_in_place(self):
         self.file.flush()
         if self.new is None:
             import shutil  # pylint: disable=import-outside-toplevel
