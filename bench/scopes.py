@@ -33,6 +33,10 @@ WORST = {"`a` and 253 times `.`": "a" + "." * 253 + "$", "`(a|b)*a` and `(a|b)` 
          "`a`, 50 times `(.?.)`, and `c`": "a" + "(.?.)" * 50 + "c$"}
 
 
+# chains of introducers, each of whom delegates to the next
+CHAINS, LENGTH = 200, 5
+
+
 def sig(issuer, trusts="", scope=""):
     return f"sig:!:::{issuer:016X}:{DATE}::{trusts}:{scope.replace(chr(92), chr(92) + 'x5c')}::13x:\n"
 
@@ -48,15 +52,26 @@ def keyring(count, scopes):
         yield head(2 + scopes.introducers + place) + user(f"Key {place} <{address}>") + sig(2 + number)
 
 
-def counted(bench, scopes):
+def chained(count, scope):
+    """A root, chains of introducers from it on, each with this scope, and keys that the last of each chain certify."""
+    yield head(ROOT) + user("Root")
+    for number in range(CHAINS * LENGTH):
+        delegator = 1 + number if number % LENGTH else ROOT
+        yield head(2 + number) + user(f"Introducer {number} <i{number}@lists.example.org>") + sig(delegator, f"{LENGTH} 120", scope)
+    for place in range(count):
+        last = 1 + (place % CHAINS + 1) * LENGTH
+        yield head(2 + CHAINS * LENGTH + place) + user(f"Key {place} <k{place}@lists.example.org>") + sig(last)
+
+
+def counted(bench, keys, introducers):
     """Seconds of counting everything anew, which a change of the options asks for."""
-    listing = written(bench.path("scopes"), keyring(bench.keys, scopes))
-    made = bench.store("scoped", (["trust", fingerprint(ROOT), "u"], None), (["import"], listing))
+    listing = written(bench.path("scopes"), keys)
+    made = bench.store("scoped", (["trust", fingerprint(ROOT), "u"], None), (["options", "pgp", "1", "3", "8", "2"], None), (["import"], listing))
     with session([bench.program], made) as program:
         def twice():
-            return (program.accept("options pgp 1 3 5 2\n") + program.accept("options pgp 1 3 5 1\n")) / 2
+            return (program.accept("options pgp 1 3 8 1\n") + program.accept("options pgp 1 3 8 2\n")) / 2
 
-        valid = bench.keys + scopes.introducers
+        valid = bench.keys + introducers
         if f"tally:{valid + 1}:1:{valid}:" not in program.ask("check\n")[1].decode():
             raise Failed(f"{valid} keys are not all valid")
         return in_turn(twice, rounds=ROUNDS)[0]
@@ -72,9 +87,12 @@ def made_slow(count, scope):
 
 def part(bench):
     """Counting under each kind of scope, and imports under the worst."""
-    seconds = {name: counted(bench, scopes) for name, scopes in SCOPES.items()}
+    seconds = {name: counted(bench, keyring(bench.keys, scopes), scopes.introducers) for name, scopes in SCOPES.items()}
     rows = [(name, shown(took), times(took, seconds[DOMAIN if SCOPES[name].introducers == 1 else MANY_DOMAINS])) for name, took in seconds.items()]
     table(f"`options` in an open session, {bench.keys:,} keys that introducers certify", ("scopes", "counted", "times the domains"), rows)
+    took = {scope: counted(bench, chained(bench.keys, scope), CHAINS * LENGTH) for scope in ("", r"<[^>]+[@.]example\.org>$")}
+    rows = [("no scopes", shown(took[""]), "1.0"), *(("each introducer with a domain", shown(one), times(one, took[""])) for scope, one in took.items() if scope)]
+    table(f"The same under {CHAINS} chains of {LENGTH} introducers", ("scopes", "counted", "times those without"), rows)
     rows = []
     for name, scope in {"the form of a domain": r"<[^>]+[@.]example\.org>$", **WORST}.items():
         listing = written(bench.path("slow"), made_slow(50, scope))

@@ -6,7 +6,7 @@ use Rattle.std.proofs.lemmas.Grind.{get_or-set_at}
 use Rattle.std.proofs.lemmas.List.{get_or-set_other}
 use Rattle.std.proofs.lemmas.Nat.{pow_pos, shr-shr}
 use Rattle.std.proofs.lemmas.Nat.Bits.{bit_at-zero, bit_at_above, bit_at_cat_high, bit_at_cat_low}
-use Rattle.wot_regex.specs.Following.{Holds, IsRow, cells_by, has, in_eight}
+use Rattle.wot_regex.specs.Following.{Before, Holds, IsRow, IsSoFar, cells_by, has, in_eight}
 use Rattle.wot_regex.specs.Reaching.{marked, nowhere}
 use Rattle.wot_regex.specs.declared.followers.Row.{Row}
 use Rattle.wot_regex.specs.declared.node.Node.{Node}
@@ -129,11 +129,6 @@ and_false : (x : Bool) → (x && false) ≡ false
 and_false true = refl
 and_false false = refl
 
--- the marks before the eight places are those of the set, and there are no others
-pub record Before (words : List ℕ) (n eight : ℕ) (f : ℕ → Bool) : Type 0 where
-  pub first : (i : ℕ) → i < n → i < 8 * eight → f i ≡ has words i
-  pub rest : (i : ℕ) → i < n → 8 * eight ≤ i → f i ≡ false
-
 module _ (words : List ℕ) (n at value : ℕ) (bits : (j : ℕ) → j < 8 → (bit_at value j == 1) ≡ has words (8 * at + j)) (f : ℕ → Bool) (b : Before words n (at + 1) f) where
   abbrev others : ℕ → Bool
   others i = f i && not (i / 8 == at)
@@ -178,19 +173,17 @@ module _ (words : List ℕ) (n at value : ℕ) (bits : (j : ℕ) → j < 8 → (
       let here : i < n = omega (arith, lt, cells_by_length f n) in
       cells_by_at f n i here ∙ ap marked (joins_at i here (cases_eq (i / 8) at))))
 
-pub eight_more : (nodes : List Node) (words : List ℕ) (at value : ℕ) (row other new : Row) → length nodes ≤ 512 → ((j : ℕ) → j < 8 → (bit_at value j == 1) ≡ has words (8 * at + j))
-    → ((g : ℕ → Bool) → Before words (length nodes) at g → IsRow nodes false (cells_by g (length nodes)) row) → IsRow nodes false (cells_by (in_eight at value) (length nodes)) other
-    → ((i : ℕ) → i < 512 → has new.next.words i ≡ (has row.next.words i || has other.next.words i)) → new.found ≡ (row.found || other.found)
-    → (f : ℕ → Bool) → Before words (length nodes) (at + 1) f → IsRow nodes false (cells_by f (length nodes)) new
+pub eight_more : (nodes : List Node) (words : List ℕ) (at value : ℕ) (row other new : Row) → length nodes ≤ 512 → ((j : ℕ) → j < 8 → (bit_at value j == 1) ≡ has words (8 * at + j)) → IsSoFar nodes words at row → IsRow nodes false (cells_by (in_eight at value) (length nodes)) other
+    → ((i : ℕ) → i < 512 → has new.next.words i ≡ (has row.next.words i || has other.next.words i)) → new.found ≡ (row.found || other.found) → IsSoFar nodes words (at + 1) new
 eight_more nodes words at value row other new room bits so_far is next found f b =
     row_joined nodes new row other room (these_join words (length nodes) at value bits f b) (so_far (others words (length nodes) at value bits f b) (others_before words (length nodes) at value bits f b)) is next found
 
 -- the row of a table for these eight places
-pub in_table : (nodes : List Node) (table : List Row) (at value : ℕ) (d : Row) → ((k : ℕ) (e : Row) → k < length table → IsRow nodes false (cells_by (in_eight (k / 256) (k % 256)) (length nodes)) (get_or table k e)) → value < 256 → 256 * at + value < length table
-    → IsRow nodes false (cells_by (in_eight at value) (length nodes)) (get_or table (256 * at + value) d)
+pub in_table : (nodes : List Node) (table : List Row) (at value : ℕ) (d : Row) → ((k : ℕ) (e : Row) → k < length table → IsRow nodes false (cells_by (in_eight (k % 64) (k / 64)) (length nodes)) (get_or table k e)) → at < 64 → 64 * value + at < length table
+    → IsRow nodes false (cells_by (in_eight at value) (length nodes)) (get_or table (64 * value + at) d)
 in_table nodes table at value d each less lt =
-    let q : (256 * at + value) / 256 ≡ at = omega (arith, less) in
-    let r : (256 * at + value) % 256 ≡ value = omega (arith, less) in
-    let P : ℕ → Type 0 = λ a. IsRow nodes false (cells_by (in_eight a value) (length nodes)) (get_or table (256 * at + value) d) in
-    let Q : ℕ → Type 0 = λ v. IsRow nodes false (cells_by (in_eight ((256 * at + value) / 256) v) (length nodes)) (get_or table (256 * at + value) d) in
-    subst P q (subst Q r (each (256 * at + value) d lt))
+    let q : (64 * value + at) % 64 ≡ at = omega (arith, less) in
+    let r : (64 * value + at) / 64 ≡ value = omega (arith, less) in
+    let P : ℕ → Type 0 = λ a. IsRow nodes false (cells_by (in_eight a value) (length nodes)) (get_or table (64 * value + at) d) in
+    let Q : ℕ → Type 0 = λ v. IsRow nodes false (cells_by (in_eight ((64 * value + at) % 64) v) (length nodes)) (get_or table (64 * value + at) d) in
+    subst P q (subst Q r (each (64 * value + at) d lt))

@@ -94,11 +94,19 @@ cells_by marks (suc n) = marked (marks 0) ∷ cells_by (λ i. marks (suc i)) n
 abbrev pub in_eight : ℕ → ℕ → ℕ → Bool
 in_eight eight value i = (i / 8 == eight) && (bit_at value (i % 8) == 1)
 
--- for each eight places, what comes next by each way to mark them
+-- what comes next by each way to mark eight places alone, for each eight of them
 pub record IsTable (nodes : List Node) (table : List Row) : Type 0 where
-  pub few : length table ≤ 16384
-  pub whole : length nodes ≤ 8 * (length table / 256)
-  pub each : (k : ℕ) (d : Row) → k < length table → IsRow nodes false (cells_by (in_eight (k / 256) (k % 256)) (length nodes)) (get_or table k d)
+  pub whole : length table ≡ 16384
+  pub each : (k : ℕ) (d : Row) → k < length table → IsRow nodes false (cells_by (in_eight (k % 64) (k / 64)) (length nodes)) (get_or table k d)
+
+-- the marks before an eight are those of the set, and there are no others
+pub record Before (words : List ℕ) (n eight : ℕ) (f : ℕ → Bool) : Type 0 where
+  pub first : (i : ℕ) → i < n → i < 8 * eight → f i ≡ has words i
+  pub rest : (i : ℕ) → i < n → 8 * eight ≤ i → f i ≡ false
+
+-- what comes next by the marks of a set before an eight
+abbrev pub IsSoFar : List Node → List ℕ → ℕ → Row → Type 0
+IsSoFar nodes words eight row = (f : ℕ → Bool) → Before words (length nodes) eight f → IsRow nodes false (cells_by f (length nodes)) row
 
 -- the rows, and the symbols that take each byte
 pub record IsFollowers (nodes : List Node) (followers : Followers) : Type 0 where

@@ -7,6 +7,7 @@ ghost use Rattle.wot_types.specs.Scope.{admits};
 use crate::expr::read;
 use crate::matcher::Matcher;
 use crate::scope::admits;
+use crate::table::LONG;
 use std::alloc::Global;
 use std::marker::Model;
 use wot_types::{Mem, Text};
@@ -122,6 +123,12 @@ impl Asked {
         }
         // For want of memory it is read anew for the next text.
         self.keep(scope.as_bytes()).ok();
+        // A long text is searched faster by what is kept.
+        if LONG <= text.as_bytes().len() {
+            if let Some(found) = self.ask(scope.as_bytes(), text.as_bytes()) {
+                return found;
+            }
+        }
         admits(scope, text)
     }
 

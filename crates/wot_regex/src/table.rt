@@ -1,7 +1,7 @@
 //! What comes next by each way to mark eight places, so that a long text is searched eight places at a time.
 
-ghost use Rattle.std.specs.Prelude.{◌≡◌, ◌≤◌, ◌<◌, ◌*◌, ◌/◌, ◌%◌, false, IfOk, IfSome, List, ℕ, length, get_or};
-ghost use Rattle.wot_regex.specs.Following.{Holds, IsRow, IsRows, IsTable, cells_by, in_eight};
+ghost use Rattle.std.specs.Prelude.{◌≡◌, ◌≤◌, ◌<◌, ◌+◌, ◌*◌, ◌/◌, ◌%◌, false, IfOk, IfSome, List, ℕ, length, get_or};
+ghost use Rattle.wot_regex.specs.Following.{Holds, IsRow, IsRows, IsSoFar, IsTable, cells_by, in_eight};
 ghost use Rattle.wot_regex.specs.declared.followers.Row.{Row};
 ghost use Rattle.wot_regex.specs.declared.reach.Reach.{Reach};
 
@@ -12,11 +12,15 @@ use crate::steps::Common;
 use std::alloc::Global;
 use wot_types::Mem;
 
-/// Eight places can be marked in so many ways.
-const WAYS: usize = 256;
+/// A set has so many times eight places.
+const EIGHTS: usize = PLACES / 8;
+
+/// A table has a row for each way to mark eight places, and for each eight of them. Those of one way stand together: at equal distances that are
+/// powers of two they would drive each other out of the processor's cache.
+const ROWS: usize = 256 * EIGHTS;
 
 /// A rest of a text of fewer bytes is searched sooner than a table is made.
-const LONG: usize = 4096;
+pub const LONG: usize = 4096;
 
 /// By fewer symbols than these that are no steps, going from mark to mark is as fast.
 const MANY: usize = 40;
@@ -63,21 +67,21 @@ fn table_of(alloc: Global, nodes: &[Node], common: &Common, rows: &[Row]) -> Res
     requires rows { IsRows nodes.now common.now rows.now }
     ensures { IfOk result (λ table. IsTable nodes.now table.items) }
 {
-    let mut table = vec![in alloc; common.first; WAYS * ((nodes.len() + 7) / 8)]?;
+    let mut table = vec![in alloc; common.first; ROWS]?;
     fill(nodes, common, rows, &mut table);
     Ok(table)
 }
 
-/// Notes what comes next by each way to mark eight places.
+/// Notes the rows of a table.
 fn fill(nodes: &[Node], common: &Common, rows: &[Row], table: &mut [Row])
     requires room { length nodes.now ≤ PLACES }
     requires whole { length rows.now ≡ length nodes.now }
     requires rows { IsRows nodes.now common.now rows.now }
-    requires table { length table.old ≤ PLACES / 8 * WAYS }
-    ensures { (k : ℕ) (d : Row) → k < length table.old → IsRow nodes.now false (cells_by (in_eight (k / WAYS) (k % WAYS)) (length nodes.now)) (get_or table.new k d) }
+    requires table { length table.old ≡ ROWS }
+    ensures { (k : ℕ) (d : Row) → k < length table.old → IsRow nodes.now false (cells_by (in_eight (k % EIGHTS) (k / EIGHTS)) (length nodes.now)) (get_or table.new k d) }
 {
     for k in 0..table.len() {
-        table[k] = row_by_places(common, rows, &Set::of_eight(k / WAYS, k % WAYS));
+        table[k] = row_by_places(common, rows, &Set::of_eight(k % EIGHTS, k / EIGHTS));
     }
 }
 
@@ -101,7 +105,7 @@ pub fn row_by(
     }
 }
 
-/// What comes next by the marks, eight places after another.
+/// What comes next by the marks, one word after another.
 fn row_by_table(nodes: &[Node], common: &Common, rows: &[Row], table: &[Row], marks: &Set) -> Row
     requires room { length nodes.now ≤ PLACES }
     requires rows { IsRows nodes.now common.now rows.now }
@@ -109,8 +113,21 @@ fn row_by_table(nodes: &[Node], common: &Common, rows: &[Row], table: &[Row], ma
     ensures { (cells : List Reach) → length cells ≡ length nodes.now → Holds marks.now.words cells → IsRow nodes.now false cells result }
 {
     let mut row = common.first;
-    for at in 0..table.len() / WAYS {
-        row.join(&table[WAYS * at + marks.eight(at)]);
+    for i in 0..(nodes.len() + 63) / 64 {
+        join_word(nodes, &mut row, table, marks, i);
     }
     row
+}
+
+/// Adds what comes next by the marks of a word, eight after another.
+fn join_word(nodes: &[Node], row: &mut Row, table: &[Row], marks: &Set, i: usize)
+    requires room { length nodes.now ≤ PLACES }
+    requires table { IsTable nodes.now table.now }
+    requires word { i < 8 }
+    ensures { IsSoFar nodes.now marks.now.words (8 * i) row.old → IsSoFar nodes.now marks.now.words (8 * i + 8) row.new }
+{
+    for j in 0..8 {
+        let at = 8 * i + j;
+        row.join(&table[EIGHTS * marks.eight(at) + at]);
+    }
 }

@@ -7,5 +7,5 @@ use Rattle.wot_regex.proofs.table.fill.Given as goal
 abbrev pub invariant-loop-k : goal.invariant-loop-k
 invariant-loop-k l = record {
   same : length l.table ≡ length l.fn.table;
-  noted : (j : ℕ) (d : Row) → j < l.k → IsRow l.nodes false (cells_by (in_eight (j / 256) (j % 256)) (length l.nodes)) (get_or l.table j d);
+  noted : (j : ℕ) (d : Row) → j < l.k → IsRow l.nodes false (cells_by (in_eight (j % 64) (j / 64)) (length l.nodes)) (get_or l.table j d);
 }

@@ -1,8 +1,7 @@
-use Rattle.std.proofs.Common.{false, ℕ, Bool, length}
-use Rattle.wot_regex.specs.Following.{IsRow, cells_by}
-use Rattle.wot_regex.proofs.Eights.{Before}
+use Rattle.std.proofs.Common.{◌*◌}
+use Rattle.wot_regex.specs.Following.{IsSoFar}
 use Rattle.wot_regex.proofs.table.row_by_table.Given as goal
 
--- what comes next by the marks so far
-abbrev pub invariant-loop-at : goal.invariant-loop-at
-invariant-loop-at l = (f : ℕ → Bool) → Before l.marks.words (length l.nodes) l.at f → IsRow l.nodes false (cells_by f (length l.nodes)) l.row
+-- what comes next by the marks of the words so far
+abbrev pub invariant-loop-i : goal.invariant-loop-i
+invariant-loop-i l = IsSoFar l.nodes l.marks.words (8 * l.i) l.row
