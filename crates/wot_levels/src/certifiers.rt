@@ -12,7 +12,7 @@ use crate::heads::certs_in;
 use std::alloc::Global;
 use std::sync::ledger::Ledger;
 use wot_table::{Keyblock, Table};
-use wot_types::{KeyId, Mem, Placed, Row, Rows, Steps};
+use wot_types::{KeyId, Mem, PackedPlaced, Row, Rows, Steps};
 
 /// The levels and that of a row, if there is one.
 fn with_level(levels: Vec<u8>, row: Option<&Row>) -> Result<Vec<u8>, Mem>
@@ -32,14 +32,14 @@ fn with_level(levels: Vec<u8>, row: Option<&Row>) -> Result<Vec<u8>, Mem>
 }
 
 /// The levels and those of the issuers of these certifications.
-fn with_issuers(levels: Vec<u8>, certs: &[Placed], rows: &Rows) -> Result<Vec<u8>, Mem>
+fn with_issuers(levels: Vec<u8>, certs: &[PackedPlaced], rows: &Rows) -> Result<Vec<u8>, Mem>
     ensures there { IfOk result (λ new. (y : ℕ) → has_issuer certs.now y ≡ true → StandsAt rows.now new.items y) }
     ensures kept { IfOk result (λ new. (n : ℕ) → is_level_of levels.items n ≡ true → is_level_of new.items n ≡ true) }
     ensures only { IfOk result (λ new. (n : ℕ) → is_level_of new.items n ≡ true → (is_level_of levels.items n || has_issuer_at certs.now rows.now n) ≡ true) }
 {
     let mut levels = levels;
     for placed in certs {
-        levels = with_level(levels, rows.get(placed.cert.issuer()))?;
+        levels = with_level(levels, rows.get(placed.issuer()))?;
     }
     Ok(levels)
 }

@@ -11,7 +11,7 @@ ghost use Rattle.wot_print_laws.specs.Fits.{FitsCert, FitsKey, FitsState, FitsUs
 
 use wot_live::Engine;
 use wot_table::{KeyHead, UserHead};
-use wot_types::{Fpr, KeyId, PackedCert, Scope};
+use wot_types::{Fpr, KeyId, PackedPlaced, Scope};
 
 fn bytes_fit(bytes: &[u8])
     ensures { IsBytes bytes.now }
@@ -49,17 +49,17 @@ fn issuer_fpr_fits(named: &Option<Fpr>)
     }
 }
 
-pub fn cert_fits(cert: &PackedCert)
-    ensures { FitsCert cert.now }
+pub fn cert_fits(placed: &PackedPlaced)
+    ensures { FitsCert placed.now.cert }
 {
-    id_fits(cert.issuer());
-    byte_fits(cert.class());
-    word_fits(cert.made());
-    word_fits(cert.expires());
-    byte_fits(cert.depth());
-    byte_fits(cert.amount());
-    scope_fits(cert.scope());
-    issuer_fpr_fits(&cert.issuer_fpr());
+    id_fits(placed.issuer());
+    byte_fits(placed.class());
+    word_fits(placed.made());
+    word_fits(placed.expires());
+    byte_fits(placed.depth());
+    byte_fits(placed.amount());
+    scope_fits(placed.scope());
+    issuer_fpr_fits(&placed.issuer_fpr());
 }
 
 /// A user ID whose certifications fit.

@@ -338,8 +338,8 @@ fn push_certs<'a, W: Sink, L: Ledger>(
 {
     keyblock.arrange(user, &mut sheet.order, &mut sheet.steps);
     for placed in sheet.order.certs.iter() {
-        cert_fits(&placed.cert);
-        push_cert(text, &placed.cert)?;
+        cert_fits(placed);
+        push_cert(text, placed)?;
     }
     Ok(())
 }

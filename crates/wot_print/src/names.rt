@@ -4,7 +4,7 @@ ghost use Rattle.std.specs.Prelude.{◌≡◌};
 ghost use Rattle.wot_types.specs.Printing.{cert_name, kind_text, letter_text, model_text};
 ghost use Rattle.wot_types.specs.Trust.{trust_text};
 
-use wot_types::{Letter, Options, PackedCert, REVOCATION, Trust, UserKind};
+use wot_types::{Letter, Options, PackedPlaced, REVOCATION, Trust, UserKind};
 
 pub fn model_text(options: &Options) -> &'static [u8]
     ensures { result.now ≡ model_text options.now }
@@ -49,10 +49,10 @@ pub fn kind_text(kind: UserKind) -> &'static [u8]
 }
 
 /// The name of a certification's record.
-pub fn cert_name(cert: &PackedCert) -> &'static [u8]
-    ensures { result.now ≡ cert_name cert.now }
+pub fn cert_name(placed: &PackedPlaced) -> &'static [u8]
+    ensures { result.now ≡ cert_name placed.now.cert }
 {
-    if cert.class() == REVOCATION {
+    if placed.class() == REVOCATION {
         b"rev"
     } else {
         b"sig"

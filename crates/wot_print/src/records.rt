@@ -12,7 +12,7 @@ use crate::fields::{
 use crate::names::{cert_name, kind_text, letter_text, model_text, trust_text};
 use wot_fields::{Sink, push_number};
 use wot_table::{KeyHead, UserHead};
-use wot_types::{Fpr, KeyId, Letter, Options, Ownertrust, PackedCert, Text};
+use wot_types::{Fpr, KeyId, Letter, Options, Ownertrust, PackedPlaced, Text};
 
 /// `tru::MODEL:DATE:NEXT:MARGINALS:COMPLETES:DEPTH`
 pub fn push_tru<W: Sink>(
@@ -122,19 +122,19 @@ pub fn push_user<W: Sink>(text: &mut W, letter: Letter, user: &UserHead<'_>) -> 
 }
 
 /// `sig:!:::ISSUER:MADE:EXP:TRUST:SCOPE::CLASS:`, and `:FINGERPRINT:` behind it where the issuer's fingerprint is named.
-pub fn push_cert<W: Sink>(text: &mut W, cert: &PackedCert) -> Result<(), W::Error>
+pub fn push_cert<W: Sink>(text: &mut W, placed: &PackedPlaced) -> Result<(), W::Error>
     ensures same { W.name text.new ≡ W.name text.old }
-    ensures adds { OnOk result (W.adds text.old (cert_line cert.now) text.new) }
+    ensures adds { OnOk result (W.adds text.old (cert_line placed.now.cert) text.new) }
 {
-    push_field(text, cert_name(cert))?;
+    push_field(text, cert_name(placed))?;
     text.push_bytes(b"!:::")?;
-    push_key_id_field(text, cert.issuer())?;
-    push_dates(text, cert.made(), cert.expires())?;
-    push_depth(text, cert)?;
-    push_scope(text, cert.scope())?;
+    push_key_id_field(text, placed.issuer())?;
+    push_dates(text, placed.made(), placed.expires())?;
+    push_depth(text, placed)?;
+    push_scope(text, placed.scope())?;
     text.push(b':')?;
-    push_class(text, cert)?;
-    push_issuer_fpr(text, &cert.issuer_fpr())?;
+    push_class(text, placed)?;
+    push_issuer_fpr(text, &placed.issuer_fpr())?;
     text.push(b'\n')?;
     Ok(())
 }
@@ -154,35 +154,35 @@ fn push_issuer_fpr<W: Sink>(text: &mut W, named: &Option<Fpr>) -> Result<(), W::
 }
 
 /// The depth and the amount of a trust signature, or nothing where both are 0.
-fn push_depth<W: Sink>(text: &mut W, cert: &PackedCert) -> Result<(), W::Error>
+fn push_depth<W: Sink>(text: &mut W, placed: &PackedPlaced) -> Result<(), W::Error>
     ensures same { W.name text.new ≡ W.name text.old }
-    ensures adds { OnOk result (W.adds text.old (ended_field (depth_text cert.now)) text.new) }
+    ensures adds { OnOk result (W.adds text.old (ended_field (depth_text placed.now.cert)) text.new) }
 {
-    if is_ordinary(cert) {
+    if is_ordinary(placed) {
         return push_field(text, b"");
     }
-    push_number(text, u64::from(cert.depth()))?;
+    push_number(text, u64::from(placed.depth()))?;
     text.push(b' ')?;
-    push_number_field(text, u32::from(cert.amount()))?;
+    push_number_field(text, u32::from(placed.amount()))?;
     Ok(())
 }
 
 /// Whether a certification is an ordinary one, and no trust signature.
-fn is_ordinary(cert: &PackedCert) -> bool
-    ensures { result ≡ ((cert.now.depth == 0) && (cert.now.amount == 0)) }
+fn is_ordinary(placed: &PackedPlaced) -> bool
+    ensures { result ≡ ((placed.now.cert.depth == 0) && (placed.now.cert.amount == 0)) }
 {
-    cert.depth() == 0 && cert.amount() == 0
+    placed.depth() == 0 && placed.amount() == 0
 }
 
 /// The class in two digits, and `l` where the certification is local, else `x`.
-fn push_class<W: Sink>(text: &mut W, cert: &PackedCert) -> Result<(), W::Error>
+fn push_class<W: Sink>(text: &mut W, placed: &PackedPlaced) -> Result<(), W::Error>
     ensures same { W.name text.new ≡ W.name text.old }
-    ensures adds { OnOk result (W.adds text.old (ended_field (class_text cert.now)) text.new) }
+    ensures adds { OnOk result (W.adds text.old (ended_field (class_text placed.now.cert)) text.new) }
 {
     let mut digits = [0; 2];
-    hex::encode_to_slice(&[cert.class()], &mut digits).unwrap();
+    hex::encode_to_slice(&[placed.class()], &mut digits).unwrap();
     text.push_bytes(&digits)?;
-    text.push(if cert.is_local() { b'l' } else { b'x' })?;
+    text.push(if placed.is_local() { b'l' } else { b'x' })?;
     text.push(b':')?;
     Ok(())
 }

@@ -8,12 +8,12 @@ ghost use Rattle.wot_types.specs.Selection.{is_below_level, is_disregarded, is_i
 ghost use Rattle.wot_select.specs.Run.{IsBy};
 
 use crate::expiry::expired;
-use wot_types::{Fpr, GENERIC, PERSONA, POSITIVE, PackedCert, Placed, REVOCATION};
+use wot_types::{Fpr, GENERIC, PERSONA, POSITIVE, PackedPlaced, REVOCATION};
 
-fn is_below_level(level: u8, cert: &PackedCert) -> bool
-    ensures { result ≡ is_below_level level cert.now }
+fn is_below_level(level: u8, placed: &PackedPlaced) -> bool
+    ensures { result ≡ is_below_level level placed.now.cert }
 {
-    let class = cert.class();
+    let class = placed.class();
     matches!(class, PERSONA..=POSITIVE) && class - GENERIC < level
 }
 
@@ -28,31 +28,31 @@ fn is_other_fpr(fpr: &Fpr, named: &Option<Fpr>) -> bool
 }
 
 /// Whether it names a fingerprint other than that of the key of its issuer's key ID, where there is one.
-fn names_another(fpr: Option<&Fpr>, cert: &PackedCert) -> bool
-    ensures { result ≡ names_another (option_copied fpr.entry) cert.now }
+fn names_another(fpr: Option<&Fpr>, placed: &PackedPlaced) -> bool
+    ensures { result ≡ names_another (option_copied fpr.entry) placed.now.cert }
 {
     match fpr {
         None => false,
-        Some(fpr) => is_other_fpr(fpr, &cert.issuer_fpr()),
+        Some(fpr) => is_other_fpr(fpr, &placed.issuer_fpr()),
     }
 }
 
-fn is_disregarded(level: u8, fpr: Option<&Fpr>, cert: &PackedCert) -> bool
-    ensures { result ≡ is_disregarded level (option_copied fpr.entry) cert.now }
+fn is_disregarded(level: u8, fpr: Option<&Fpr>, placed: &PackedPlaced) -> bool
+    ensures { result ≡ is_disregarded level (option_copied fpr.entry) placed.now.cert }
 {
-    is_below_level(level, cert) || names_another(fpr, cert)
+    is_below_level(level, placed) || names_another(fpr, placed)
 }
 
-fn is_in_force(now: u32, placed: &Placed) -> bool
+fn is_in_force(now: u32, placed: &PackedPlaced) -> bool
     ensures { result ≡ is_in_force now placed.now }
 {
-    placed.cert.class() != REVOCATION && !expired(placed.cert.expires(), now)
+    placed.class() != REVOCATION && !expired(placed.expires(), now)
 }
 
 /// The place in a run of one issuer of the certification that decides, and None where there is none or it isn't in force.
 /// Classes 0x11 to 0x13 below 0x10 + `level` are disregarded: above level 3 all three are. So is a certification that names a fingerprint
 /// other than `issuer`, that of the keyring's key of that key ID; without such a key none is disregarded for its fingerprint.
-pub fn usable(run: &[Placed], now: u32, level: u8, issuer: Option<&Fpr>) -> Option<u32>
+pub fn usable(run: &[PackedPlaced], now: u32, level: u8, issuer: Option<&Fpr>) -> Option<u32>
     requires short { length run.now ≤ most_certs }
     requires rising { IsRising run.now }
     ensures { (id : ℕ) → IsBy id run.now → MatchOption result (usable now level (option_copied issuer.entry) id run.now ≡ None)
@@ -62,7 +62,7 @@ pub fn usable(run: &[Placed], now: u32, level: u8, issuer: Option<&Fpr>) -> Opti
     while 0 < end {
         end -= 1;
         let placed = &run[end as usize];
-        if !is_disregarded(level, issuer, &placed.cert) {
+        if !is_disregarded(level, issuer, placed) {
             // An older one is never fallen back to.
             return if is_in_force(now, placed) {
                 Some(end)

@@ -1,6 +1,6 @@
 //! Reading the values that stand in lists.
 
-ghost use Rattle.std.specs.Prelude.{◌≡◌, ◌<◌, ◌^◌, ◌++◌, is_some};
+ghost use Rattle.std.specs.Prelude.{◌≡◌, ◌<◌, ◌^◌, ◌++◌, OnOk, is_some, length};
 ghost use Rattle.wot_types.specs.Spelling.{number_1, number_4, number_8, flag_bytes, cert_bytes, user_bytes, key_bytes, entry_bytes, EntryFits, CertFits, UserFits, KeyFits, row_bytes, RowFits};
 ghost use Rattle.wot_types.specs.declared.cert.Form.TheVariants.{WithFpr};
 ghost use Rattle.wot_spelling.specs.Reading.{cert_at, user_at, key_at, entry_at, row_at};
@@ -11,7 +11,9 @@ use crate::numbers::{number_4, number_8};
 use crate::reader::{Part, Reader};
 use crate::writer::Writer;
 use std::alloc::Global;
-use wot_types::{Cert, Entry, Form, Format, Key, Mem, Ownertrust, PackedCert, Row, User};
+use wot_types::{
+    Cert, Entry, Form, Format, Key, Mem, Ownertrust, PackedCert, PackedPlaced, Row, User,
+};
 
 impl Part for PackedCert {
     type Spelling = Form;
@@ -47,30 +49,41 @@ impl Part for PackedCert {
         Ok(PackedCert::pack(alloc, cert)?)
     }
 
-    #[tactic(auto, unfolding(wot_types::specs::Spelling::cert_bytes, wot_types::specs::Spelling::scope_bytes))]
     fn write(&self, writer: &mut Writer) -> Result<(), Mem> {
-        writer.bytes(&cert_numbers(self))?;
-        if let Some(scope) = self.scope() {
-            writer.text(scope.as_text())?;
+        writer.cert(self.as_placed())
+    }
+}
+
+impl Writer {
+    /// A certification without its place.
+    #[tactic(auto, unfolding(wot_types::specs::Spelling::cert_bytes, wot_types::specs::Spelling::scope_bytes))]
+    pub fn cert(&mut self, placed: &PackedPlaced) -> Result<(), Mem>
+        requires { length (cert_bytes WithFpr placed.now.cert) < 2 ^ 32 }
+        ensures ok { OnOk result (self.new ≡ self.old ++ cert_bytes WithFpr placed.now.cert) }
+        ensures fits { OnOk result (CertFits WithFpr placed.now.cert) }
+    {
+        self.bytes(&cert_numbers(placed))?;
+        if let Some(scope) = placed.scope() {
+            self.text(scope.as_text())?;
         }
-        writer.issuer_fpr(&self.issuer_fpr())
+        self.issuer_fpr(&placed.issuer_fpr())
     }
 }
 
 /// A certification up to the text of its scope. One piece is written faster than eight.
 #[tactic(auto, unfolding(wot_types::specs::Spelling::number_1, wot_types::specs::Spelling::number_4, wot_types::specs::Spelling::number_8, wot_types::specs::Spelling::flag_bytes))]
-fn cert_numbers(cert: &PackedCert) -> [u8; 21]
-    ensures spelled { result ≡ number_8 cert.now.issuer ++ (number_1 cert.now.class ++ (flag_bytes cert.now.local ++ (number_4 cert.now.made ++ (number_4 cert.now.expires ++ (number_1 cert.now.depth ++ (number_1 cert.now.amount ++ flag_bytes (is_some cert.now.scope))))))) }
-    ensures issuer { cert.now.issuer < 2 ^ 64 }
-    ensures made { cert.now.made < 2 ^ 32 }
-    ensures expires { cert.now.expires < 2 ^ 32 }
+fn cert_numbers(placed: &PackedPlaced) -> [u8; 21]
+    ensures spelled { result ≡ number_8 placed.now.cert.issuer ++ (number_1 placed.now.cert.class ++ (flag_bytes placed.now.cert.local ++ (number_4 placed.now.cert.made ++ (number_4 placed.now.cert.expires ++ (number_1 placed.now.cert.depth ++ (number_1 placed.now.cert.amount ++ flag_bytes (is_some placed.now.cert.scope))))))) }
+    ensures issuer { placed.now.cert.issuer < 2 ^ 64 }
+    ensures made { placed.now.cert.made < 2 ^ 32 }
+    ensures expires { placed.now.cert.expires < 2 ^ 32 }
 {
-    let [i0, i1, i2, i3, i4, i5, i6, i7] = number_8(cert.issuer().0);
-    let [m0, m1, m2, m3] = number_4(cert.made());
-    let [e0, e1, e2, e3] = number_4(cert.expires());
-    let local = u8::from(cert.is_local());
-    let scope = u8::from(cert.scope().is_some());
-    let (class, depth, amount) = (cert.class(), cert.depth(), cert.amount());
+    let [i0, i1, i2, i3, i4, i5, i6, i7] = number_8(placed.issuer().0);
+    let [m0, m1, m2, m3] = number_4(placed.made());
+    let [e0, e1, e2, e3] = number_4(placed.expires());
+    let local = u8::from(placed.is_local());
+    let scope = u8::from(placed.scope().is_some());
+    let (class, depth, amount) = (placed.class(), placed.depth(), placed.amount());
     [
         i0, i1, i2, i3, i4, i5, i6, i7, class, local, m0, m1, m2, m3, e0, e1, e2, e3, depth,
         amount, scope,

@@ -12,7 +12,7 @@ use std::alloc::Global;
 use std::collections::BTreeSet;
 use std::sync::ledger::Ledger;
 use wot_table::{Keyblock, Table};
-use wot_types::{KeyId, Mem, Placed, Steps};
+use wot_types::{KeyId, Mem, PackedPlaced, Steps};
 
 /// The keys that were found so far, and those of them whose certifications weren't read yet.
 #[derive(Drop)]
@@ -38,13 +38,13 @@ fn with_key(near: Near, id: KeyId) -> Result<Near, Mem>
 }
 
 /// The issuers of these certifications too.
-fn with_issuers(near: Near, certs: &[Placed]) -> Result<Near, Mem>
+fn with_issuers(near: Near, certs: &[PackedPlaced]) -> Result<Near, Mem>
     ensures there { IfOk result (λ new. (y : ℕ) → has_issuer certs.now y ≡ true → is_found new y ≡ true) }
     ensures wider { IfOk result (IsWider near) }
 {
     let mut near = near;
     for placed in certs {
-        near = with_key(near, placed.cert.issuer())?;
+        near = with_key(near, placed.issuer())?;
     }
     Ok(near)
 }

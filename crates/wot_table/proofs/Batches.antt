@@ -1,5 +1,5 @@
 -- Keys that come in rising order of their key IDs into a table that has none.
-use Rattle.std.proofs.Common.{◌≡◌, ℕ, ◌+◌, ◌-◌, ◌<◌, ◌≤◌, ◌==◌, ◌&&◌, ◌||◌, Bool, true, false, cond, List, [], ◌∷◌, ◌++◌, length, reverse, Option, Some, None, Less, refl, sym, ap, subst, ◌∙◌, arith, nat_lt, map as mapped, nat_cmp}
+use Rattle.std.proofs.Common.{◌≡◌, ℕ, ◌+◌, ◌-◌, ◌<◌, ◌≤◌, true, false, cond, List, [], ◌∷◌, ◌++◌, length, reverse, Option, Some, None, Less, refl, sym, ap, subst, ◌∙◌, arith, nat_lt, map as mapped, nat_cmp}
 use Rattle.std.specs.Cmp.{nat_cmp_total}
 use Rattle.std.specs.FinMap as finmap
 use Rattle.std.specs.FinMap.{get-empty, get-insert, len-empty, len-insert}
@@ -9,12 +9,9 @@ use Rattle.std.specs.Ordering.{eq_by_cmp}
 use Rattle.std.proofs.lemmas.Bool.Decides.{nat_tests}
 use Rattle.std.proofs.lemmas.List.{reverse-append}
 use Rattle.wot_types.specs.declared.key.Key.{Key}
-use Rattle.wot_types.specs.Keyring.{Keyring, id_of, with_key, with_keys}
-use Rattle.wot_table.specs.declared.heading.Heading.{Heading}
+use Rattle.wot_types.specs.Keyring.{Keyring, id_of, with_key}
 use Rattle.wot_table.specs.declared.sums.Sums.{Sums}
-use Rattle.wot_table.specs.Headings.{is_under, key_under, keys_under}
 use Rattle.wot_table.specs.Weights.{minus, weight_or_none}
-use Rattle.wot_table.proofs.Filed.{filed_put, none_filed}
 use Rattle.wot_table.proofs.Summing.{sums_equal}
 
 abbrev pub Lacks : Keyring → Key → Type 0
@@ -64,38 +61,6 @@ one_higher ids i start last old k h = elim (nat_lt (k + 1) i) as (λ b. nat_lt (
 -- nothing gives way to a key that comes under a new key ID
 pub nothing_less : (s : Sums) (former : Option Key) → former ≡ None → minus s (weight_or_none former) ≡ s
 nothing_less s former none = ap (λ f. minus s (weight_or_none f)) none ∙ sums_equal _ _ (omega arith) (omega arith) (omega arith)
-
--- under which numbers the keys stand once all have come
-pub all_filed : (heading : Heading) (n id : ℕ) (keys : Keyring) (more : List Key) → IsStrictlySortedBy nat_cmp (mapped id_of more) → AllByRecursion (Lacks keys) more
-    → (is_under heading n (finmap.get keys id) || keys_under heading n id more) ≡ is_under heading n (finmap.get (with_keys keys more) id)
-all_filed heading n id keys [] sorted lack = or_false (is_under heading n (finmap.get keys id))
-  where
-    or_false : (b : Bool) → (b || false) ≡ b
-    or_false true = refl
-    or_false false = refl
-all_filed heading n id keys (key ∷ more) sorted lack =
-    turned (is_under heading n (finmap.get keys id)) ((id == id_of key) && key_under heading n key) (keys_under heading n id more)
-    ∙ ap (λ b. b || keys_under heading n id more)
-    (chosen (id == id_of key) (is_under heading n (finmap.get keys id)) (key_under heading n key) (λ same. ap (is_under heading n) (ap (finmap.get keys) (equal id (id_of key) same) ∙ lack.0))
-    ∙ filed_put heading keys (id_of key) key n id (is_under heading n (finmap.get keys id)) refl)
-    ∙ all_filed heading n id (with_key keys key) more (others_sorted key more sorted) (still_lacks keys key more (next_above key more sorted) lack.1)
-  where
-    turned : (a b c : Bool) → (a || (b || c)) ≡ ((a || b) || c)
-    turned true b c = refl
-    turned false b c = refl
-
-    chosen : (same had under : Bool) → (same ≡ true → had ≡ false) → (had || (same && under)) ≡ cond same under had
-    chosen true had under none = ap (λ b. b || under) (none refl)
-    chosen false true under none = refl
-    chosen false false under none = refl
-
-    equal : (a b : ℕ) → (a == b) ≡ true → a ≡ b
-    equal a b t = grind (arith, nat_tests)
-
-pub filed_alone : (heading : Heading) (n id : ℕ) (more : List Key) → IsStrictlySortedBy nat_cmp (mapped id_of more)
-    → keys_under heading n id more ≡ is_under heading n (finmap.get (with_keys finmap.empty more) id)
-filed_alone heading n id more sorted =
-    ap (λ b. b || keys_under heading n id more) (sym (none_filed heading n id)) ∙ all_filed heading n id finmap.empty more sorted (none_yet more)
 
 module _ {X : Type 0} where
   pub added_last : (es fs : List (ℕ × X)) (e : ℕ × X) → fs ≡ es ++ e ∷ [] → reverse fs ≡ e ∷ reverse es

@@ -10,7 +10,6 @@ use Rattle.std.proofs.lemmas.List.Folds.{Any-from_list_any, list_any-append}
 use Rattle.std.proofs.lemmas.List.Sorted.{IsPermutation-map, list_any-IsPermutation}
 use Rattle.wot_types.specs.declared.placed.Placed.{Placed}
 use Rattle.wot_types.specs.declared.key.Key.{Key}
-use Rattle.wot_types.specs.declared.user.User.{User}
 use Rattle.wot_types.specs.Indexes.{user_issuers}
 use Rattle.wot_types.specs.Keyring.{Keyring}
 use Rattle.wot_types.specs.NextCheck.{user_expiries}
@@ -67,12 +66,6 @@ users_filed heading n [] = sym (not_filed heading n)
 users_filed heading n (s ∷ spots) =
     ap (λ b. user_under heading n s.user || b) (users_filed heading n spots)
     ∙ sym (filed_append heading n (user_issuers s.user) (user_expiries s.user) (flat_map user_issuers (map (λ s. s.user) spots)) (flat_map user_expiries (map (λ s. s.user) spots)))
-
-pub each_filed : (heading : Heading) (n : ℕ) (users : List User) → list_any (user_under heading n) users ≡ is_filed_by heading n (flat_map user_issuers users) (flat_map user_expiries users)
-each_filed heading n [] = sym (not_filed heading n)
-each_filed heading n (user ∷ users) =
-    ap (λ b. user_under heading n user || b) (each_filed heading n users)
-    ∙ sym (filed_append heading n (user_issuers user) (user_expiries user) (flat_map user_issuers users) (flat_map user_expiries users))
 
 together : (a b c d : Bool) → ((a || (b && c)) || (b && d)) ≡ (a || (b && (c || d)))
 together true b c d = refl

@@ -17,7 +17,7 @@ use std::alloc::Global;
 use std::collections::btree_map::Iter;
 use std::marker::Model;
 use std::sync::ledger::Ledger;
-use wot_types::{KeyId, Mem, Placed, Steps};
+use wot_types::{KeyId, Mem, PackedPlaced, Steps};
 
 /// A walk over the keys in rising order; a step of it takes no look-up.
 #[derive(Drop)]
@@ -104,7 +104,7 @@ impl<'a> Keyblock<'a> {
     }
 
     /// The certifications on a user ID, by issuer, then by date, then by place; each is a tick.
-    pub fn certs<L: Ledger>(&self, user: u32, steps: &mut Steps<L>) -> &'a [Placed]
+    pub fn certs<L: Ledger>(&self, user: u32, steps: &mut Steps<L>) -> &'a [PackedPlaced]
         requires there { IsSome (spot_of self.now.1 user) }
         ensures rising { IsRising result.now }
         ensures same { IfSome (spot_of self.now.1 user) (λ spot. IsPermutation spot.certs result.now) }
@@ -134,7 +134,7 @@ impl<'a> Keyblock<'a> {
         &self,
         user: u32,
         steps: &mut Steps<L>,
-    ) -> Result<Vec<&'a Placed>, Mem>
+    ) -> Result<Vec<&'a PackedPlaced>, Mem>
         requires there { IsSome (spot_of self.now.1 user) }
         ensures block { IfOk result (λ certs. IfSome (spot_of self.now.1 user) (λ spot. map (λ p. p.now) certs.items ≡ spot.certs)) }
         ensures cost { IfOk result (λ certs. steps.new ≡ steps.old + length certs.items) }

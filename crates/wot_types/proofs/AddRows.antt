@@ -29,11 +29,11 @@ kept_after P (row ∷ rows) before were are =
     (All-insert nat_cmp_total nat_cmp-IsAntisymmetric P before row.key row were (All-head (λ row. P (keyed row)) row rows are))
     (All-tail (λ row. P (keyed row)) row rows are)
 
-pub neither_first : (a b : Bool) → (a || b) ≡ false → a ≡ false
+neither_first : (a b : Bool) → (a || b) ≡ false → a ≡ false
 neither_first true b h = cc
 neither_first false b h = refl
 
-pub neither_second : (a b : Bool) → (a || b) ≡ false → b ≡ false
+neither_second : (a b : Bool) → (a || b) ≡ false → b ≡ false
 neither_second true b h = cc
 neither_second false b h = h
 

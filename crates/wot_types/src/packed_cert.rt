@@ -1,4 +1,4 @@
-//! Certifications as they are kept.
+//! Certifications as they are kept, with their places and without.
 
 ghost use Rattle.std.specs.Prelude.{◌≡◌, ℕ, IfOk, None, is_some};
 ghost use Rattle.std.specs.Option.{option_copied};
@@ -13,18 +13,26 @@ use crate::scope::Scope;
 use std::alloc::Global;
 use std::marker::Model;
 
-/// A certification in 40 bytes, seen as a `Cert`. A keyring has as many of these as of all else together, hardly any has a scope, and a
-/// fingerprint that one names mostly ends in its issuer's key ID, which stands there already.
+/// A certification and its place in 40 bytes, seen as a `Placed`. A keyring has as many of these as of all else together, hardly any has a
+/// scope, and a fingerprint that one names mostly ends in its issuer's key ID, which stands there already.
 #[derive(Clone, Debug, Drop)]
-pub struct PackedCert {
+pub struct PackedPlaced {
     issuer: KeyId,
     names: Names,
     made: u32,
     expires: u32,
+    place: u32,
     class: u8,
     local: bool,
     depth: u8,
     amount: u8,
+}
+
+/// A certification before it is placed, seen as a `Cert`. The room for its place is there, so that a place costs no memory, and what
+/// stands in it isn't seen.
+#[derive(Clone, Debug, Drop)]
+pub struct PackedCert {
+    placed: PackedPlaced,
 }
 
 /// The scope of a certification, and the fingerprint of its issuer.
@@ -44,28 +52,42 @@ struct Named {
     fpr: Fpr,
 }
 
+impl Model for PackedPlaced {
+    ghost use Rattle.wot_types.specs.declared.placed.Placed.{Placed as PlacedSeen};
+    ghost use Rattle.wot_types.specs.contracts.placed.Placed as placed_struct;
+    ghost use Rattle.wot_types.specs.PackedCert.{HasItsHead, fpr_in, scope_in};
+
+    ghost Value = { PlacedSeen };
+
+    ghost coded = { placed_struct.the_row.coded };
+
+    ghost view = { λ p. record {
+      place = p.place;
+      cert = record {
+        issuer = p.issuer;
+        scope = scope_in p.names;
+        made = p.made;
+        expires = p.expires;
+        class = p.class;
+        local = p.local;
+        depth = p.depth;
+        amount = p.amount;
+        issuer_fpr = fpr_in p.issuer p.names;
+      };
+    } };
+
+    ghost invariant = { λ p. HasItsHead p.names };
+}
+
 impl Model for PackedCert {
     ghost use Rattle.wot_types.specs.declared.cert.Cert.{Cert as CertSeen};
     ghost use Rattle.wot_types.specs.contracts.cert.Cert as cert_struct;
-    ghost use Rattle.wot_types.specs.PackedCert.{HasItsHead, fpr_in, scope_in};
 
     ghost Value = { CertSeen };
 
     ghost coded = { cert_struct.the_row.coded };
 
-    ghost view = { λ c. record {
-      issuer = c.issuer;
-      scope = scope_in c.names;
-      made = c.made;
-      expires = c.expires;
-      class = c.class;
-      local = c.local;
-      depth = c.depth;
-      amount = c.amount;
-      issuer_fpr = fpr_in c.issuer c.names;
-    } };
-
-    ghost invariant = { λ c. HasItsHead c.names };
+    ghost view = { λ c. c.placed.cert };
 }
 
 impl Names {
@@ -118,62 +140,123 @@ impl PackedCert {
             amount,
             issuer_fpr,
         } = cert;
-        Ok(PackedCert {
+        let placed = PackedPlaced {
             issuer,
             names: Names::of(alloc, issuer, scope, issuer_fpr)?,
             made,
             expires,
+            place: 0,
             class,
             local,
             depth,
             amount,
-        })
+        };
+        Ok(PackedCert { placed })
+    }
+
+    /// The certification at this place.
+    pub fn at(self, place: u32) -> PackedPlaced
+        ensures { result ≡ record { place = place; cert = self } }
+    {
+        let PackedCert { mut placed } = self;
+        placed.place = place;
+        placed
+    }
+
+    /// The same certification at a place that says nothing.
+    pub fn as_placed(&self) -> &PackedPlaced
+        ensures { result.now.cert ≡ self.now }
+    {
+        &self.placed
     }
 
     pub fn issuer(&self) -> KeyId
         ensures { result ≡ self.now.issuer }
     {
-        self.issuer
-    }
-
-    pub fn made(&self) -> u32
-        ensures { result ≡ self.now.made }
-    {
-        self.made
-    }
-
-    pub fn expires(&self) -> u32
-        ensures { result ≡ self.now.expires }
-    {
-        self.expires
+        self.placed.issuer()
     }
 
     pub fn class(&self) -> u8
         ensures { result ≡ self.now.class }
     {
+        self.placed.class()
+    }
+
+    pub fn scope(&self) -> Option<&Scope>
+        ensures { option_copied result ≡ self.now.scope }
+    {
+        self.placed.scope()
+    }
+
+    /// The fingerprint of its issuer, where it names that. It takes no memory.
+    pub fn issuer_fpr(&self) -> Option<Fpr>
+        ensures { result ≡ self.now.issuer_fpr }
+    {
+        self.placed.issuer_fpr()
+    }
+}
+
+impl PackedPlaced {
+    /// A copy of the certification, without its place.
+    pub fn copy_cert(&self) -> Result<PackedCert, Mem>
+        ensures { IfOk result (λ copy. copy ≡ self.now.cert) }
+    {
+        Ok(PackedCert {
+            placed: self.clone()?,
+        })
+    }
+
+    /// How many certifications stand before it in its key's block.
+    pub fn place(&self) -> u32
+        ensures { result ≡ self.now.place }
+    {
+        self.place
+    }
+
+    pub fn issuer(&self) -> KeyId
+        ensures { result ≡ self.now.cert.issuer }
+    {
+        self.issuer
+    }
+
+    pub fn made(&self) -> u32
+        ensures { result ≡ self.now.cert.made }
+    {
+        self.made
+    }
+
+    pub fn expires(&self) -> u32
+        ensures { result ≡ self.now.cert.expires }
+    {
+        self.expires
+    }
+
+    pub fn class(&self) -> u8
+        ensures { result ≡ self.now.cert.class }
+    {
         self.class
     }
 
     pub fn is_local(&self) -> bool
-        ensures { result ≡ self.now.local }
+        ensures { result ≡ self.now.cert.local }
     {
         self.local
     }
 
     pub fn depth(&self) -> u8
-        ensures { result ≡ self.now.depth }
+        ensures { result ≡ self.now.cert.depth }
     {
         self.depth
     }
 
     pub fn amount(&self) -> u8
-        ensures { result ≡ self.now.amount }
+        ensures { result ≡ self.now.cert.amount }
     {
         self.amount
     }
 
     pub fn scope(&self) -> Option<&Scope>
-        ensures { option_copied result ≡ self.now.scope }
+        ensures { option_copied result ≡ self.now.cert.scope }
     {
         match &self.names {
             Names::Neither | Names::Head(_) => None,
@@ -184,14 +267,14 @@ impl PackedCert {
 
     /// Whether it names its issuer's fingerprint.
     pub fn names_issuer(&self) -> bool
-        ensures { result ≡ is_some self.now.issuer_fpr }
+        ensures { result ≡ is_some self.now.cert.issuer_fpr }
     {
         matches!(&self.names, Names::Head(_) | Names::Named(_))
     }
 
     /// The fingerprint of its issuer, where it names that. It takes no memory.
     pub fn issuer_fpr(&self) -> Option<Fpr>
-        ensures { result ≡ self.now.issuer_fpr }
+        ensures { result ≡ self.now.cert.issuer_fpr }
     {
         match &self.names {
             Names::Neither | Names::Scope(_) => None,

@@ -8,7 +8,7 @@ use Rattle.wot_print.proofs.records.push_depth.Goals as goal
 pub returns-clause-adds : goal.returns-clause-adds
 returns-clause-adds g c =
     let both = g.met.W.Sink.both in
-    let cert = c.args.cert.now in
+    let cert = c.args.placed.now.cert in
     let depth = decimal cert.depth in
     let amount = decimal cert.amount in
     let part-1 : g.W.Sink.adds c.args.text.now depth c.push_number.new.text = search rules in
