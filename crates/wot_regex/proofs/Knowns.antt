@@ -290,6 +290,7 @@ classes_known nodes known masks is new keeps = record {
   masks = new;
   states = is.states;
   moves = moves_kept known.masks.sets.items masks.sets.items known.states.items known.states.items known.moves.items keeps (keeps_all known.states.items) is.moves.rows is.moves;
+  table = is.table;
 }
 
 -- the first row

@@ -8,3 +8,4 @@ pub mod Searching
 pub mod Knowing
 pub mod Following
 pub mod States
+pub mod Answering

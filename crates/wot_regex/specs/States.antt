@@ -1,6 +1,6 @@
 -- What is known of the states that texts come to: what comes next there, whether a match ends there, and where a byte leads.
-use Rattle.std.specs.Prelude.{◌≡◌, ℕ, ◌<◌, ◌≤◌, ◌==◌, Bool, true, List, [], length, get_or, replicate, Some}
-use Rattle.wot_regex.specs.Following.{Holds, IsMasks, IsMeet, IsRow, IsRows, taking}
+use Rattle.std.specs.Prelude.{◌≡◌, ℕ, ◌<◌, ◌≤◌, ◌==◌, Bool, true, List, [], length, get_or, replicate, Some, IfSome}
+use Rattle.wot_regex.specs.Following.{Holds, IsMasks, IsMeet, IsRow, IsRows, IsTable, taking}
 use Rattle.wot_regex.specs.Knowing.{found_at}
 use Rattle.wot_regex.specs.declared.known.Known.{Known}
 use Rattle.wot_regex.specs.declared.known.State.{State}
@@ -45,3 +45,4 @@ pub record IsKnown (nodes : List Node) (known : Known) : Type 0 where
   pub masks : IsMasks nodes known.masks
   pub states : IsStates nodes known.states.items
   pub moves : IsMoves known.masks.sets.items known.states.items known.moves.items
+  pub table : IfSome known.table (λ t. IsTable nodes t.items)

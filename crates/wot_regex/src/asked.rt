@@ -4,6 +4,7 @@ ghost use Rattle.std.specs.Prelude.{◌≡◌, ◌↔◌, ◌≤◌, true, IsTru
 ghost use Rattle.wot_types.specs.ExpressionMatch.{Admits};
 ghost use Rattle.wot_types.specs.Scope.{admits};
 
+use crate::answers::{Answers, WORTH_KEEPING};
 use crate::expr::read;
 use crate::matcher::Matcher;
 use crate::scope::admits;
@@ -15,22 +16,28 @@ use wot_types::{Mem, Text};
 /// About so many bytes are kept. Where they are more, all is forgotten, and what is asked further is kept anew.
 const MOST_BYTES: usize = 32 << 20;
 
+/// Up to so many bytes tables are made, each of which takes as much as ten expressions without: else these would often be forgotten.
+const MOST_WITH_TABLES: usize = MOST_BYTES / 2;
+
 /// A scope, and the expression that it is, if it is one. Callers see the scope alone.
 #[derive(Drop)]
 pub struct Kept {
     scope: Vec<u8>,
     matcher: Option<Matcher>,
+    /// What it answered of long texts, where these are slow to search.
+    answers: Answers,
 }
 
 impl Model for Kept {
     ghost use Rattle.std.specs.Prelude.{◌≡◌, ℕ, List};
     ghost use Rattle.wot_types.specs.ExpressionReading.{tree_of};
+    ghost use Rattle.wot_regex.specs.Answering.{AreAnswers};
 
     ghost Value = { List ℕ };
 
     ghost view = { λ k. k.scope.items };
 
-    ghost invariant = { λ k. tree_of k.scope.items ≡ k.matcher };
+    ghost invariant = { λ k. (tree_of k.scope.items ≡ k.matcher) × AreAnswers k.scope.items k.answers };
 }
 
 impl Kept {
@@ -46,6 +53,7 @@ impl Kept {
         Ok(Kept {
             scope: bytes,
             matcher,
+            answers: Answers::new(alloc),
         })
     }
 
@@ -61,18 +69,52 @@ impl Kept {
 
     /// About how many bytes it takes.
     fn size(&self) -> usize {
+        let size = self.scope.len().saturating_add(self.answers.size);
         match &self.matcher {
-            Some(matcher) => self.scope.len().saturating_add(matcher.size()),
-            None => self.scope.len(),
+            Some(matcher) => size.saturating_add(matcher.size()),
+            None => size,
         }
     }
 
-    fn admits(&mut self, text: &[u8]) -> bool
+    /// Whether it admits a text. Where it may grow, a table may be made.
+    fn admits(&mut self, alloc: Global, text: &[u8], may_grow: bool) -> bool
+        ensures same { self.new ≡ self.old }
+        ensures value { result ≡ admits (Some self.old) text.now }
+    {
+        if text.len() < WORTH_KEEPING {
+            return self.test(text, may_grow);
+        }
+        if let Some(found) = self.answers.find(text) {
+            return found;
+        }
+        let found = self.test(text, may_grow);
+        self.note(alloc, text, found);
+        found
+    }
+
+    /// Keeps what it answered of a text, where it is slow: else a text is searched about as soon as it is found among others. For want of memory the
+    /// text is searched again when it is asked again.
+    fn note(&mut self, alloc: Global, text: &[u8], admitted: bool)
+        requires { admitted ≡ admits (Some self.old) text.now }
+        ensures { self.new ≡ self.old }
+    {
+        if self.is_slow() {
+            self.answers.keep(alloc, text, admitted).ok();
+        }
+    }
+
+    fn is_slow(&self) -> bool {
+        self.matcher
+            .as_ref()
+            .is_some_and(|matcher| matcher.is_slow())
+    }
+
+    fn test(&mut self, text: &[u8], may_grow: bool) -> bool
         ensures same { self.new ≡ self.old }
         ensures value { result ≡ admits (Some self.old) text.now }
     {
         match &mut self.matcher {
-            Some(matcher) => matcher.matches(text),
+            Some(matcher) => matcher.test(text, may_grow),
             None => false,
         }
     }
@@ -142,7 +184,7 @@ impl Asked {
             return None;
         }
         let before = kept.size();
-        let found = kept.admits(text);
+        let found = kept.admits(self.alloc, text, self.size <= MOST_WITH_TABLES);
         self.size = self.size.saturating_add(kept.size().saturating_sub(before));
         Some(found)
     }

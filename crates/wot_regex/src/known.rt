@@ -21,6 +21,7 @@ use crate::node::Node;
 use crate::search::search_from;
 use crate::set::{PLACES, Set};
 use crate::steps::{Common, steps_of};
+use crate::table::{LONG, table_for};
 use std::alloc::Global;
 use wot_types::Mem;
 
@@ -51,6 +52,10 @@ pub struct Known {
     pub masks: Masks,
     pub states: Vec<State>,
     pub moves: Vec<[u8; CLASSES]>,
+    /// What comes next by each way to mark eight places, once so many bytes were searched that it is worth its making.
+    pub table: Option<Vec<Row>>,
+    /// How many bytes were searched without it, counted anew whenever it could not be made.
+    pub searched: usize,
 }
 
 impl Known {
@@ -80,6 +85,8 @@ impl Known {
             masks: Masks::new(alloc),
             states,
             moves,
+            table: None,
+            searched: 0,
         })
     }
 
@@ -93,10 +100,23 @@ impl Known {
             .saturating_add(rows)
             .saturating_add(sets)
             .saturating_add(states)
+            .saturating_add(self.table_size())
     }
 
-    /// Whether the expression of a table matches somewhere in the text.
-    pub fn matches(&mut self, nodes: &[Node], text: &[u8]) -> bool
+    /// Whether no further state is learnt, so that a text may run past those that are known.
+    pub fn is_full(&self) -> bool {
+        self.states.len() == MOST_STATES
+    }
+
+    fn table_size(&self) -> usize {
+        match &self.table {
+            Some(table) => table.len().saturating_mul(size_of::<Row>()),
+            None => 0,
+        }
+    }
+
+    /// Whether the expression of a table matches somewhere in the text. Where it may grow, what takes much memory may be made for further texts.
+    pub fn matches(&mut self, nodes: &[Node], text: &[u8], may_grow: bool) -> bool
         requires room { length nodes.now ≤ PLACES }
         requires known { IsKnown nodes.now self.old }
         ensures known { IsKnown nodes.now self.new }
@@ -109,7 +129,7 @@ impl Known {
             }
             let next = self.next(nodes, at, text[i]);
             if next == 0 {
-                return self.search_rest(nodes, at, text[i], &text[i + 1..]);
+                return self.search_rest(nodes, at, text[i], &text[i + 1..], may_grow);
             }
             at = next;
         }
@@ -133,24 +153,43 @@ impl Known {
     }
 
     /// Whether a match ends in the rest of a text, behind a byte that comes at a state where none ends.
-    fn search_rest(&mut self, nodes: &[Node], at: usize, b: u8, rest: &[u8]) -> bool
+    fn search_rest(&mut self, nodes: &[Node], at: usize, b: u8, rest: &[u8], may_grow: bool) -> bool
         requires room { length nodes.now ≤ PLACES }
         requires known { IsKnown nodes.now self.old }
         requires there { at < length self.old.states.items }
         ensures known { IsKnown nodes.now self.new }
         ensures found { (tree : Tree) (d : State) (cells : List Reach) (found : Bool) → nodes.now ≡ nodes_of tree → length cells ≡ length nodes.now → Holds (get_or self.old.states.items at d).marks.words cells → (get_or self.old.states.items at d).row.found ≡ false → Searching tree cells (at == 0) (b ∷ rest.now) found → result ≡ found }
     {
+        self.count(nodes, rest.len(), may_grow);
         let mut marks = self.states[at].row.next;
         marks.meet(&self.masks.mask(nodes, b));
         search_from(
-            self.alloc,
             nodes,
             &self.common,
             &self.rows,
+            self.table.as_ref(),
             &mut self.masks,
             marks,
             rest,
         )
+    }
+
+    /// Counts bytes that are to be searched without a table, and makes one when they are many, if it may. Where none is made, as for want of memory,
+    /// they are counted anew.
+    fn count(&mut self, nodes: &[Node], bytes: usize, may_grow: bool)
+        requires room { length nodes.now ≤ PLACES }
+        requires known { IsKnown nodes.now self.old }
+        ensures known { IsKnown nodes.now self.new }
+        ensures states { self.new.states ≡ self.old.states }
+    {
+        if !may_grow || self.table.is_some() {
+            return;
+        }
+        self.searched = self.searched.saturating_add(bytes);
+        if LONG <= self.searched {
+            self.table = table_for(self.alloc, nodes, &self.common, &self.rows);
+            self.searched = 0;
+        }
     }
 
     /// The state to which a byte leads, and 0 where there is no room for it.

@@ -1,6 +1,7 @@
 //! Regular expressions of trust signatures (RFC 9580, section 8): which bytes are one, and which texts it matches. Only what is kept of an expression for further texts takes memory.
 #![tactic(auto)]
 
+mod answers; // what a scope answered of long texts
 mod asked; // scopes that are asked of many user IDs
 mod expr; // expressions
 mod flags; // truth values, of which the last is taken back first

@@ -53,16 +53,25 @@ impl Matcher {
         ensures value { result ≡ matches_in self.old text.now }
         ensures means { IsTrue result ↔ MatchesIn self.old text.now }
     {
-        self.test(text)
+        self.test(text, true)
     }
 
-    fn test(&mut self, text: &[u8]) -> bool
+    /// The same. Where it may grow, what takes much memory may be made for further texts.
+    pub(crate) fn test(&mut self, text: &[u8], may_grow: bool) -> bool
         ensures same { self.new ≡ self.old }
         ensures value { result ≡ matches_in self.old text.now }
     {
         match &mut self.known {
-            Some(known) => known.matches(self.expr.nodes(), text),
+            Some(known) => known.matches(self.expr.nodes(), text, may_grow),
             None => matches(&self.expr, text),
+        }
+    }
+
+    /// Whether a text may be slow to search.
+    pub(crate) fn is_slow(&self) -> bool {
+        match &self.known {
+            Some(known) => known.is_full(),
+            None => true,
         }
     }
 

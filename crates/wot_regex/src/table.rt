@@ -1,4 +1,4 @@
-//! What comes next by each way to mark eight places, so that a long text is searched eight places at a time.
+//! What comes next by each way to mark eight places, so that texts are searched eight places at a time.
 
 ghost use Rattle.std.specs.Prelude.{◌≡◌, ◌≤◌, ◌<◌, ◌+◌, ◌*◌, ◌/◌, ◌%◌, false, IfOk, IfSome, List, ℕ, length, get_or};
 ghost use Rattle.wot_regex.specs.Following.{Holds, IsRow, IsRows, IsSoFar, IsTable, cells_by, in_eight};
@@ -19,26 +19,20 @@ const EIGHTS: usize = PLACES / 8;
 /// powers of two they would drive each other out of the processor's cache.
 const ROWS: usize = 256 * EIGHTS;
 
-/// A rest of a text of fewer bytes is searched sooner than a table is made.
+/// So many bytes are searched before a table is made, whether of one text or of many: fewer are searched sooner than it is made.
 pub const LONG: usize = 4096;
 
 /// By fewer symbols than these that are no steps, going from mark to mark is as fast.
 const MANY: usize = 40;
 
-/// A table where it is worth to make one for a rest of a text of so many bytes, and else none; none where there is no memory for it.
-pub fn table_for(
-    alloc: Global,
-    nodes: &[Node],
-    common: &Common,
-    rows: &[Row],
-    bytes: usize,
-) -> Option<Vec<Row>>
+/// A table where texts are searched faster by one, and else none; none where there is no memory for it.
+pub fn table_for(alloc: Global, nodes: &[Node], common: &Common, rows: &[Row]) -> Option<Vec<Row>>
     requires room { length nodes.now ≤ PLACES }
     requires whole { length rows.now ≡ length nodes.now }
     requires rows { IsRows nodes.now common.now rows.now }
     ensures { IfSome result (λ table. IsTable nodes.now table.items) }
 {
-    if bytes < LONG || count_others(nodes, &common.steps) < MANY {
+    if count_others(nodes, &common.steps) < MANY {
         return None;
     }
     table_of(alloc, nodes, common, rows).ok()

@@ -1,6 +1,6 @@
-use Rattle.std.proofs.Common.{◌≡◌, Bool, false, List, IfSome, drop, length}
+use Rattle.std.proofs.Common.{◌≡◌, Bool, false, List, drop, length}
 use Rattle.wot_types.specs.Expression.{Tree}
-use Rattle.wot_regex.specs.Following.{Holds, IsMasks, IsTable, Keeps}
+use Rattle.wot_regex.specs.Following.{Holds, IsMasks, Keeps}
 use Rattle.wot_regex.specs.Searching.{Searching}
 use Rattle.wot_regex.specs.Table.{nodes_of}
 use Rattle.wot_regex.specs.declared.reach.Reach.{Reach}
@@ -10,7 +10,6 @@ use Rattle.wot_regex.proofs.search.search_from.Given as goal
 -- the rest decides
 abbrev pub invariant-loop-b : goal.invariant-loop-b
 invariant-loop-b l = record {
-  table : IfSome l.table (λ t. IsTable l.nodes t.items);
   masks : IsMasks l.nodes l.masks;
   kept : Keeps l.fn.masks.sets.items l.masks.sets.items;
   rest :

@@ -21,6 +21,7 @@ returns-in_err-push-2-clause-known c =
       masks = known.masks;
       states = subst P (sym c.in_err-push-2.ensures.items) known.states;
       moves = subst Q (sym c.in_err-push-2.ensures.items) (subst R (sym c.in_ok-push.ensures.items) (moves_more _ _ _ known.moves));
+      table = known.table;
     }
 
 pub returns-clause-known : goal.returns-clause-known
@@ -47,4 +48,5 @@ returns-clause-known c =
       moves =
           subst Q (sym c.in_ok-push-2.ensures.items)
           (subst R (sym c.in_ok-push.ensures.items) (moves_kept sets sets states (states ++ state ∷ []) (moves ++ replicate 64 0 ∷ []) (keeps_all sets) (keeps_more states state) room (moves_more sets states moves known.moves)));
+      table = known.table;
     }

@@ -24,4 +24,5 @@ returns-clause-known c =
       states = states_told nodes states c.args.at here c.ends-found.result known.states c.requires.there c.index_mut.ensures.value ends;
       moves =
           moves_told nodes states c.args.at here c.ends-found.result known.states c.requires.there c.index_mut.ensures.value ends c.args.self.now.masks.sets.items c.args.self.now.moves.items known.moves;
+      table = known.table;
     }

@@ -29,4 +29,5 @@ returns c =
       masks = c.new.ensures nodes;
       states = subst P (sym states) (one_state nodes start (first_state nodes start refl refl c.blank_row.ensures) refl);
       moves = subst Q (sym states) (subst R (sym moves) (no_moves c.new.result.sets.items start));
+      table = tt;
     }

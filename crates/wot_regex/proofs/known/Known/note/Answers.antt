@@ -13,4 +13,5 @@ returns-clause-known c =
       moves =
           move_noted c.args.self.now.masks.sets.items c.args.self.now.states.items c.args.self.now.moves.items c.args.at c.index_mut.result.now c.args.class c.args.to known.moves c.requires.there (omega arith) c.requires.class
           c.index_mut.ensures.value c.requires.moves;
+      table = known.table;
     }
