@@ -1,6 +1,6 @@
 //! Whether an introducer may introduce a user ID: its scope admits it, and that of whoever delegated to it, and so on up.
 
-ghost use Rattle.std.specs.Prelude.{◌≡◌, ◌||◌, Some, not, IfSome, IsSome};
+ghost use Rattle.std.specs.Prelude.{◌≡◌, ◌||◌, Some, true, not, IfSome, IsSome};
 ghost use Rattle.std.specs.FinMap as map;
 ghost use Rattle.std.specs.Option.{option_copied, option_map_or};
 ghost use Rattle.wot_types.specs.Candidates.{chain_admits, delegator};
@@ -9,7 +9,7 @@ ghost use Rattle.wot_types.specs.Scope.{admits};
 use crate::introducers::Introducers;
 use wot_regex::Asked;
 use wot_scope::by_domain;
-use wot_types::{KeyId, MOST_SCOPE, Options, Row, Rows, Text};
+use wot_types::{KeyId, MOST_SCOPE, Options, Row, Rows, Scope, Text, is_same_scope};
 
 /// The row of whoever delegated to an introducer, where it is of a lower level.
 fn delegator<'a>(introducers: &Introducers<'a>, row: &Row) -> Option<&'a Row>
@@ -55,6 +55,14 @@ fn is_in_scope(row: &Row, text: &Text, asked: &mut Asked) -> bool
     }
 }
 
+/// The same of a link of a chain, behind one whose scope admits the text: mostly it is the same scope.
+fn is_in_scope_behind(before: Option<&Scope>, link: &Row, text: &Text, asked: &mut Asked) -> bool
+    requires before { admits (option_copied before) text.now ≡ true }
+    ensures { result ≡ admits link.now.scope text.now }
+{
+    is_same_scope(before, link.scope.as_ref()) || is_in_scope(link, text, asked)
+}
+
 /// Whether each scope along an introducer's chain admits a text. Levels fall along it, so it ends; where no row has a scope it isn't walked.
 fn chain_admits<'a>(
     introducers: &Introducers<'a>,
@@ -68,10 +76,12 @@ fn chain_admits<'a>(
         return true;
     }
     let mut next = Some(row);
+    let mut before = None;
     while let Some(link) = next {
-        if !is_in_scope(link, text, asked) {
+        if !is_in_scope_behind(before, link, text, asked) {
             return false;
         }
+        before = link.scope.as_ref();
         next = delegator(introducers, link);
     }
     true
