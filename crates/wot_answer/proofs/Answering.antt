@@ -1,5 +1,5 @@
 -- Where a session stands after a line was answered.
-use Rattle.std.proofs.Common.{◌≡◌, true, false, ◌||◌, [], ◌∷◌, if◌then◌else◌, Result, Ok, Err, refl, sym, ap, ◌∙◌, subst}
+use Rattle.std.proofs.Common.{◌≡◌, ℕ, true, false, ◌||◌, List, [], ◌∷◌, if◌then◌else◌, Some, Result, Ok, Err, refl, sym, ap, ◌∙◌, subst}
 use Rattle.std.specs.Prelude.{IfOk, not, ◌&&◌}
 use Rattle.std.proofs.lemmas.Bool.{not-false}
 use Rattle.std.proofs.lemmas.List.{append-nil}
@@ -8,10 +8,10 @@ use Rattle.wot_types.specs.State.{State}
 use Rattle.wot_types.specs.Commands as lines
 use Rattle.wot_types.specs.Commands.{Command, ReadLine, closed_command, divided_by, ends, ends_block, is_quit, made_by, of_line, opened_command, opens_block, with_line, words_in}
 use Rattle.wot_types.specs.Commands.Division.{between, within, over}
+use Rattle.wot_types.specs.Grammar.{has_block}
 use Rattle.wot_types.specs.LineByLine.{Position}
-use Rattle.wot_types.specs.Outcome.{Outcome, outcome, skip}
+use Rattle.wot_types.specs.Outcome.{outcome, skip}
 use Rattle.wot_types.specs.Session.{after_all, replies}
-use Rattle.wot_types.specs.Store.{Store}
 use Rattle.wot_answer.specs.declared.block.Block.{Block}
 use Rattle.wot_answer.specs.Block.{IsBlockOf}
 use Rattle.wot_answer.specs.declared.answer.Answered.{Answered}
@@ -91,6 +91,10 @@ pub within_division : (block : Block) (c : lines.Division) → IsDivision (Withi
 within_division block (within command) is = (command, refl, is)
 within_division block between is = absurd is
 within_division block over is = absurd is
+
+-- the words of a command whose block is read
+pub block_opens : (block : Block) (command : Command) (words : List (List ℕ)) → IsBlockOf block command → command.words ≡ Some words → has_block words ≡ true
+block_opens block command words of is = ap lines.opens (sym is ∙ of.read.given) ∙ of.read.opens
 
 -- a line that a block doesn't go on with ends the block of its command
 pub is_ended : (block : Block) (command : Command) (line : ReadLine) → IsBlockOf block command → reads_on (Within block) line ≡ false → ends command line ≡ true

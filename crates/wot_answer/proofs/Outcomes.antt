@@ -1,5 +1,5 @@
 -- What commands come to: by their words, and by their blocks.
-use Rattle.std.proofs.Common.{◌≡◌, ℕ, Bool, true, false, ◌||◌, List, [], ◌∷◌, length, if◌then◌else◌, Option, Some, None, Result, Ok, Err, ◌↔◌, refl, sym, ap, ◌∙◌}
+use Rattle.std.proofs.Common.{◌≡◌, ℕ, Bool, true, false, ◌||◌, List, [], ◌∷◌, length, if◌then◌else◌, Option, Some, None, Result, Ok, Err, ◌↔◌, refl, sym, ap, ◌∙◌, arith}
 use Rattle.std.specs.Prelude.{is_none, unwrap_or}
 use Rattle.std.specs.List.{list_any}
 use Rattle.std.specs.Result.{result_err}
@@ -16,19 +16,23 @@ use Rattle.wot_types.specs.OwnertrustText.{ownertrust_fault}
 use Rattle.wot_types.specs.Store.{Store}
 use Rattle.wot_ownertrust.specs.declared.text.TextError.{TextError}
 use Rattle.wot_ownertrust.specs.declared.text.TextError.TheVariants.{Fault}
+use Rattle.wot_answer.specs.Begun.{IsSingle, head_by}
 use Rattle.wot_answer.specs.Block.{has_long, refused_for}
+use Rattle.wot_answer.specs.declared.begun.Single.{Single}
 
 -- a command by its words alone
 some_words : (s : Store) (command : Command) (words : List (List ℕ)) → (length words ≡ 0 → ⊥) → words_outcome s command words ≡ head_outcome s command (command_of words)
 some_words s command [] some = absurd (some refl)
 some_words s command (name ∷ words) some = refl
 
-pub begun_is : (s : Store) (words : List (List ℕ)) → (length words ≡ 0 → ⊥) → outcome s (begun_command words) ≡ head_outcome s (begun_command words) (command_of words)
+begun_is : (s : Store) (words : List (List ℕ)) → (length words ≡ 0 → ⊥) → outcome s (begun_command words) ≡ head_outcome s (begun_command words) (command_of words)
 unfolding outcome
 begun_is s words some = some_words s (begun_command words) words some
 
-pub by_head : (s : Store) (words : List (List ℕ)) (head : Result Head Refusal) → (length words ≡ 0 → ⊥) → command_of words ≡ head → outcome s (begun_command words) ≡ head_outcome s (begun_command words) head
-by_head s words head some is = begun_is s words some ∙ ap (head_outcome s (begun_command words)) is
+-- the command without a block that these words are
+pub single_is : (s : Store) (command known : Single) (words : List (List ℕ)) → IsSingle command words → command ≡ known → outcome s (begun_command words) ≡ head_outcome s (begun_command words) (head_by known)
+single_is s command known words of is =
+    begun_is s words (λ none. omega (arith, of.some, none)) ∙ ap (head_outcome s (begun_command words)) (of.head ∙ ap head_by is)
 
 -- a line that is too long
 pub long_is : (s : Store) → outcome s (of_line None) ≡ refuse LineTooLong
@@ -80,10 +84,10 @@ unended_listing s command ended = ap (λ b. if b then listing_outcome (fault_at_
 pub unended_entries : (s : Store) (command : Command) → command.ended ≡ false → head_outcome s command (Ok Ownertrust) ≡ refuse UnendedBlock
 unended_entries s command ended = ap (λ b. if b then entries_outcome (ownertrust_fault (block_texts command.block)) s (block_texts command.block) else refuse UnendedBlock) ended
 
-pub begun_none : (s : Store) (words : List (List ℕ)) → length words ≡ 0 → outcome s (begun_command words) ≡ skip
+-- no command
+pub nothing_is : (s : Store) → outcome s (begun_command []) ≡ skip
 unfolding outcome
-begun_none s [] none = refl
-begun_none s (name ∷ words) none = cc
+nothing_is s = refl
 
 -- an ownertrust text that ends well has no fault
 pub no_fault : {E : Type 0} (f : Option (ℕ × OwnertrustFault)) (r : Result E TextError) (entries : E) → r ≡ Ok entries

@@ -1,3 +1,4 @@
 pub mod Block
+pub mod Begun
 pub mod Answer
 pub mod EditReply

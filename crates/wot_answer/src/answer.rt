@@ -1,11 +1,10 @@
-//! The answers to lines, to blocks at the input's end and to words.
+//! The answers to lines, to blocks at the input's end and to commands without one.
 
-ghost use Rattle.std.specs.Prelude.{◌≡◌, true, false, List, length, Some, if◌then◌else◌, IfOk};
+ghost use Rattle.std.specs.Prelude.{◌≡◌, false, ℕ, List, length, Some, if◌then◌else◌, IfOk};
 ghost use Rattle.std.specs.Option.{option_copied};
 ghost use Rattle.wot_types.specs.Commands as lines;
 ghost use Rattle.wot_types.specs.Commands.{Command, begun_command, closed_command, is_quit};
 ghost use Rattle.wot_types.specs.Commands.Division.{between, over};
-ghost use Rattle.wot_types.specs.Grammar.{has_block};
 ghost use Rattle.wot_types.specs.LineByLine.{Position};
 ghost use Rattle.wot_types.specs.Listing.{Line, fault_at_end};
 ghost use Rattle.wot_types.specs.Numbers.{capped};
@@ -15,22 +14,23 @@ ghost use Rattle.wot_types.specs.Store.{Store};
 ghost use Rattle.wot_listing.specs.Reading.{HasRead};
 ghost use Rattle.wot_ownertrust.specs.Reading.{reading_of};
 ghost use Rattle.wot_answer.specs.Answer.{Answers, Ends, IsDivision, reads_on};
+ghost use Rattle.wot_answer.specs.Begun.{IsSingle};
 ghost use Rattle.wot_answer.specs.Block.{IsBlockOf, IsReadFor};
 
+use crate::begun::{Begun, Single, read_command};
 use crate::block::{Block, Body};
 use crate::division::Division;
 use crate::edit::make_edit;
 use crate::edit_reply::EditReply;
 use crate::query::answer_query;
 use crate::reply::{Answer, refuse, say_nothing};
-use crate::words::{has_block, is_quit, line_words, without_return};
+use crate::words::{is_quit, line_words, without_return};
 use std::alloc::Global;
-use wot_commands::read_head;
 use wot_listing::{Blocks, Listing, ListingError};
 use wot_live::Engine;
 use wot_ownertrust::{OwnertrustText, TextError};
 use wot_print::{entries_line, import_line, ok_line};
-use wot_types::{Edit, Fpr, Head, Mem, Refusal, Words};
+use wot_types::{Edit, Fpr, Mem, Refusal, Words};
 
 /// The answer to a command, and the engine after it.
 #[derive(Drop)]
@@ -114,21 +114,23 @@ fn answer_text(
         → p.division ≡ between → Answers given p (Some line.now)) }
 {
     let words = line_words(alloc, without_return(line))?;
-    if has_block(&words) {
-        let block = Block {
-            to_end: false,
-            body: Body::begin(alloc, &words)?,
-        };
-        return Ok(LineAnswered {
+    match read_command(alloc, false, &words)? {
+        Begun::Nothing => Ok(LineAnswered {
+            answered: say_nothing(alloc, engine),
+            division: Division::Between,
+        }),
+        Begun::Block(block) => Ok(LineAnswered {
             answered: say_nothing(alloc, engine),
             division: Division::Within(block),
-        });
+        }),
+        Begun::Single(command) => {
+            let answered = answer_single(alloc, engine, end, records, command)?;
+            Ok(LineAnswered {
+                answered,
+                division: division_after(&words),
+            })
+        }
     }
-    let answered = answer_words(alloc, engine, end, records, &words)?;
-    Ok(LineAnswered {
-        answered,
-        division: division_after(&words),
-    })
 }
 
 /// An accepted `quit` ends the session.
@@ -226,30 +228,26 @@ fn set_entries(
     }
 }
 
-/// Answers a command by its words; its block, if it has one, is empty. The journal ends at `end`, and has so many records.
-pub fn answer_words(
+/// Answers a command without a block. The journal ends at `end`, and has so many records.
+pub fn answer_single(
     alloc: Global,
     engine: Engine,
     end: u64,
     records: u64,
-    words: &Words,
+    command: Single,
 ) -> Result<Answered, Mem>
-    ensures ends { IfOk result (λ answered. (s : Store) → engine ≡ s.state → end ≡ s.end → capped records ≡ capped (length s.edits)
-        → Ends answered s (outcome s (begun_command words.now))) }
+    requires known { (words : List (List ℕ)) × IsSingle command words }
+    ensures ends { IfOk result (λ answered. (s : Store) (words : List (List ℕ)) → engine ≡ s.state → end ≡ s.end → capped records ≡ capped (length s.edits)
+        → IsSingle command words → Ends answered s (outcome s (begun_command words))) }
 {
-    if words.is_empty() {
-        return Ok(say_nothing(alloc, engine));
-    }
-    match read_head(words) {
-        Ok(Head::Edit(edit)) => {
+    match command {
+        Single::Edit(edit) => {
             let reply = EditReply::to(alloc, &edit)?;
             make_edit(alloc, engine, end, edit, reply)
         }
-        Ok(Head::Query(query)) => answer_query(alloc, engine, records, query),
-        Ok(Head::DeleteKey(fpr)) => delete_key(alloc, engine, end, &fpr),
-        Ok(Head::Import) => import_listing(alloc, engine, end, Listing::new(alloc)?),
-        Ok(Head::Ownertrust) => set_entries(alloc, engine, end, OwnertrustText::new(alloc)),
-        Err(refusal) => refuse(alloc, engine, refusal),
+        Single::Query(query) => answer_query(alloc, engine, records, query),
+        Single::DeleteKey(fpr) => delete_key(alloc, engine, end, &fpr),
+        Single::Refused(refusal) => refuse(alloc, engine, refusal),
     }
 }
 
@@ -268,15 +266,4 @@ fn delete_key(alloc: Global, engine: Engine, end: u64, fpr: &Fpr) -> Result<Answ
         Edit::Delete(fpr.key_id()),
         EditReply::Text(reply),
     )
-}
-
-/// The block of a run of one command, which goes to the end of the input.
-pub fn begin_block(alloc: Global, words: &Words) -> Result<Block, Mem>
-    requires has_block { has_block words.now ≡ true }
-    ensures begun { IfOk result (λ block. IsBlockOf block (begun_command words.now)) }
-{
-    Ok(Block {
-        to_end: true,
-        body: Body::begin(alloc, words)?,
-    })
 }

@@ -1,18 +1,15 @@
 //! The block of a command, which is read as it comes.
 
-ghost use Rattle.std.specs.Prelude.{◌≡◌, ◌∷◌, [], ◌++◌, ◌&&◌, not, true, List, Result, Some, IfOk, OnOk};
+ghost use Rattle.std.specs.Prelude.{◌≡◌, ◌∷◌, [], ◌++◌, ◌&&◌, not, List, Result, Some, OnOk};
 ghost use Rattle.std.specs.Option.{option_copied};
 ghost use Rattle.wot_types.specs.declared.head.Head.{Head};
 ghost use Rattle.wot_types.specs.Commands.{Command, ReadLine, ends_block, with_line};
-ghost use Rattle.wot_types.specs.Grammar.{command_of, has_block};
 ghost use Rattle.wot_answer.specs.Block.{HasHad, IsBlockOf};
 
 use crate::words::{ends_block, without_return};
-use std::alloc::Global;
-use wot_commands::read_head;
 use wot_listing::{Listing, ListingError};
 use wot_ownertrust::OwnertrustText;
-use wot_types::{Head, Mem, Refusal, Words};
+use wot_types::{Mem, Refusal};
 
 /// A block that has not ended.
 #[derive(Drop)]
@@ -50,19 +47,6 @@ impl Block {
 }
 
 impl Body {
-    /// The block of the command that these words begin, before its first line.
-    pub fn begin(alloc: Global, words: &Words) -> Result<Body, Mem>
-        requires has_block { has_block words.now ≡ true }
-        ensures begun { IfOk result (λ body. HasHad body (command_of words.now) []) }
-    {
-        match read_head(words) {
-            Err(refusal) => Ok(Body::Refused(refusal)),
-            Ok(Head::Ownertrust) => Ok(Body::Ownertrust(OwnertrustText::new(alloc))),
-            Ok(Head::Import) => Ok(Body::Listing(Listing::new(alloc)?)),
-            Ok(Head::Edit(_) | Head::Query(_) | Head::DeleteKey(_)) => unreachable!(),
-        }
-    }
-
     /// Reads a line of the block; None is one that is too long.
     pub fn add_line(&mut self, line: Option<&[u8]>) -> Result<(), Mem>
         ensures fed { OnOk result ((head : Result Head Refusal) (lines : List ReadLine)

@@ -29,6 +29,7 @@ use Rattle.wot_answer.specs.Answer.{IsDivision}
 use Rattle.wot_answer.specs.Block.{IsBlockOf}
 use Rattle.wot_answer.specs.declared.division.Division.TheVariants.{Within}
 use Rattle.wot_answer.specs.declared.block.Block.{Block}
+use Rattle.wot_answer.proofs.Answering.{block_opens}
 use Rattle.wot_session.specs.SessionState.{Holds, IsOpened}
 use Rattle.wot_session.specs.Input as input
 use Rattle.wot_session.specs.Input.{HasQuit, IsFurther, IsOnTime, IsPunctual, IsRead, commands_at}
@@ -258,10 +259,6 @@ takes_one : (words : List (List ℕ)) → (words ≡ [] → ⊥) → has_block w
 takes_one [] some none = absurd (some refl)
 takes_one (name ∷ words) some none = none
 
-pub takes_block : (words : List (List ℕ)) → has_block words ≡ true → takes_input words ≡ true
-takes_block [] takes = refl
-takes_block (name ∷ words) takes = takes
-
 module _ (store : Store) (words : List (List ℕ)) (some : words ≡ [] → ⊥) (none : has_block words ≡ false) (y z : Seen) where
   pub one_ended : {place : Place} (most : ℕ) (refused : Bool) → refused ≡ (after_all (at_start store) (begun_command words ∷ [])).refused
       → IsStored place (after_all (at_start store) (begun_command words ∷ [])).store z.disks → Said (at_start store) (begun_command words ∷ []) y z → WordsEnded store words most refused y z
@@ -376,9 +373,16 @@ no_words [] none = refl
 no_words (name ∷ words) none = absurd (omega (arith, eqb-true (length (name ∷ words)) 0 none))
 
 -- the block of the one command
-pub first_block : (block : Block) (words : List (List ℕ)) → (words ≡ [] → ⊥) → IsBlockOf block (begun_command words) → IsDivision (Within block) (first_division words)
-first_block block [] some is = absurd (some refl)
-first_block block (name ∷ words) some is = is
+opens_block : (block : Block) (words : List (List ℕ)) → IsBlockOf block (begun_command words) → has_block words ≡ true
+opens_block block words of = block_opens block (begun_command words) words of refl
+
+pub first_block : (block : Block) (words : List (List ℕ)) → IsBlockOf block (begun_command words) → IsDivision (Within block) (first_division words)
+first_block block [] of = let none : false ≡ true = opens_block block [] of in cc
+first_block block (name ∷ words) of = of
+
+pub takes_block : (block : Block) (words : List (List ℕ)) → IsBlockOf block (begun_command words) → takes_input words ≡ true
+takes_block block [] of = refl
+takes_block block (name ∷ words) of = opens_block block (name ∷ words) of
 
 -- the store is bad
 pub bad_ran : (words : List (List ℕ)) (bad : BadStore) (a b : Option Seen) → Honestly a b (And Opening WritingBlank) → Honestly a b (FindsBad bad)

@@ -1,8 +1,10 @@
 //! A run over its opened store: a session over the input, or one command.
 
-ghost use Rattle.std.specs.Prelude.{◌≡◌, ◌<◌, ◌≤◌, ℕ, true, false, [], length, IfOk, IfErr};
-ghost use Rattle.wot_types.specs.Grammar.{has_block};
+ghost use Rattle.std.specs.Prelude.{ℕ, List, [], IfOk, IfErr};
+ghost use Rattle.wot_types.specs.Commands.{begun_command};
 ghost use Rattle.wot_types.specs.Store.{Store};
+ghost use Rattle.wot_answer.specs.Begun.{IsSingle};
+ghost use Rattle.wot_answer.specs.Block.{IsBlockOf};
 ghost use Rattle.wot_site.specs.Seen.{Honestly};
 ghost use Rattle.wot_session.specs.SessionState.{Holds, IsOpened};
 ghost use Rattle.wot_session.specs.Answering.{HasStopCause};
@@ -14,7 +16,7 @@ use crate::stop::Stop;
 use std::alloc::Global;
 use std::mem;
 use std::thread::Threads;
-use wot_answer::{Division, begin_block, has_block};
+use wot_answer::{Begun, Block, Division, Single, read_command};
 use wot_site::Site;
 use wot_store::Opened;
 use wot_types::{Mem, Words};
@@ -37,34 +39,34 @@ pub fn run_opened<R: Threads + Sync, S: Site, G: Gate + Sync>(
         → Honestly (S.seen site.old) (S.seen site.new) (WordsStopped store words.now most stop)) }
     ensures cause { HasStopCause (S.faults site.old) (S.faults site.new) result }
 {
-    if words.as_slice().is_empty() {
-        return run_lines(workers, alloc, opened, site, most);
+    match read_command(alloc, true, words) {
+        Ok(Begun::Nothing) => run_lines(workers, alloc, opened, site, most),
+        Ok(Begun::Block(block)) => run_block(workers, alloc, block, opened, site, most),
+        Ok(Begun::Single(command)) => run_command(workers, alloc, command, opened, site),
+        Err(Mem::Memory) => Err(Stop::Memory),
     }
-    if has_block(words) {
-        return run_block(workers, alloc, words, opened, site, most);
-    }
-    run_command(workers, alloc, words, opened, site)
 }
 
-/// Runs the one command that the words are, which takes no block: the input is not touched, whatever its bound.
+/// Runs one command that takes no block: the input is not touched, whatever its bound.
 fn run_command<R: Threads + Sync, S: Site, G: Gate + Sync>(
     workers: &Workers<'_, R, G>,
     alloc: Global,
-    words: &Words,
+    command: Single,
     opened: Opened,
     site: &mut S,
 ) -> Result<bool, Stop>
-    requires some { 0 < length words.now }
-    requires none { has_block words.now ≡ false }
+    requires command { (words : List (List ℕ)) × IsSingle command words }
     requires opened { (store : Store) × IsOpened opened store × Holds opened.place (S.seen site.old) store }
     ensures ended { IfOk result (λ refused. (store : Store) → IsOpened opened store → Holds opened.place (S.seen site.old) store
-        → (most : ℕ) → Honestly (S.seen site.old) (S.seen site.new) (WordsEnded store words.now most refused)) }
+        → (words : List (List ℕ)) → IsSingle command words
+        → (most : ℕ) → Honestly (S.seen site.old) (S.seen site.new) (WordsEnded store words most refused)) }
     ensures stopped { IfErr result (λ stop. (store : Store) → IsOpened opened store → Holds opened.place (S.seen site.old) store
-        → (most : ℕ) → Honestly (S.seen site.old) (S.seen site.new) (WordsStopped store words.now most stop)) }
+        → (words : List (List ℕ)) → IsSingle command words
+        → (most : ℕ) → Honestly (S.seen site.old) (S.seen site.new) (WordsStopped store words most stop)) }
     ensures cause { HasStopCause (S.faults site.old) (S.faults site.new) result }
 {
     let mut session = Session::new(alloc, opened, Division::Between);
-    let performed = session.perform_command(workers, site, words);
+    let performed = session.perform_command(workers, site, command);
     let refused = session.is_refused();
     leave(session);
     match performed {
@@ -73,28 +75,25 @@ fn run_command<R: Threads + Sync, S: Site, G: Gate + Sync>(
     }
 }
 
-/// Runs the one command that the words are, which takes the input as its block.
+/// Runs one command that takes the input as its block.
 fn run_block<R: Threads + Sync, S: Site, G: Gate + Sync>(
     workers: &Workers<'_, R, G>,
     alloc: Global,
-    words: &Words,
+    block: Block,
     opened: Opened,
     site: &mut S,
     most: u64,
 ) -> Result<bool, Stop>
-    requires some { 0 < length words.now }
-    requires block { has_block words.now ≡ true }
+    requires block { (words : List (List ℕ)) × IsBlockOf block (begun_command words) }
     requires opened { (store : Store) × IsOpened opened store × Holds opened.place (S.seen site.old) store }
     ensures ended { IfOk result (λ refused. (store : Store) → IsOpened opened store → Holds opened.place (S.seen site.old) store
-        → Honestly (S.seen site.old) (S.seen site.new) (WordsEnded store words.now most refused)) }
+        → (words : List (List ℕ)) → IsBlockOf block (begun_command words)
+        → Honestly (S.seen site.old) (S.seen site.new) (WordsEnded store words most refused)) }
     ensures stopped { IfErr result (λ stop. (store : Store) → IsOpened opened store → Holds opened.place (S.seen site.old) store
-        → Honestly (S.seen site.old) (S.seen site.new) (WordsStopped store words.now most stop)) }
+        → (words : List (List ℕ)) → IsBlockOf block (begun_command words)
+        → Honestly (S.seen site.old) (S.seen site.new) (WordsStopped store words most stop)) }
     ensures cause { HasStopCause (S.faults site.old) (S.faults site.new) result }
 {
-    let block = match begin_block(alloc, words) {
-        Ok(block) => block,
-        Err(Mem::Memory) => return Err(Stop::Memory),
-    };
     let mut session = Session::new(alloc, opened, Division::Within(block));
     let ended = run_session(workers, &mut session, site, most);
     leave(session);

@@ -6,6 +6,7 @@ ghost use Rattle.wot_types.specs.WellFormedState.{IsWellFormedState};
 ghost use Rattle.wot_types.specs.Commands.{Command, begun_command, made_by, unfinished_commands};
 ghost use Rattle.wot_types.specs.LineByLine.{Position, after_line, after_lines, closing_reply, commands_in, reply_to_line};
 ghost use Rattle.wot_types.specs.Session.{Progress, after_command, reply_to};
+ghost use Rattle.wot_answer.specs.Begun.{IsSingle};
 ghost use Rattle.wot_answer.specs.Block.{IsBlockOf};
 ghost use Rattle.wot_answer.specs.Answer.{IsAsked, IsDivision, answer_text, effect_of, is_err, is_refusal, reads_on};
 ghost use Rattle.wot_site.specs.Site.{Stays};
@@ -27,13 +28,13 @@ use std::alloc::Global;
 use std::mem;
 use std::thread::Threads;
 use wot_answer::{
-    Answer, Answered, Block, Division, Effect, LineAnswered, Reply, answer_end, answer_line,
-    answer_words,
+    Answer, Answered, Block, Division, Effect, LineAnswered, Reply, Single, answer_end,
+    answer_line, answer_single,
 };
 use wot_live::Engine;
 use wot_site::{Failed, Site};
 use wot_store::{Opened, Place};
-use wot_types::{Mem, Query, Words};
+use wot_types::{Mem, Query};
 use wot_workers::{Gate, Workers};
 
 /// A session over a site.
@@ -449,11 +450,11 @@ impl Session {
         self.answer_unfinished(workers, site)
     }
 
-    // Answers a run of one command that takes no block; the answer is to be given.
-    fn reply_to_words(&mut self, words: &Words) -> Result<Answer, Mem>
-        requires some { 0 < length words.now }
-        ensures due { IfOk result (λ answer. (p : Position) → IsAt self.old p
-            → IsDue self.new answer p.progress (record p { progress = after_command p.progress (begun_command words.now) }) (reply_to p.progress (begun_command words.now))) }
+    // Answers one command that takes no block; the answer is to be given.
+    fn reply_to_command(&mut self, command: Single) -> Result<Answer, Mem>
+        requires known { (words : List (List ℕ)) × IsSingle command words }
+        ensures due { IfOk result (λ answer. (p : Position) (words : List (List ℕ)) → IsAt self.old p → IsSingle command words
+            → IsDue self.new answer p.progress (record p { progress = after_command p.progress (begun_command words) }) (reply_to p.progress (begun_command words))) }
         ensures place { self.new.place ≡ self.old.place }
         ensures refused { self.new.refused ≡ self.old.refused }
     {
@@ -463,7 +464,7 @@ impl Session {
         let Some(engine) = self.engine.take() else {
             return Err(Mem::Memory);
         };
-        let answered = answer_words(self.alloc, engine, place.end, place.records, words)?;
+        let answered = answer_single(self.alloc, engine, place.end, place.records, command)?;
         Ok(self.keep(answered))
     }
 
@@ -472,16 +473,19 @@ impl Session {
         &mut self,
         workers: &Workers<'_, R, G>,
         site: &mut S,
-        words: &Words,
+        command: Single,
     ) -> Result<(), Stop>
-        requires some { 0 < length words.now }
+        requires known { (words : List (List ℕ)) × IsSingle command words }
         requires somewhere { IsSomewhere self.old (S.seen site.old) }
-        ensures at { OnOk result (MovesTo self.old (S.seen site.old) self.new (S.seen site.new) (λ p. record p { progress = after_command p.progress (begun_command words.now) })) }
-        ensures told { OnOk result (FromHere self.old (S.seen site.old) (S.seen site.new) (λ p. Said p.progress (begun_command words.now ∷ []))) }
-        ensures prefix { IfErr result (λ stop. FromHere self.old (S.seen site.old) (S.seen site.new) (λ p. SaidPrefix p.progress (begun_command words.now ∷ []) stop)) }
+        ensures at { OnOk result ((words : List (List ℕ)) → IsSingle command words
+            → MovesTo self.old (S.seen site.old) self.new (S.seen site.new) (λ p. record p { progress = after_command p.progress (begun_command words) })) }
+        ensures told { OnOk result ((words : List (List ℕ)) → IsSingle command words
+            → FromHere self.old (S.seen site.old) (S.seen site.new) (λ p. Said p.progress (begun_command words ∷ []))) }
+        ensures prefix { IfErr result (λ stop. (words : List (List ℕ)) → IsSingle command words
+            → FromHere self.old (S.seen site.old) (S.seen site.new) (λ p. SaidPrefix p.progress (begun_command words ∷ []) stop)) }
         ensures cause { StopsTelling (S.faults site.old) (S.faults site.new) result }
     {
-        let answer = match self.reply_to_words(words) {
+        let answer = match self.reply_to_command(command) {
             Ok(answer) => answer,
             Err(Mem::Memory) => return Err(Stop::Memory),
         };
