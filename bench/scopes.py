@@ -8,8 +8,8 @@ from measure import Failed, in_turn, megabytes, ran, session, shown, table, time
 from shapes import DATE, fingerprint, head, user, written
 
 ROUNDS, ROOT = 5, 1
-# bytes of a user ID that is made to be slow
-LONG = 60_000
+# bytes of user IDs that are made to be slow, and how many of them there are
+SLOW = {60_000: 50, 600: 5000}
 
 
 class Scopes(NamedTuple):
@@ -77,12 +77,12 @@ def counted(bench, keys, introducers):
         return in_turn(twice, rounds=ROUNDS)[0]
 
 
-def made_slow(count, scope):
-    """Keys whose user IDs are long and of two letters, by an introducer with this scope."""
+def made_slow(scope, length, count):
+    """Keys whose user IDs are of two letters and so long, by an introducer with this scope."""
     chance = random.Random(1)
     yield head(ROOT) + user("Root") + head(2) + user("Introducer") + sig(ROOT, "1 120", scope)
     for place in range(count):
-        yield head(3 + place) + user("".join(chance.choices("ab", k=LONG))) + sig(2)
+        yield head(3 + place) + user("".join(chance.choices("ab", k=length))) + sig(2)
 
 
 def part(bench):
@@ -93,9 +93,14 @@ def part(bench):
     took = {scope: counted(bench, chained(bench.keys, scope), CHAINS * LENGTH) for scope in ("", r"<[^>]+[@.]example\.org>$")}
     rows = [("no scopes", shown(took[""]), "1.0"), *(("each introducer with a domain", shown(one), times(one, took[""])) for scope, one in took.items() if scope)]
     table(f"The same under {CHAINS} chains of {LENGTH} introducers", ("scopes", "counted", "times those without"), rows)
+    for length, count in SLOW.items():
+        slow_imports(bench, length, count)
+
+
+def slow_imports(bench, length, count):
     rows = []
     for name, scope in {"the form of a domain": r"<[^>]+[@.]example\.org>$", **WORST}.items():
-        listing = written(bench.path("slow"), made_slow(50, scope))
+        listing = written(bench.path("slow"), made_slow(scope, length, count))
 
         def imported():
             return ran([bench.program, "import"], listing, bench.store("slowed", (["trust", fingerprint(ROOT), "u"], None)))
@@ -103,4 +108,4 @@ def part(bench):
         took, size = in_turn(imported, rounds=ROUNDS)[0], os.path.getsize(listing)
         rows.append((name, megabytes(size), shown(took), f"{took / size * 1e9:.1f} ns", took / size))
     columns = ("scope", "size", "import", "a byte", "times that of a domain")
-    table(f"Imports of 50 user IDs of {LONG:,} bytes", columns, [(*row[:4], times(row[4], rows[0][4])) for row in rows])
+    table(f"Imports of {count:,} user IDs of {length:,} bytes", columns, [(*row[:4], times(row[4], rows[0][4])) for row in rows])
