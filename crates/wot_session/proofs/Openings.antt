@@ -1,5 +1,5 @@
 -- The opening, and then the session.
-use Rattle.std.proofs.Common.{◌≡◌, ◌⊎◌, inl, inr, ℕ, Bool, true, false, List, [], ◌∷◌, ◌++◌, length, map, if◌then◌else◌, Option, Some, None, refl, sym, ap, ◌∙◌, subst, append_assoc, ◌==◌, arith}
+use Rattle.std.proofs.Common.{◌≡◌, ◌⊎◌, inl, inr, ℕ, Bool, true, false, List, [], ◌∷◌, ◌++◌, length, map, if◌then◌else◌, Option, Some, None, refl, sym, ap, ◌∙◌, subst, append_assoc, ◌==◌}
 use Rattle.std.specs.Prelude.{replicate}
 use Rattle.std.proofs.lemmas.List.{append-nil, length-replicate}
 use Rattle.std.proofs.lemmas.List.Elements.{All-append, All-nil, All-weaker}
@@ -24,7 +24,6 @@ use Rattle.wot_store.specs.Opening.{AreBlank, AreUnwritten, FindsBad, Keeps, Ope
 use Rattle.wot_store.specs.Shows.{IsStored, Shows, ShowsAs}
 use Rattle.wot_store.proofs.Unwritten.{unwritten_settled}
 use Rattle.wot_store.proofs.Unique.{shows_once}
-use Rattle.std.proofs.lemmas.Bool.{eqb-true}
 use Rattle.wot_answer.specs.Answer.{IsDivision}
 use Rattle.wot_answer.specs.Block.{IsBlockOf}
 use Rattle.wot_answer.specs.declared.division.Division.TheVariants.{Within}
@@ -367,10 +366,6 @@ stopped_ran words most DiskFault x z sound stopped = inr stopped
 stopped_ran words most (stops.BadStore bad) x z sound stopped = absurd sound
 stopped_ran words most Memory x z sound stopped = inr (inr stopped)
 stopped_ran words most TooLong x z sound stopped = stopped
-
-pub no_words : (words : List (List ℕ)) → (length words == 0) ≡ true → words ≡ []
-no_words [] none = refl
-no_words (name ∷ words) none = absurd (omega (arith, eqb-true (length (name ∷ words)) 0 none))
 
 -- the block of the one command
 opens_block : (block : Block) (words : List (List ℕ)) → IsBlockOf block (begun_command words) → has_block words ≡ true
