@@ -1,5 +1,5 @@
 -- What is known, with a class, a state or a move more.
-use Rattle.std.proofs.Common.{◌≡◌, ℕ, zero, suc, ◌<◌, ◌≤◌, ◌==◌, ◌⊎◌, inl, inr, Bool, true, false, ◌&&◌, List, [], ◌∷◌, ◌++◌, length, get_or, replicate, set, ◌≢◌, Option, None, Some, refl, sym, ap, ◌∙◌, subst, arith}
+use Rattle.std.proofs.Common.{◌≡◌, ◌+◌, ℕ, zero, suc, ◌<◌, ◌≤◌, ◌==◌, ◌⊎◌, inl, inr, Bool, true, false, ◌&&◌, List, [], ◌∷◌, ◌++◌, length, get_or, replicate, set, ◌≢◌, Option, None, Some, refl, sym, ap, ◌∙◌, subst, arith}
 use Rattle.std.proofs.lemmas.Bool.{cases_eq, cases_lt}
 use Rattle.std.proofs.lemmas.List.{get_or-set_other, get_or_append_left, get_or_at, get_or_default, length-append, length-set}
 use Rattle.std.proofs.lemmas.Grind.{get_or-set_at}
@@ -9,7 +9,7 @@ use Rattle.wot_types.specs.ExpressionMarks.{unmarked}
 use Rattle.wot_regex.specs.Following.{Holds, IsMasks, IsRow, Keeps, has, taking}
 use Rattle.wot_regex.specs.Knowing.{found_at}
 use Rattle.wot_regex.specs.Reaching.{marked, nowhere}
-use Rattle.wot_regex.specs.States.{IsKnown, IsMove, IsMoves, IsState, IsStates}
+use Rattle.wot_regex.specs.States.{AreFound, IsKnown, IsMove, IsMoves, IsState, IsStates}
 use Rattle.wot_regex.specs.Table.{nodes_of}
 use Rattle.wot_regex.specs.declared.followers.Row.{Row}
 use Rattle.wot_regex.specs.declared.known.Known.{Known}
@@ -169,6 +169,35 @@ new_state nodes state none row = record {
   at_end = λ cells found same holds e. let no : Some found ≡ None = sym e ∙ none in cc;
 }
 
+-- whether a match ends at each state
+
+-- noted behind them
+pub found_behind : (states : List State) (found : List Bool) (ends : Bool) → AreFound states found → AreFound states (set found (length states) ends)
+found_behind states found ends is = record {
+  room = length-set found (length states) ends ∙ is.room;
+  each = λ i d lt. get_or-set_other found (length states) i ends false (λ e. absurd (omega (arith, lt, e))) ∙ is.each i d lt;
+}
+
+found_at_last : (states : List State) (state : State) (found : List Bool) → AreFound states found → length states < 256 → (i : ℕ) (d : State) → i < length (states ++ state ∷ []) → (i < length states) ⊎ (length states ≤ i)
+    → get_or (set found (length states) state.row.found) i false ≡ (get_or (states ++ state ∷ []) i d).row.found
+found_at_last states state found is few i d lt (inl before) =
+    (found_behind states found state.row.found is).each i d before ∙ ap (λ (s : State). s.row.found) (sym (get_or_append_left states (state ∷ []) d i before))
+found_at_last states state found is few i d lt (inr behind) =
+    let last : length states ≡ i = omega (arith, length-append states (state ∷ [])) in
+    let there : length states < length found = omega (arith, is.room, few) in
+    get_or-set_at found (length states) i state.row.found false (sym last) there ∙ ap (λ (s : State). s.row.found) (sym (get_or_at states state [] d i last))
+
+pub found_more : (states : List State) (state : State) (found : List Bool) → AreFound states found → length states < 256 → AreFound (states ++ state ∷ []) (set found (length states) state.row.found)
+found_more states state found is few = record {
+  room = length-set found (length states) state.row.found ∙ is.room;
+  each = λ i d lt. found_at_last states state found is few i d lt (cases_lt i (length states));
+}
+
+pub first_found : (state : State) → AreFound (state ∷ []) (set (replicate 256 false) 0 state.row.found)
+first_found state =
+    let none : AreFound [] (replicate 256 false) = record { room = refl; each = λ i d lt. let no : ⊥ = omega arith in absurd no } in
+    found_more [] state (replicate 256 false) none (omega arith)
+
 abbrev value_of : Option Bool → Bool
 value_of None = false
 value_of (Some b) = b
@@ -225,8 +254,14 @@ module _ (nodes : List Node) (states : List State) (at : ℕ) (here : State) (fo
     each = λ i d less. told_each i d (omega (arith, less, told_length)) (cases_eq i at);
   }
 
-  pub moves_told : (sets : List Set) (moves : List (List ℕ)) → IsMoves sets states moves → IsMoves sets told_states moves
-  moves_told sets moves is_moves = record {
+  pub found_told : (ended : List Bool) → AreFound states ended → AreFound told_states ended
+  found_told ended is_found = record {
+    room = is_found.room;
+    each = λ i d less. is_found.each i d (omega (arith, less, told_length)) ∙ ap (λ (r : Row). r.found) (sym (told_row i d (cases_eq i at)));
+  }
+
+  pub moves_told : (sets : List Set) (first : ℕ) (moves : List (List ℕ)) → IsMoves sets states first moves → IsMoves sets told_states first moves
+  moves_told sets first moves is_moves = record {
     rows = omega (arith, is_moves.rows, told_length);
     class = is_moves.class;
     each = λ i k d h.
@@ -237,7 +272,7 @@ module _ (nodes : List Node) (states : List State) (at : ℕ) (here : State) (fo
           met = λ a e j less.
               ap (λ (s : Set). has s.words j) (told_marks to e (cases_eq to at))
               ∙ m.met a e j less
-              ∙ ap (λ (r : Row). has r.next.words j && has (get_or sets k d).words j) (sym (told_row i a (cases_eq i at)));
+              ∙ ap (λ (r : Row). has r.next.words j && has (get_or sets (first + k) d).words j) (sym (told_row i a (cases_eq i at)));
         };
   }
 
@@ -254,32 +289,38 @@ move_kept states states' from mask to keeps m = record {
 }
 
 -- of more sets and states
-pub moves_kept : (sets sets' : List Set) (states states' : List State) (moves : List (List ℕ)) → Keeps sets sets' → Keeps states states' → length states' ≤ length moves → IsMoves sets states moves → IsMoves sets' states' moves
-moves_kept sets sets' states states' moves of_sets of_states rows is = record {
+pub moves_kept : (sets sets' : List Set) (states states' : List State) (first : ℕ) (moves : List (List ℕ)) → Keeps sets sets' → Keeps states states' → length states' ≤ length moves → IsMoves sets states first moves → IsMoves sets' states' first moves
+moves_kept sets sets' states states' first moves of_sets of_states rows is = record {
   rows = rows;
   class = λ i k h. omega (arith, is.class i k h, of_sets.grown);
   each = λ i k d h.
       let P : Set → Type 0 = λ s. IsMove states' i s (get_or (get_or moves i []) k 0) in
-      subst P (sym (of_sets.same k d (is.class i k h))) (move_kept states states' i (get_or sets k d) (get_or (get_or moves i []) k 0) of_states (is.each i k d h));
+      subst P (sym (of_sets.same (first + k) d (is.class i k h))) (move_kept states states' i (get_or sets (first + k) d) (get_or (get_or moves i []) k 0) of_states (is.each i k d h));
 }
 
-same_moves : (moves : List (List ℕ)) (i k : ℕ) → get_or (get_or (moves ++ replicate 64 0 ∷ []) i []) k 0 ≡ get_or (get_or moves i []) k 0
-same_moves [] zero k = same_all {X = ℕ} 0 64 k
+same_moves : (moves : List (List ℕ)) (i k : ℕ) → get_or (get_or (moves ++ replicate 32 0 ∷ []) i []) k 0 ≡ get_or (get_or moves i []) k 0
+same_moves [] zero k = same_all {X = ℕ} 0 32 k
 same_moves [] (suc i) k = refl
 same_moves (m ∷ ms) zero k = refl
 same_moves (m ∷ ms) (suc i) k = same_moves ms i k
 
 -- a row of which none is known
-pub moves_more : (sets : List Set) (states : List State) (moves : List (List ℕ)) → IsMoves sets states moves → IsMoves sets states (moves ++ replicate 64 0 ∷ [])
-moves_more sets states moves is = record {
-  rows = omega (arith, is.rows, length-append moves (replicate 64 0 ∷ []));
+pub moves_more : (sets : List Set) (states : List State) (first : ℕ) (moves : List (List ℕ)) → IsMoves sets states first moves → IsMoves sets states first (moves ++ replicate 32 0 ∷ [])
+moves_more sets states first moves is = record {
+  rows = omega (arith, is.rows, length-append moves (replicate 32 0 ∷ []));
   class = λ i k h. is.class i k (let Q : ℕ → Type 0 = λ n. 0 < n in subst Q (same_moves moves i k) h);
   each = λ i k d h.
       let same = same_moves moves i k in
-      let P : ℕ → Type 0 = λ n. IsMove states i (get_or sets k d) n in
+      let P : ℕ → Type 0 = λ n. IsMove states i (get_or sets (first + k) d) n in
       let Q : ℕ → Type 0 = λ n. 0 < n in
       subst P (sym same) (is.each i k d (subst Q same h));
 }
+
+-- a state more, and with it a row of which none is known
+pub moves_of_more : (sets : List Set) (states : List State) (state : State) (first : ℕ) (moves : List (List ℕ)) → IsMoves sets states first moves → IsMoves sets (states ++ state ∷ []) first (moves ++ replicate 32 0 ∷ [])
+moves_of_more sets states state first moves is =
+    let room : length (states ++ state ∷ []) ≤ length (moves ++ replicate 32 0 ∷ []) = omega (arith, is.rows, length-append states (state ∷ []), length-append moves (replicate 32 0 ∷ [])) in
+    moves_kept sets sets states (states ++ state ∷ []) first (moves ++ replicate 32 0 ∷ []) (keeps_all sets) (keeps_more states state) room (moves_more sets states first moves is)
 
 -- what is known with more classes
 pub classes_known : (nodes : List Node) (known : Known) (masks : Masks) → IsKnown nodes known → IsMasks nodes masks → Keeps known.masks.sets.items masks.sets.items → IsKnown nodes (record known { masks = masks })
@@ -289,23 +330,25 @@ classes_known nodes known masks is new keeps = record {
   whole = is.whole;
   masks = new;
   states = is.states;
-  moves = moves_kept known.masks.sets.items masks.sets.items known.states.items known.states.items known.moves.items keeps (keeps_all known.states.items) is.moves.rows is.moves;
+  found = is.found;
+  moves = moves_kept known.masks.sets.items masks.sets.items known.states.items known.states.items 0 known.moves.items keeps (keeps_all known.states.items) is.moves.rows is.moves;
+  further = moves_kept known.masks.sets.items masks.sets.items known.states.items known.states.items 32 known.further.items keeps (keeps_all known.states.items) is.further.rows is.further;
   table = is.table;
 }
 
 -- the first row
-pub no_moves : (sets : List Set) (state : State) → IsMoves sets (state ∷ []) (replicate 64 0 ∷ [])
-no_moves sets state = record {
+pub no_moves : (sets : List Set) (state : State) (first : ℕ) → IsMoves sets (state ∷ []) first (replicate 32 0 ∷ [])
+no_moves sets state first = record {
   rows = omega arith;
   class = λ i k h. let no : ⊥ = omega (arith, h, same_moves [] i k) in absurd no;
   each = λ i k d h. let no : ⊥ = omega (arith, h, same_moves [] i k) in absurd no;
 }
 
 -- a move more
-module _ (sets : List Set) (states : List State) (moves : List (List ℕ)) (at : ℕ) (row : List ℕ) (class to : ℕ) (is : IsMoves sets states moves) (lt : at < length states) (within : class < length row) (there : class < length sets)
-    (here : row ≡ get_or moves at row) (move : 0 < to → (d : Set) → IsMove states at (get_or sets class d) to) where
+module _ (sets : List Set) (states : List State) (first : ℕ) (moves : List (List ℕ)) (at : ℕ) (row : List ℕ) (class to : ℕ) (is : IsMoves sets states first moves) (lt : at < length states) (within : class < length row) (there : first + class < length sets)
+    (here : row ≡ get_or moves at row) (move : 0 < to → (d : Set) → IsMove states at (get_or sets (first + class) d) to) where
   abbrev IsNoted : ℕ → ℕ → ℕ → Type 0
-  IsNoted i k n = 0 < n → (k < length sets) × ((d : Set) → IsMove states i (get_or sets k d) n)
+  IsNoted i k n = 0 < n → (first + k < length sets) × ((d : Set) → IsMove states i (get_or sets (first + k) d) n)
 
   at_row : at < length moves
   at_row = omega (arith, is.rows, lt)
@@ -329,7 +372,7 @@ module _ (sets : List Set) (states : List State) (moves : List (List ℕ)) (at :
       let P : List ℕ → Type 0 = λ r. IsNoted i k (get_or r k 0) in
       subst P (sym (get_or-set_other moves at i (set row class to) [] other)) (λ h. (is.class i k h, λ d. is.each i k d h))
 
-  pub move_noted : IsMoves sets states (set moves at (set row class to))
+  pub move_noted : IsMoves sets states first (set moves at (set row class to))
   move_noted = record {
     rows = omega (arith, is.rows, length-set moves at (set row class to));
     class = λ i k h. (noted_each i k (cases_eq i at) h).0;

@@ -1,5 +1,5 @@
 -- What is known of the states that texts come to: what comes next there, whether a match ends there, and where a byte leads.
-use Rattle.std.specs.Prelude.{◌≡◌, ℕ, ◌<◌, ◌≤◌, ◌==◌, Bool, true, List, [], length, get_or, replicate, Some, IfSome}
+use Rattle.std.specs.Prelude.{◌≡◌, ℕ, ◌<◌, ◌≤◌, ◌==◌, ◌+◌, Bool, true, false, List, [], length, get_or, replicate, Some, IfSome}
 use Rattle.wot_regex.specs.Following.{Holds, IsMasks, IsMeet, IsRow, IsRows, IsTable, taking}
 use Rattle.wot_regex.specs.Knowing.{found_at}
 use Rattle.wot_regex.specs.declared.known.Known.{Known}
@@ -20,6 +20,11 @@ pub record IsStates (nodes : List Node) (states : List State) : Type 0 where
   pub blank : (d : State) → (get_or states 0 d).marks.words ≡ replicate 8 0
   pub each : (i : ℕ) (d : State) → i < length states → IsState nodes (i == 0) (get_or states i d)
 
+-- whether a match ends at each state, inside a text
+pub record AreFound (states : List State) (found : List Bool) : Type 0 where
+  pub room : length found ≡ 256
+  pub each : (i : ℕ) (d : State) → i < length states → get_or found i false ≡ (get_or states i d).row.found
+
 -- the bytes that these symbols take lead from one state to another
 pub record IsMove (states : List State) (from : ℕ) (mask : Set) (to : ℕ) : Type 0 where
   pub from_one : from < length states
@@ -32,11 +37,11 @@ pub record Leads (nodes : List Node) (states : List State) (from b to : ℕ) : T
   pub takes : Holds mask.words (taking nodes b)
   pub move : IsMove states from mask to
 
--- each move that is noted of a class of bytes is right; one that is not known is noted as 0
-pub record IsMoves (sets : List Set) (states : List State) (moves : List (List ℕ)) : Type 0 where
+-- each move that is noted of a class of bytes, counted from one on, is right; one that is not known is noted as 0
+pub record IsMoves (sets : List Set) (states : List State) (first : ℕ) (moves : List (List ℕ)) : Type 0 where
   pub rows : length states ≤ length moves
-  pub class : (i k : ℕ) → 0 < get_or (get_or moves i []) k 0 → k < length sets
-  pub each : (i k : ℕ) (d : Set) → 0 < get_or (get_or moves i []) k 0 → IsMove states i (get_or sets k d) (get_or (get_or moves i []) k 0)
+  pub class : (i k : ℕ) → 0 < get_or (get_or moves i []) k 0 → first + k < length sets
+  pub each : (i k : ℕ) (d : Set) → 0 < get_or (get_or moves i []) k 0 → IsMove states i (get_or sets (first + k) d) (get_or (get_or moves i []) k 0)
 
 pub record IsKnown (nodes : List Node) (known : Known) : Type 0 where
   pub room : length nodes ≤ 512
@@ -44,5 +49,7 @@ pub record IsKnown (nodes : List Node) (known : Known) : Type 0 where
   pub whole : length known.rows.items ≡ length nodes
   pub masks : IsMasks nodes known.masks
   pub states : IsStates nodes known.states.items
-  pub moves : IsMoves known.masks.sets.items known.states.items known.moves.items
+  pub found : AreFound known.states.items known.found
+  pub moves : IsMoves known.masks.sets.items known.states.items 0 known.moves.items
+  pub further : IsMoves known.masks.sets.items known.states.items 32 known.further.items
   pub table : IfSome known.table (λ t. IsTable nodes t.items)

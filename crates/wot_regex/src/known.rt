@@ -9,7 +9,7 @@ ghost use Rattle.wot_types.specs.Expression.{Tree};
 ghost use Rattle.wot_regex.specs.Following.{Holds, Keeps};
 ghost use Rattle.wot_regex.specs.Knowing.{found_at};
 ghost use Rattle.wot_regex.specs.Searching.{Searching};
-ghost use Rattle.wot_regex.specs.States.{IsKnown, IsMove, Leads};
+ghost use Rattle.wot_regex.specs.States.{IsKnown, IsMove, IsMoves, Leads};
 ghost use Rattle.wot_regex.specs.Table.{nodes_of};
 ghost use Rattle.wot_regex.specs.declared.known.State.{State};
 ghost use Rattle.wot_regex.specs.declared.reach.Reach.{Reach};
@@ -28,8 +28,11 @@ use wot_types::Mem;
 /// So many states are kept; what a text comes to behind them is worked out anew.
 const MOST_STATES: usize = 256;
 
+/// Few expressions have more classes of bytes than these, whose moves stand by themselves: so those of two states share a line of a cache.
+const FEW: usize = 32;
+
 /// The moves by so many classes of bytes are kept.
-const CLASSES: usize = 64;
+const CLASSES: usize = 2 * FEW;
 
 /// The symbols that are marked at a place of a text, and what comes next.
 #[derive(Drop)]
@@ -51,7 +54,12 @@ pub struct Known {
     pub rows: Vec<Row>,
     pub masks: Masks,
     pub states: Vec<State>,
-    pub moves: Vec<[u8; CLASSES]>,
+    /// Whether a match ends at each of them inside a text, as its row says. A walk asks it at each byte, and here all of it takes few lines of a cache.
+    pub found: [bool; MOST_STATES],
+    /// By the first few classes.
+    pub moves: Vec<[u8; FEW]>,
+    /// By as many further ones.
+    pub further: Vec<[u8; FEW]>,
     /// What comes next by each way to mark eight places, once so many bytes were searched that it is worth its making.
     pub table: Option<Vec<Row>>,
     /// How many bytes were searched without it, counted anew whenever it could not be made.
@@ -74,17 +82,23 @@ impl Known {
             row: blank_row(nodes, free.as_slice(), true),
             found_at_end: None,
         };
+        let mut found = [false; MOST_STATES];
+        found[0] = start.row.found;
         let mut states = Vec::new(alloc);
         states.push(start)?;
         let mut moves = Vec::new(alloc);
-        moves.push([0; CLASSES])?;
+        moves.push([0; FEW])?;
+        let mut further = Vec::new(alloc);
+        further.push([0; FEW])?;
         Ok(Known {
             alloc,
             common: Common { first, steps },
             rows,
             masks: Masks::new(alloc),
             states,
+            found,
             moves,
+            further,
             table: None,
             searched: 0,
         })
@@ -124,7 +138,7 @@ impl Known {
     {
         let mut at = 0;
         for i in 0..text.len() {
-            if self.states[at].row.found {
+            if self.found[at] {
                 return true;
             }
             let next = self.next(nodes, at, text[i]);
@@ -218,14 +232,30 @@ impl Known {
         ensures kept { Keeps self.old.states.items self.new.states.items }
         ensures moves { 0 < result → (d : Set) → IsMove self.new.states.items at (get_or self.old.masks.sets.items class d) result }
     {
+        let noted = self.noted(at, class);
+        if noted != 0 {
+            return noted;
+        }
         if CLASSES <= class {
             return 0;
         }
-        let known = self.moves[at][class];
-        if known != 0 {
-            return known as usize;
-        }
         self.learn(nodes, at, class)
+    }
+
+    /// The state to which a class is known to lead; 0 where none is known.
+    fn noted(&self, at: usize, class: usize) -> usize
+        requires there { at < length self.now.states.items }
+        requires moves { IsMoves self.now.masks.sets.items self.now.states.items 0 self.now.moves.items }
+        requires further { IsMoves self.now.masks.sets.items self.now.states.items 32 self.now.further.items }
+        ensures moves { 0 < result → (d : Set) → IsMove self.now.states.items at (get_or self.now.masks.sets.items class d) result }
+    {
+        if class < FEW {
+            return self.moves[at][class] as usize;
+        }
+        if class < CLASSES {
+            return self.further[at][class - FEW] as usize;
+        }
+        0
     }
 
     /// Works out the state to which a class leads; 0 where there is no room for it.
@@ -282,7 +312,9 @@ impl Known {
     {
         let to = self.states.len();
         let row = row_from(&self.common, &self.rows, &marks);
-        self.moves.push([0; CLASSES])?;
+        self.moves.push([0; FEW])?;
+        self.further.push([0; FEW])?;
+        self.found[to] = row.found;
         self.states.push(State {
             marks,
             row,
@@ -303,6 +335,10 @@ impl Known {
         ensures masks { self.new.masks ≡ self.old.masks }
         ensures states { self.new.states ≡ self.old.states }
     {
-        self.moves[at][class] = to as u8;
+        if class < FEW {
+            self.moves[at][class] = to as u8;
+        } else {
+            self.further[at][class - FEW] = to as u8;
+        }
     }
 }

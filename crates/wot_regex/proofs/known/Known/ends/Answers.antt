@@ -4,7 +4,7 @@ use Rattle.wot_regex.specs.Following.{Holds}
 use Rattle.wot_regex.specs.Knowing.{found_at}
 use Rattle.wot_regex.specs.declared.known.State.{State}
 use Rattle.wot_regex.specs.declared.reach.Reach.{Reach}
-use Rattle.wot_regex.proofs.Knowns.{moves_told, states_told}
+use Rattle.wot_regex.proofs.Knowns.{found_told, moves_told, states_told}
 use Rattle.wot_regex.proofs.known.Known.ends.Goals as goal
 
 pub returns-clause-known : goal.returns-clause-known
@@ -22,7 +22,10 @@ returns-clause-known c =
       whole = known.whole;
       masks = known.masks;
       states = states_told nodes states c.args.at here c.ends-found.result known.states c.requires.there c.index_mut.ensures.value ends;
+      found = found_told nodes states c.args.at here c.ends-found.result known.states c.requires.there c.index_mut.ensures.value ends c.args.self.now.found known.found;
       moves =
-          moves_told nodes states c.args.at here c.ends-found.result known.states c.requires.there c.index_mut.ensures.value ends c.args.self.now.masks.sets.items c.args.self.now.moves.items known.moves;
+          moves_told nodes states c.args.at here c.ends-found.result known.states c.requires.there c.index_mut.ensures.value ends c.args.self.now.masks.sets.items 0 c.args.self.now.moves.items known.moves;
+      further =
+          moves_told nodes states c.args.at here c.ends-found.result known.states c.requires.there c.index_mut.ensures.value ends c.args.self.now.masks.sets.items 32 c.args.self.now.further.items known.further;
       table = known.table;
     }

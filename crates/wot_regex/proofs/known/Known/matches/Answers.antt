@@ -15,35 +15,35 @@ loop-i-init c = record {
   rest = λ tree d is. begun tree c.args.text.now c.args.nodes.now _ is (c.requires.known.states.blank d);
 }
 
-pub returns-then-index-clause-found : goal.returns-then-index-clause-found
-returns-then-index-clause-found c = λ tree is.
-    let d = c.index.result.now in
+pub returns-then-self-at-clause-found : goal.returns-then-self-at-clause-found
+returns-then-self-at-clause-found c = λ tree is.
     let nodes = c.args.nodes.now in
     let text = c.args.text.now in
     let i = c.loop-i.i in
     let at = c.loop-i.at in
     let invariant = c.loop-i.invariant in
+    let d = one_of c.loop-i.self.states.items at invariant.there in
     let state = get_or c.loop-i.self.states.items at d in
     let g = going_byte tree nodes (at == 0) state.marks.words text i (matches_in tree text) c.loop-i-test.true (invariant.rest tree d is) in
     going_ends tree nodes (at == 0) state.marks.words (drop (i + 1) text) (matches_in tree text) (get_or text i 0) state.row is g ((invariant.known.states.each at d invariant.there).row g.cells g.same g.holds)
-    (ap (λ (s : State). s.row.found) (sym c.index.ensures) ∙ c.if-index.true)
+    (sym (invariant.known.found.each at d invariant.there) ∙ c.if-self-at.true)
 
 pub returns-then-next-eq0-clause-found : goal.returns-then-next-eq0-clause-found
 returns-then-next-eq0-clause-found c = λ tree is.
-    let d = c.index.result.now in
     let nodes = c.args.nodes.now in
     let text = c.args.text.now in
     let i = c.loop-i.i in
     let at = c.loop-i.at in
     let found = matches_in tree text in
     let invariant = c.loop-i.invariant in
+    let d = one_of c.loop-i.self.states.items at invariant.there in
     let state = get_or c.loop-i.self.states.items at d in
     let kept = c.next-next.ensures.kept.same at d invariant.there in
     let g = going_byte tree nodes (at == 0) state.marks.words text i found c.loop-i-test.true (invariant.rest tree d is) in
     let P : State → Type 0 = λ s. Holds s.marks.words g.cells in
     let Q : List ℕ → Type 0 = λ x. Searching tree g.cells (at == 0) (get_or text i 0 ∷ x) found in
     let few : length (drop (i + 1) text) ≤ length text - (i + 1) = omega (arith, length-drop (i + 1) text) in
-    c.search_rest.ensures.found tree d g.cells found is g.same (subst P (sym kept) g.holds) (ap (λ (s : State). s.row.found) (kept ∙ sym c.index.ensures) ∙ c.if-index.false)
+    c.search_rest.ensures.found tree d g.cells found is g.same (subst P (sym kept) g.holds) (ap (λ (s : State). s.row.found) kept ∙ sym (invariant.known.found.each at d invariant.there) ∙ c.if-self-at.false)
     (subst Q (sym (take_all (length text - (i + 1)) (drop (i + 1) text) few)) g.searching)
 
 pub loop-i-preserved : goal.loop-i-preserved
@@ -56,11 +56,11 @@ loop-i-preserved c =
       known = c.next-next.ensures.known;
       there = led.move.to_one;
       rest = λ tree d is.
-          let e = c.index.result.now in
           let nodes = c.args.nodes.now in
           let text = c.args.text.now in
           let i = c.loop-i.i in
           let at = c.loop-i.at in
+          let e = one_of c.loop-i.self.states.items at invariant.there in
           let found = matches_in tree text in
           let state = get_or c.loop-i.self.states.items at e in
           let new = get_or c.next-next.new.self.states.items c.next-next.result d in
@@ -70,7 +70,7 @@ loop-i-preserved c =
           let P : Bool → Type 0 = λ b. Going tree nodes b new.marks.words (drop (i + 1) text) found in
           subst P (sym later)
           (going_on tree nodes (at == 0) state.marks.words new.marks.words led.mask.words (drop (i + 1) text) found (get_or text i 0) state.row c.requires.room is g ((invariant.known.states.each at e invariant.there).row g.cells g.same g.holds)
-          (ap (λ (s : State). s.row.found) (sym c.index.ensures) ∙ c.if-index.false) led.takes met);
+          (sym (invariant.known.found.each at e invariant.there) ∙ c.if-self-at.false) led.takes met);
     }
 
 pub returns-clause-found : goal.returns-clause-found
