@@ -8,8 +8,8 @@ use crate::answers::{Answers, WORTH_KEEPING};
 use crate::expr::read;
 use crate::matcher::Matcher;
 use crate::scope::admits;
-use crate::table::LONG;
 use std::alloc::Global;
+use std::hash::{FoldHasher, Hasher};
 use std::marker::Model;
 use wot_types::{Mem, Text};
 
@@ -120,13 +120,26 @@ impl Kept {
     }
 }
 
+/// A kept scope and its hash. A search among many compares hashes, which lie side by side, and scopes where these are the same.
+#[derive(Drop)]
+struct Filed {
+    hash: u64,
+    kept: Box<Kept>,
+}
+
+impl Filed {
+    fn is_before(&self, hash: u64, scope: &[u8]) -> bool {
+        self.hash < hash || self.hash == hash && self.kept.is_before(scope)
+    }
+}
+
 /// The scopes that were asked, each with what earlier texts came to under it. It is of one thread. What it keeps changes no answer, so callers see
 /// nothing of it.
 #[derive(Drop)]
 pub struct Asked {
     alloc: Global,
-    /// In the order of their scopes.
-    kept: Vec<Box<Kept>>,
+    /// In the order of their hashes, and of their scopes where these are the same.
+    filed: Vec<Filed>,
     /// About how many bytes they take.
     size: usize,
 }
@@ -141,7 +154,7 @@ impl Asked {
     pub fn new(alloc: Global) -> Asked {
         Asked {
             alloc,
-            kept: Vec::new(alloc),
+            filed: Vec::new(alloc),
             size: 0,
         }
     }
@@ -163,14 +176,11 @@ impl Asked {
         if let Some(found) = self.ask(scope.as_bytes(), text.as_bytes()) {
             return found;
         }
-        // For want of memory it is read anew for the next text.
         self.keep(scope.as_bytes()).ok();
-        // A long text is searched faster by what is kept.
-        if LONG <= text.as_bytes().len() {
-            if let Some(found) = self.ask(scope.as_bytes(), text.as_bytes()) {
-                return found;
-            }
+        if let Some(found) = self.ask(scope.as_bytes(), text.as_bytes()) {
+            return found;
         }
+        // For want of memory it is read for this text alone.
         admits(scope, text)
     }
 
@@ -178,8 +188,8 @@ impl Asked {
     fn ask(&mut self, scope: &[u8], text: &[u8]) -> Option<bool>
         ensures { IfSome result (λ found. found ≡ admits (Some scope.now) text.now) }
     {
-        let place = place_of(&self.kept, scope);
-        let kept = self.kept.get_mut(place)?;
+        let place = place_of(&self.filed, hash_of(scope), scope);
+        let kept = &mut self.filed.get_mut(place)?.kept;
         if !kept.is_of(scope) {
             return None;
         }
@@ -192,21 +202,28 @@ impl Asked {
     fn keep(&mut self, scope: &[u8]) -> Result<(), Mem> {
         let kept = Box::new(self.alloc, Kept::new(self.alloc, scope)?)?;
         let size = kept.size();
-        let place = place_of(&self.kept, scope);
-        self.kept.insert(place, kept)?;
+        let hash = hash_of(scope);
+        let place = place_of(&self.filed, hash, scope);
+        self.filed.insert(place, Filed { hash, kept })?;
         self.size = self.size.saturating_add(size);
         Ok(())
     }
 
     fn forget(&mut self) {
-        self.kept.clear();
+        self.filed.clear();
         self.size = 0;
     }
 }
 
-/// Where a scope is kept, or would be.
-fn place_of(kept: &[Box<Kept>], scope: &[u8]) -> usize
-    ensures { result ≤ length kept.now }
+/// Where a scope with this hash is kept, or would be.
+fn place_of(filed: &[Filed], hash: u64, scope: &[u8]) -> usize
+    ensures { result ≤ length filed.now }
 {
-    kept.partition_point(|kept: &Box<Kept>| kept.is_before(scope))
+    filed.partition_point(|filed: &Filed| filed.is_before(hash, scope))
+}
+
+fn hash_of(scope: &[u8]) -> u64 {
+    let mut hasher = FoldHasher::default();
+    hasher.write(scope);
+    hasher.finish()
 }
