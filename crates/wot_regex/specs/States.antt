@@ -37,7 +37,7 @@ pub record Leads (nodes : List Node) (states : List State) (from b to : ℕ) : T
   pub takes : Holds mask.words (taking nodes b)
   pub move : IsMove states from mask to
 
--- each move that is noted of a class of bytes, counted from one on, is right; one that is not known is noted as 0
+-- each move that is noted of a class of bytes, from this class on, is right; one that is not known is noted as 0
 pub record IsMoves (sets : List Set) (states : List State) (first : ℕ) (moves : List (List ℕ)) : Type 0 where
   pub rows : length states ≤ length moves
   pub class : (i k : ℕ) → 0 < get_or (get_or moves i []) k 0 → first + k < length sets
