@@ -1,8 +1,6 @@
 -- A listed key that isn't due at a level keeps its row there.
-use Rattle.std.proofs.Common.{◌≡◌, ◌+◌, ◌≤◌, ◌==◌, ◌&&◌, ◌||◌, ◌⊎◌, inl, inr, ℕ, zero, suc, Bool, true, false, cond, nat_lt, unwrap_or, List, [], ◌++◌, Option, Some, None, IfSome, refl, sym, ap, subst, ◌∙◌, arith}
+use Rattle.std.proofs.Common.{◌≡◌, ◌+◌, ◌≤◌, ◌==◌, ◌&&◌, ◌||◌, ◌⊎◌, inl, inr, ℕ, zero, suc, Bool, true, false, cond, nat_lt, List, [], ◌++◌, Option, Some, None, IfSome, refl, sym, ap, subst, ◌∙◌, arith}
 use Rattle.std.specs.FinMap as map
-use Rattle.std.specs.FinMap.{get-insert, get-remove}
-use Rattle.std.specs.Cmp.{nat_cmp_total}
 use Rattle.std.proofs.lemmas.Bool.{false≢true, or_cases}
 use Rattle.std.proofs.lemmas.Bool.Decides.{nat_tests}
 use Rattle.std.proofs.lemmas.List.Folds.{list_any-append}
@@ -14,10 +12,10 @@ use Rattle.wot_types.specs.Explanation.{KeySet}
 use Rattle.wot_types.specs.Indexes.{has_cert_by}
 use Rattle.wot_types.specs.Keyring.{Keyring}
 use Rattle.wot_types.specs.Levels.{rows_upto}
-use Rattle.wot_types.proofs.Tests.{is_key, same_key}
+use Rattle.wot_types.proofs.Tests.{is_key}
 use Rattle.wot_levels.specs.Given.{given_row}
 use Rattle.wot_levels.proofs.Frontiers.{passed_over}
-use Rattle.wot_live.specs.Agenda.{AgendaMap, AreDue, IsPutOff, IsIdle, IsWithin, due_at, is_due, is_one_below}
+use Rattle.wot_live.specs.Agenda.{AgendaLists, AreDue, HasAt, IsPutOff, IsIdle, IsWithin, due_at, is_due, is_one_below}
 use Rattle.wot_live.specs.Recounting.{IsGrownBy, IsRecounted, among, has_level, is_carried, is_via_of, kept_above, recounted}
 use Rattle.wot_live.proofs.BeforeLevels.{row_below, rows_before}
 use Rattle.wot_live.proofs.Befores.{high_goes, level_given, low_stays, lower_part, restricted}
@@ -77,7 +75,7 @@ module _ (t : State) (rows : RowMap) where
 -- ---- one level
 
 -- where all others keep their rows, a recount of those that are due is one of all listed keys
-pub all_recounted : (t : State) (n : ℕ) (moved : List ℕ) (rows : RowMap) (todo fresh : List ℕ) (agenda : AgendaMap) (new : RowMap) (more after : List ℕ)
+pub all_recounted : (t : State) (n : ℕ) (moved : List ℕ) (rows : RowMap) (todo fresh : List ℕ) (agenda : AgendaLists) (new : RowMap) (more after : List ℕ)
     → ((y : ℕ) → row_below n (map.get rows y) ≡ map.get (rows_before t n) y) → AreDue t.keys rows n todo agenda → IsWithin todo agenda
     → IsRecounted t n moved (due_at agenda n) rows todo fresh new more after → IsRecounted t n moved todo rows todo fresh new more after
 all_recounted t n moved rows todo fresh agenda new more after below due within pass = record {
@@ -113,24 +111,14 @@ all_recounted t n moved rows todo fresh agenda new more after below due within p
 
 -- ---- the keys of one level
 
-pub due_set : (agenda : AgendaMap) (n : ℕ) (ids : List ℕ) (m : ℕ) → due_at (map.insert agenda n ids) m ≡ cond (n == m) ids (due_at agenda m)
-due_set agenda n ids m =
-    ap (λ o. unwrap_or o []) (get-insert nat_cmp_total agenda n ids m ∙ ap (λ b. cond b (Some ids) (map.get agenda m)) (same_key m n))
-    ∙ elim (n == m) as (λ b. unwrap_or (cond b (Some ids) (map.get agenda m)) [] ≡ cond b ids (due_at agenda m)) [ true ↦ refl | false ↦ refl ]
-
-due_unset : (agenda : AgendaMap) (n m : ℕ) → due_at (map.remove agenda n) m ≡ cond (n == m) [] (due_at agenda m)
-due_unset agenda n m =
-    ap (λ o. unwrap_or o []) (get-remove nat_cmp_total agenda n m ∙ ap (λ b. cond b None (map.get agenda m)) (same_key m n))
-    ∙ elim (n == m) as (λ b. unwrap_or (cond b None (map.get agenda m)) [] ≡ cond b [] (due_at agenda m)) [ true ↦ refl | false ↦ refl ]
-
 -- keys in place of those that were taken off
-pub due_again : (agenda : AgendaMap) (n : ℕ) (ids : List ℕ) (m : ℕ) → due_at (map.insert (map.remove agenda n) n ids) m ≡ cond (n == m) ids (due_at agenda m)
-due_again agenda n ids m =
-    due_set (map.remove agenda n) n ids m ∙ ap (cond (n == m) ids) (due_unset agenda n m)
-    ∙ elim (n == m) as (λ b. cond b ids (cond b [] (due_at agenda m)) ≡ cond b ids (due_at agenda m)) [ true ↦ refl | false ↦ refl ]
+pub set_again : (old taken new : AgendaLists) (n : ℕ) (ids : List ℕ) → HasAt old n [] taken → HasAt taken n ids new → HasAt old n ids new
+set_again old taken new n ids off on m =
+    on m ∙ ap (cond (n == m) ids) (off m)
+    ∙ elim (n == m) as (λ b. cond b ids (cond b [] (due_at old m)) ≡ cond b ids (due_at old m)) [ true ↦ refl | false ↦ refl ]
 
-pub put_off_again : (agenda new : AgendaMap) (n : ℕ) (ids : List ℕ) → new ≡ map.insert (map.remove agenda n) n (due_at agenda n ++ ids) → IsPutOff (among ids) n agenda new
-put_off_again agenda new n ids is = record {
+pub put_off_again : (agenda new : AgendaLists) (n : ℕ) (ids : List ℕ) → HasAt agenda n (due_at agenda n ++ ids) new → IsPutOff (among ids) n agenda new
+put_off_again agenda new n ids at = record {
   grown = record {
     longer = (ids, here);
     all = λ x its. ap (λ xs. among xs x) here ∙ both x ∙ ap (λ b. is_due agenda n x || b) its ∙ or-true (is_due agenda n x);
@@ -139,9 +127,6 @@ put_off_again agenda new n ids is = record {
   others = λ m other. at m ∙ ap (λ b. cond b (due_at agenda n ++ ids) (due_at agenda m)) other;
 }
   where
-    at : (m : ℕ) → due_at new m ≡ cond (n == m) (due_at agenda n ++ ids) (due_at agenda m)
-    at m = ap (λ a. due_at a m) is ∙ due_again agenda n (due_at agenda n ++ ids) m
-
     itself : (n == n) ≡ true
     itself = grind (arith, nat_tests)
 
@@ -151,7 +136,7 @@ put_off_again agenda new n ids is = record {
     both : (x : ℕ) → among (due_at agenda n ++ ids) x ≡ (is_due agenda n x || among ids x)
     both x = list_any-append (λ id. id == x) (due_at agenda n) ids
 
-pub put_off_same : (set next : KeySet) (n : ℕ) (old new : AgendaMap) → ((x : ℕ) → set x ≡ next x) → IsPutOff set n old new → IsPutOff next n old new
+pub put_off_same : (set next : KeySet) (n : ℕ) (old new : AgendaLists) → ((x : ℕ) → set x ≡ next x) → IsPutOff set n old new → IsPutOff next n old new
 put_off_same set next n old new same put = record {
   grown = grown_same set next (due_at old n) (due_at new n) put.grown same;
   others = put.others;
@@ -159,27 +144,21 @@ put_off_same set next n old new same put = record {
 
 -- ---- the agenda behind a level
 
-due_without : (agenda : AgendaMap) (n m : ℕ) → (n == m) ≡ false → due_at (map.remove agenda n) m ≡ due_at agenda m
-due_without agenda n m other = due_unset agenda n m ∙ ap (λ b. cond b [] (due_at agenda m)) other
-
-none_left : (agenda : AgendaMap) (n : ℕ) → due_at (map.remove agenda n) n ≡ []
-none_left agenda n = due_unset agenda n n ∙ ap (λ b. cond b [] (due_at agenda n)) here
-  where
-    here : (n == n) ≡ true
-    here = grind (arith, nat_tests)
-
 later_not : (n m : ℕ) → n + 1 ≤ m → (n == m) ≡ false
 later_not n m h = grind (arith, nat_tests)
 
-pub due_behind : (keys : Keyring) (rows : RowMap) (n : ℕ) (ids : List ℕ) (agenda : AgendaMap) → AreDue keys rows n ids agenda → AreDue keys rows (n + 1) ids (map.remove agenda n)
-due_behind keys rows n ids agenda due m x later its out =
-    due m x (omega (arith, later)) its (ap (λ xs. among xs x) (sym (due_without agenda n m (later_not n m later))) ∙ out)
+module _ (n : ℕ) (ids : List ℕ) (agenda left : AgendaLists) (taken : HasAt agenda n [] left) where
+  taken_at : (m : ℕ) (b : Bool) → (n == m) ≡ b → due_at left m ≡ cond b [] (due_at agenda m)
+  taken_at m b is = taken m ∙ ap (λ b. cond b [] (due_at agenda m)) is
 
-pub within_behind : (ids : List ℕ) (n : ℕ) (agenda : AgendaMap) → IsWithin ids agenda → IsWithin ids (map.remove agenda n)
-within_behind ids n agenda within m x its = elim (n == m) as (λ b. (n == m) ≡ b → among ids x ≡ true) [
-  | true ↦ λ same. absurd (false≢true (ap (λ xs. among xs x) (sym (none_left agenda n)) ∙ ap (λ k. is_due (map.remove agenda n) k x) (is_key n m same) ∙ its))
-  | false ↦ λ other. within m x (ap (λ xs. among xs x) (sym (due_without agenda n m other)) ∙ its)
-] refl
+  pub due_behind : (keys : Keyring) (rows : RowMap) → AreDue keys rows n ids agenda → AreDue keys rows (n + 1) ids left
+  due_behind keys rows due m x later its out = due m x (omega (arith, later)) its (ap (λ xs. among xs x) (sym (taken_at m false (later_not n m later))) ∙ out)
+
+  pub within_behind : IsWithin ids agenda → IsWithin ids left
+  within_behind within m x its = elim (n == m) as (λ b. (n == m) ≡ b → among ids x ≡ true) [
+    | true ↦ λ same. absurd (false≢true (ap (λ xs. among xs x) (sym (taken_at m true same)) ∙ its))
+    | false ↦ λ other. within m x (ap (λ xs. among xs x) (sym (taken_at m false other)) ∙ its)
+  ] refl
 
 -- ---- the agenda behind a recount of one key
 
@@ -202,7 +181,7 @@ given_not_before : (n m : ℕ) (o : Option Row) → IsGiven n o → (n + 1 == m)
 given_not_before n m None is h = refl
 given_not_before n m (Some row) is h = grind (arith, nat_tests)
 
-pub due_same : (keys : Keyring) (old new : RowMap) (n : ℕ) (ids : List ℕ) (agenda : AgendaMap) → ((x : ℕ) → map.get new x ≡ map.get old x) → AreDue keys old n ids agenda → AreDue keys new n ids agenda
+pub due_same : (keys : Keyring) (old new : RowMap) (n : ℕ) (ids : List ℕ) (agenda : AgendaLists) → ((x : ℕ) → map.get new x ≡ map.get old x) → AreDue keys old n ids agenda → AreDue keys new n ids agenda
 due_same keys old new n ids agenda same due m x later its out =
     let quiet = due m x later its out in
     record {
@@ -211,7 +190,7 @@ due_same keys old new n ids agenda same due m x later its out =
       certifiers = λ y cert. ap (is_one_below m) (same y) ∙ quiet.certifiers y cert;
     }
 
-put_off_kept : (set : KeySet) (n : ℕ) (old new : AgendaMap) → IsPutOff set n old new → (m x : ℕ) → is_due old m x ≡ true → is_due new m x ≡ true
+put_off_kept : (set : KeySet) (n : ℕ) (old new : AgendaLists) → IsPutOff set n old new → (m x : ℕ) → is_due old m x ≡ true → is_due new m x ≡ true
 put_off_kept set n old new put m x its = elim (n == m) as (λ b. (n == m) ≡ b → is_due new m x ≡ true) [
   | true ↦ λ same. subst (λ k. is_due old k x ≡ true → is_due new k x ≡ true) (is_key n m same) here its
   | false ↦ λ other. ap (λ xs. among xs x) (put.others m other) ∙ its
@@ -258,7 +237,7 @@ module _ (t : State) (n id : ℕ) (old new : RowMap) (here : map.get new id ≡ 
       ]
 
   -- those that the key certified are due at the next level
-  pub due_after : (before after : AgendaMap) → IsPutOff (has_cert_by t.keys id) (n + 1) before after → (ids : List ℕ) → AreDue t.keys old (n + 1) ids before → AreDue t.keys new (n + 1) ids after
+  pub due_after : (before after : AgendaLists) → IsPutOff (has_cert_by t.keys id) (n + 1) before after → (ids : List ℕ) → AreDue t.keys old (n + 1) ids before → AreDue t.keys new (n + 1) ids after
   due_after before after put ids due m x later its out =
       let quiet = due m x later its (out_before (is_due before m x) (is_due after m x) (put_off_kept (has_cert_by t.keys id) (n + 1) before after put m x) out) in
       record {
@@ -276,7 +255,7 @@ module _ (t : State) (n id : ℕ) (old new : RowMap) (here : map.get new id ≡ 
         ] refl
       ] refl
 
-pub within_after : (set : KeySet) (n : ℕ) (todo more : List ℕ) (before after : AgendaMap) → IsGrownBy set todo more → IsPutOff set n before after → IsWithin todo before → IsWithin more after
+pub within_after : (set : KeySet) (n : ℕ) (todo more : List ℕ) (before after : AgendaLists) → IsGrownBy set todo more → IsPutOff set n before after → IsWithin todo before → IsWithin more after
 within_after set n todo more before after grown put within m x its = elim (n == m) as (λ b. (n == m) ≡ b → among more x ≡ true) [
   | true ↦ λ same. at_level (ap (λ k. is_due after k x) (is_key n m same) ∙ its)
   | false ↦ λ other. still (within m x (ap (λ xs. among xs x) (sym (put.others m other)) ∙ its))

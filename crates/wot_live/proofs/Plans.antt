@@ -1,8 +1,6 @@
 -- How the agenda comes to have the listed keys.
-use Rattle.std.proofs.Common.{◌≡◌, ◌+◌, ◌≤◌, ◌==◌, ◌||◌, ◌⊎◌, inl, inr, ℕ, zero, suc, true, false, cond, unwrap_or, List, [], ◌∷◌, ◌++◌, Option, Some, None, IfSome, Result, Ok, Err, IfOk, refl, sym, ap, subst, ◌∙◌, arith}
+use Rattle.std.proofs.Common.{◌≡◌, ◌+◌, ◌≤◌, ◌==◌, ◌||◌, ◌⊎◌, inl, inr, ℕ, zero, suc, true, false, cond, List, [], ◌∷◌, ◌++◌, Option, Some, None, IfSome, Result, Ok, Err, IfOk, refl, sym, ap, subst, ◌∙◌, arith}
 use Rattle.std.specs.FinMap as map
-use Rattle.std.specs.FinMap.{get-empty}
-use Rattle.std.specs.Ordering.{nat_cmp}
 use Rattle.std.proofs.lemmas.Bool.{false≢true, or_cases}
 use Rattle.std.proofs.lemmas.Bool.Decides.{nat_tests}
 use Rattle.std.proofs.lemmas.List.Folds.{list_any-append}
@@ -13,9 +11,9 @@ use Rattle.wot_types.specs.Indexes.{has_cert_by}
 use Rattle.wot_types.specs.Keyring.{Keyring}
 use Rattle.wot_types.proofs.Tests.{is_key}
 use Rattle.wot_levels.specs.Certifiers.{StandsAt, is_level_of}
-use Rattle.wot_live.specs.Agenda.{AgendaMap, AreDue, HasMoreOf, IsIdle, IsWithin, due_at, is_due, is_one_below, with_due}
+use Rattle.wot_live.specs.Agenda.{AgendaLists, AreDue, HasAt, HasMoreOf, IsIdle, IsWithin, due_at, is_due, is_one_below}
 use Rattle.wot_live.specs.Recounting.{among, has_level, ids_at}
-use Rattle.wot_live.proofs.Agendas.{due_set, out_before}
+use Rattle.wot_live.proofs.Agendas.{out_before}
 use Rattle.wot_live.proofs.Lists.{among_pushed}
 use Rattle.wot_live.proofs.Passes.{only_it}
 
@@ -24,14 +22,14 @@ itself n = grind (arith, nat_tests)
 
 -- ---- one key at one level
 
-module _ (old new : AgendaMap) (n id : ℕ) (is : (m : ℕ) → due_at new m ≡ due_at (with_due old n id) m) where
+module _ (old new : AgendaLists) (n id : ℕ) (is : HasAt old n (due_at old n ++ id ∷ []) new) where
   at_it : (x : ℕ) → is_due new n x ≡ (is_due old n x || (id == x))
   at_it x =
-      ap (λ xs. among xs x) (is n ∙ due_set old n (due_at old n ++ id ∷ []) n ∙ ap (λ b. cond b (due_at old n ++ id ∷ []) (due_at old n)) (itself n))
+      ap (λ xs. among xs x) (is n ∙ ap (λ b. cond b (due_at old n ++ id ∷ []) (due_at old n)) (itself n))
       ∙ among_pushed (due_at old n) id x
 
   at_other : (m x : ℕ) → (n == m) ≡ false → is_due new m x ≡ is_due old m x
-  at_other m x other = ap (λ xs. among xs x) (is m ∙ due_set old n (due_at old n ++ id ∷ []) m ∙ ap (λ b. cond b (due_at old n ++ id ∷ []) (due_at old m)) other)
+  at_other m x other = ap (λ xs. among xs x) (is m ∙ ap (λ b. cond b (due_at old n ++ id ∷ []) (due_at old m)) other)
 
   pub added_there : is_due new n id ≡ true
   added_there = at_it id ∙ ap (λ b. is_due old n id || b) (itself id) ∙ or-true (is_due old n id)
@@ -56,7 +54,7 @@ module _ (old new : AgendaMap) (n id : ℕ) (is : (m : ℕ) → due_at new m ≡
 
 -- ---- the levels at which a key is due
 
-module _ (keys : Keyring) (rows : RowMap) (n id : ℕ) (levels : List ℕ) (agenda : AgendaMap) (zeroth : n ≤ 0 → is_due agenda 0 id ≡ true) (first : n ≤ 1 → is_due agenda 1 id ≡ true)
+module _ (keys : Keyring) (rows : RowMap) (n id : ℕ) (levels : List ℕ) (agenda : AgendaLists) (zeroth : n ≤ 0 → is_due agenda 0 id ≡ true) (first : n ≤ 1 → is_due agenda 1 id ≡ true)
     (own : IfSome (map.get rows id) (λ row. n ≤ row.level → is_due agenda row.level id ≡ true))
     (certifiers : (y : ℕ) → has_cert_by keys y id ≡ true → StandsAt rows levels y)
     (behind : (l : ℕ) → is_level_of levels l ≡ true → n ≤ l + 1 → is_due agenda (l + 1) id ≡ true) where
@@ -96,7 +94,7 @@ module _ (keys : Keyring) (rows : RowMap) (n id : ℕ) (levels : List ℕ) (agen
       subst (λ k. is_due agenda m k ≡ false → IsIdle keys rows m k) same (quiet_if m later) out
 
 -- where its own row is due it still is with more keys on the agenda
-pub own_kept : (n id : ℕ) (ids : List ℕ) (old new : AgendaMap) → HasMoreOf ids old new → (o : Option Row)
+pub own_kept : (n id : ℕ) (ids : List ℕ) (old new : AgendaLists) → HasMoreOf ids old new → (o : Option Row)
     → IfSome o (λ row. n ≤ row.level → is_due old row.level id ≡ true) → IfSome o (λ row. n ≤ row.level → is_due new row.level id ≡ true)
 own_kept n id ids old new more None h = tt
 own_kept n id ids old new more (Some row) h = λ later. more.kept row.level id (h later)
@@ -105,16 +103,16 @@ pub both_of : {X E : Type 0} (r : Result X E) (P Q : X → Type 0) → IfOk r P 
 both_of (Ok x) P Q p q = (p, q)
 both_of (Err e) P Q p q = tt
 
-pub due_kept : (keys : Keyring) (rows : RowMap) (n : ℕ) (ids js : List ℕ) (old new : AgendaMap) → HasMoreOf js old new → AreDue keys rows n ids old → AreDue keys rows n ids new
+pub due_kept : (keys : Keyring) (rows : RowMap) (n : ℕ) (ids js : List ℕ) (old new : AgendaLists) → HasMoreOf js old new → AreDue keys rows n ids old → AreDue keys rows n ids new
 due_kept keys rows n ids js old new more due m x later its out = due m x later its (out_before (is_due old m x) (is_due new m x) (more.kept m x) out)
 
-pub due_both : (keys : Keyring) (rows : RowMap) (n : ℕ) (ids js : List ℕ) (agenda : AgendaMap) → AreDue keys rows n ids agenda → AreDue keys rows n js agenda → AreDue keys rows n (ids ++ js) agenda
+pub due_both : (keys : Keyring) (rows : RowMap) (n : ℕ) (ids js : List ℕ) (agenda : AgendaLists) → AreDue keys rows n ids agenda → AreDue keys rows n js agenda → AreDue keys rows n (ids ++ js) agenda
 due_both keys rows n ids js agenda first second m x later its out = elim (or_cases (among ids x) (among js x) (sym (list_any-append (λ id. id == x) ids js) ∙ its)) as (λ _. IsIdle keys rows m x) [
   | inl here ↦ first m x later here out
   | inr there ↦ second m x later there out
 ]
 
-pub due_none : (keys : Keyring) (rows : RowMap) (n : ℕ) (agenda : AgendaMap) → AreDue keys rows n [] agenda
+pub due_none : (keys : Keyring) (rows : RowMap) (n : ℕ) (agenda : AgendaLists) → AreDue keys rows n [] agenda
 due_none keys rows n agenda m x later its out = absurd (false≢true its)
 
 -- ---- the agenda of a list
@@ -127,11 +125,11 @@ at_place (y ∷ ids) zero x h = elim (or_cases (y == x) false h) as (λ _. ((y =
 ]
 at_place (y ∷ ids) (suc i) x h = ap (λ b. (y == x) || b) (at_place ids i x h) ∙ or-true (y == x)
 
-pub within_more : (todo : List ℕ) (i : ℕ) (old new : AgendaMap) → HasMoreOf (ids_at todo i) old new → IsWithin todo old → IsWithin todo new
+pub within_more : (todo : List ℕ) (i : ℕ) (old new : AgendaLists) → HasMoreOf (ids_at todo i) old new → IsWithin todo old → IsWithin todo new
 within_more todo i old new more within m x its = elim (more.only m x its) as (λ _. among todo x ≡ true) [
   | inl before ↦ within m x before
   | inr here ↦ at_place todo i x here
 ]
 
-pub within_none : (todo : List ℕ) → IsWithin todo map.empty
-within_none todo m x its = absurd (false≢true (ap (λ o. among (unwrap_or o []) x) (sym (get-empty nat_cmp m)) ∙ its))
+pub within_none : (todo : List ℕ) → IsWithin todo []
+within_none todo m x its = absurd (false≢true its)

@@ -1,5 +1,5 @@
 -- What a recount does to one row, by whether it is there and of which level it is.
-use Rattle.std.proofs.Common.{◌≡◌, ◌==◌, not, ℕ, true, false, cond, Option, Some, None, refl, sym, ap, ◌∙◌, arith}
+use Rattle.std.proofs.Common.{◌≡◌, ◌==◌, not, ℕ, Bool, true, false, cond, Option, Some, None, refl, sym, ap, ◌∙◌, arith}
 use Rattle.std.specs.FinMap as map
 use Rattle.std.specs.FinMap.{get-insert, get-remove}
 use Rattle.std.specs.Cmp.{nat_cmp_total}
@@ -38,20 +38,13 @@ module _ (rows : RowMap) (id : ℕ) where
       get-insert nat_cmp_total rows row.key row x
       ∙ ap (λ b. cond b (Some row) (map.get rows x)) (same_key x row.key ∙ ap (λ k. k == x) own ∙ other)
 
-  abbrev pub dropped : ℕ → RowMap
-  dropped n = cond (has_level n (map.get rows id)) (map.remove rows id) rows
+  pub drop_at : (own : Bool) → map.get (cond own (map.remove rows id) rows) id ≡ cond own None (map.get rows id)
+  drop_at true = get-remove nat_cmp_total rows id id ∙ ap (λ b. cond b None (map.get rows id)) (key_itself id)
+  drop_at false = refl
 
-  pub drop_at : (n : ℕ) → map.get (dropped n) id ≡ cond (has_level n (map.get rows id)) None (map.get rows id)
-  drop_at n = elim (has_level n (map.get rows id)) as (λ b. map.get (cond b (map.remove rows id) rows) id ≡ cond b None (map.get rows id)) [
-    | true ↦ get-remove nat_cmp_total rows id id ∙ ap (λ b. cond b None (map.get rows id)) (key_itself id)
-    | false ↦ refl
-  ]
-
-  pub drop_others : (n x : ℕ) → (id == x) ≡ false → map.get (dropped n) x ≡ map.get rows x
-  drop_others n x other = elim (has_level n (map.get rows id)) as (λ b. map.get (cond b (map.remove rows id) rows) x ≡ map.get rows x) [
-    | true ↦ get-remove nat_cmp_total rows id x ∙ ap (λ b. cond b None (map.get rows x)) (same_key x id ∙ other)
-    | false ↦ refl
-  ]
+  pub drop_others : (own : Bool) (x : ℕ) → (id == x) ≡ false → map.get (cond own (map.remove rows id) rows) x ≡ map.get rows x
+  drop_others true x other = get-remove nat_cmp_total rows id x ∙ ap (λ b. cond b None (map.get rows x)) (same_key x id ∙ other)
+  drop_others false x other = refl
 
 itself_same : (o : Option Row) → is_same_standing o o ≡ true
 itself_same None = refl

@@ -1,7 +1,6 @@
 -- At which levels a listed key is to be looked at.
-use Rattle.std.specs.Prelude.{◌≡◌, ◌≤◌, ◌⊎◌, ℕ, ◌+◌, ◌==◌, Bool, true, false, List, [], ◌∷◌, ◌++◌, Option, Some, None, unwrap_or}
+use Rattle.std.specs.Prelude.{◌≡◌, ◌≤◌, ◌⊎◌, ℕ, ◌+◌, ◌==◌, Bool, true, false, List, [], slice_get, if◌then◌else◌, Option, Some, None, unwrap_or}
 use Rattle.std.specs.FinMap as map
-use Rattle.std.specs.Ordering.{nat_cmp}
 use Rattle.wot_types.specs.declared.row.Row.{Row}
 use Rattle.wot_types.specs.Candidates.{RowMap}
 use Rattle.wot_types.specs.Explanation.{KeySet}
@@ -9,18 +8,19 @@ use Rattle.wot_types.specs.Indexes.{has_cert_by}
 use Rattle.wot_types.specs.Keyring.{Keyring}
 use Rattle.wot_live.specs.Recounting.{IsGrownBy, among, has_level}
 
--- the keys by the level at which they are due, in the order in which they came, and some more than once
-abbrev pub AgendaMap : Type 0
-AgendaMap = map.FinMap nat_cmp (List ℕ)
+-- the keys by the level at which they are due, from level 0 on, in the order in which they came, and some more than once
+abbrev pub AgendaLists : Type 0
+AgendaLists = List (List ℕ)
 
-abbrev pub due_at : AgendaMap → ℕ → List ℕ
-due_at agenda n = unwrap_or (map.get agenda n) []
+abbrev pub due_at : AgendaLists → ℕ → List ℕ
+due_at agenda n = unwrap_or (slice_get agenda n) []
 
-abbrev pub is_due : AgendaMap → ℕ → KeySet
+abbrev pub is_due : AgendaLists → ℕ → KeySet
 is_due agenda n = among (due_at agenda n)
 
-abbrev pub with_due : AgendaMap → ℕ → ℕ → AgendaMap
-with_due agenda n id = map.insert agenda n (due_at agenda n ++ id ∷ [])
+-- these keys are due at one level, and at each other those that were
+abbrev pub HasAt : AgendaLists → ℕ → List ℕ → AgendaLists → Type 0
+HasAt old n ids new = (m : ℕ) → due_at new m ≡ (if n == m then ids else due_at old m)
 
 -- a row of the level before, by which a key may get one at this level
 abbrev pub is_one_below : ℕ → Option Row → Bool
@@ -34,19 +34,19 @@ pub record IsIdle (keys : Keyring) (rows : RowMap) (n id : ℕ) : Type 0 where
   pub certifiers : (y : ℕ) → has_cert_by keys y id ≡ true → is_one_below n (map.get rows y) ≡ false
 
 -- from a level on these keys are due wherever their rows may change
-abbrev pub AreDue : Keyring → RowMap → ℕ → List ℕ → AgendaMap → Type 0
+abbrev pub AreDue : Keyring → RowMap → ℕ → List ℕ → AgendaLists → Type 0
 AreDue keys rows n ids agenda = (m x : ℕ) → n ≤ m → among ids x ≡ true → is_due agenda m x ≡ false → IsIdle keys rows m x
 
 -- none but these keys is due
-abbrev pub IsWithin : List ℕ → AgendaMap → Type 0
+abbrev pub IsWithin : List ℕ → AgendaLists → Type 0
 IsWithin ids agenda = (m x : ℕ) → is_due agenda m x ≡ true → among ids x ≡ true
 
 -- some keys came onto the agenda at one level
-pub record IsPutOff (set : KeySet) (n : ℕ) (old new : AgendaMap) : Type 0 where
+pub record IsPutOff (set : KeySet) (n : ℕ) (old new : AgendaLists) : Type 0 where
   pub grown : IsGrownBy set (due_at old n) (due_at new n)
   pub others : (m : ℕ) → (n == m) ≡ false → due_at new m ≡ due_at old m
 
 -- some keys came onto the agenda, at levels of which nothing is said
-pub record HasMoreOf (ids : List ℕ) (old new : AgendaMap) : Type 0 where
+pub record HasMoreOf (ids : List ℕ) (old new : AgendaLists) : Type 0 where
   pub kept : (m x : ℕ) → is_due old m x ≡ true → is_due new m x ≡ true
   pub only : (m x : ℕ) → is_due new m x ≡ true → (is_due old m x ≡ true) ⊎ (among ids x ≡ true)

@@ -1,33 +1,30 @@
 //! When each of the listed keys is to be looked at.
 
-ghost use Rattle.std.specs.Prelude.{◌≡◌, ◌≤◌, ◌+◌, ◌∷◌, ◌++◌, [], ℕ, true, IfOk};
-ghost use Rattle.std.specs.FinMap as finmap;
+ghost use Rattle.std.specs.Prelude.{◌≡◌, ◌≤◌, ◌<◌, ◌+◌, ◌++◌, ℕ, true, [], ◌∷◌, length, IfOk, OnOk};
 ghost use Rattle.wot_levels.specs.Certifiers.{is_level_of};
-ghost use Rattle.wot_live.specs.Agenda.{HasMoreOf, IsPutOff, due_at, is_due, with_due};
+ghost use Rattle.wot_live.specs.Agenda.{HasAt, HasMoreOf, IsPutOff, due_at, is_due};
 ghost use Rattle.wot_live.specs.Recounting.{among};
 
 use std::alloc::Global;
-use std::collections::BTreeMap;
 use std::marker::Model;
+use std::mem;
 use wot_types::{KeyId, List, Mem};
 
-/// Keys by the levels at which their rows may change. Levels are one wider than those of rows, for a level behind the last.
+/// Keys by the levels at which their rows may change, from level 0 on. Levels are one wider than those of rows, for a level behind the last.
 #[derive(Drop)]
 pub struct Agenda {
-    lists: BTreeMap<u16, List<KeyId>>,
+    lists: Vec<List<KeyId>>,
 }
 
 impl Model for Agenda {
     ghost use Rattle.std.specs.Prelude.{ℕ, List};
-    ghost use Rattle.std.specs.Ordering.{nat_cmp};
-    ghost use Rattle.std.specs.FinMap as map;
     ghost use Rattle.std.specs.Coded.{coded_ℕ, coded_list};
 
-    ghost Value = { map.FinMap nat_cmp (List ℕ) };
+    ghost Value = { List (List ℕ) };
 
-    ghost coded = { map.code coded_ℕ (coded_list coded_ℕ) };
+    ghost coded = { coded_list (coded_list coded_ℕ) };
 
-    ghost view = { λ a. map.from_entries a.lists.entries };
+    ghost view = { λ a. a.lists.items };
 }
 
 /// An agenda, and the keys that were taken off it.
@@ -40,20 +37,20 @@ pub struct Due {
 impl Agenda {
     /// With no key on it, which takes no memory.
     pub fn new(alloc: Global) -> Agenda
-        ensures { result ≡ finmap.empty }
+        ensures { result ≡ [] }
     {
         Agenda {
-            lists: BTreeMap::new(alloc),
+            lists: Vec::new(alloc),
         }
     }
 
     /// Takes the keys of a level off.
     pub fn take(self, alloc: Global, level: u16) -> Due
         ensures ids { result.ids ≡ due_at self level }
-        ensures agenda { result.agenda ≡ finmap.remove self level }
+        ensures agenda { HasAt self level [] result.agenda }
     {
         let Agenda { mut lists } = self;
-        let ids = lists.remove(&level).unwrap_or(List::new(alloc));
+        let ids = take_at(&mut lists, alloc, level as usize);
         Due {
             agenda: Agenda { lists },
             ids,
@@ -61,21 +58,23 @@ impl Agenda {
     }
 
     /// In place of the keys of a level.
-    fn set(self, level: u16, ids: List<KeyId>) -> Result<Agenda, Mem>
-        ensures { IfOk result (λ new. new ≡ finmap.insert self level ids) }
+    fn set(self, alloc: Global, level: u16, ids: List<KeyId>) -> Result<Agenda, Mem>
+        ensures { IfOk result (HasAt self level ids) }
     {
-        let Agenda { mut lists } = self;
-        lists.insert(level, ids)?;
+        let Agenda { lists } = self;
+        let mut lists = with_place(lists, alloc, level as usize)?;
+        put_at(&mut lists, level as usize, ids);
         Ok(Agenda { lists })
     }
 
     /// Puts a key on it at a level.
     pub fn add(self, alloc: Global, level: u16, id: KeyId) -> Result<Agenda, Mem>
-        ensures { IfOk result (λ new. (m : ℕ) → due_at new m ≡ due_at (with_due self level id) m) }
+        ensures { IfOk result (HasAt self level (due_at self level ++ id ∷ [])) }
     {
-        let Due { agenda, mut ids } = self.take(alloc, level);
-        ids.push(id)?;
-        agenda.set(level, ids)
+        let Agenda { lists } = self;
+        let mut lists = with_place(lists, alloc, level as usize)?;
+        push_at(&mut lists, level as usize, id)?;
+        Ok(Agenda { lists })
     }
 
     /// Puts these keys on it at a level.
@@ -83,7 +82,7 @@ impl Agenda {
         ensures { IfOk result (IsPutOff (among more.now) level self) }
     {
         let Due { agenda, ids } = self.take(alloc, level);
-        agenda.set(level, with_all(ids, more)?)
+        agenda.set(alloc, level, with_all(ids, more)?)
     }
 
     /// Puts a key on it at this level, unless that is below the first that is still to come.
@@ -122,4 +121,43 @@ fn with_all(ids: List<KeyId>, more: &[KeyId]) -> Result<List<KeyId>, Mem>
     let mut ids = ids.into_vec();
     ids.extend_from_slice(more)?;
     Ok(List::from_vec(ids))
+}
+
+/// With a list at a place, and at each before it.
+fn with_place(lists: Vec<List<KeyId>>, alloc: Global, place: usize) -> Result<Vec<List<KeyId>>, Mem>
+    ensures there { IfOk result (λ new. place < length new.items) }
+    ensures same { IfOk result (λ new. (m : ℕ) → due_at new.items m ≡ due_at lists.items m) }
+{
+    let mut lists = lists;
+    while lists.len() <= place {
+        lists.push(List::new(alloc))?;
+    }
+    Ok(lists)
+}
+
+/// Takes out the list at a place, if one is there.
+fn take_at(lists: &mut Vec<List<KeyId>>, alloc: Global, place: usize) -> List<KeyId>
+    ensures ids { result ≡ due_at lists.old.items place }
+    ensures left { HasAt lists.old.items place [] lists.new.items }
+{
+    match lists.get_mut(place) {
+        Some(ids) => mem::replace(ids, List::new(alloc)),
+        None => List::new(alloc),
+    }
+}
+
+/// In place of the list at a place.
+fn put_at(lists: &mut Vec<List<KeyId>>, place: usize, ids: List<KeyId>)
+    requires there { place < length lists.old.items }
+    ensures { HasAt lists.old.items place ids lists.new.items }
+{
+    lists[place] = ids;
+}
+
+/// Adds a key to the list at a place.
+fn push_at(lists: &mut Vec<List<KeyId>>, place: usize, id: KeyId) -> Result<(), Mem>
+    requires there { place < length lists.old.items }
+    ensures { OnOk result (HasAt lists.old.items place (due_at lists.old.items place ++ id ∷ []) lists.new.items) }
+{
+    lists[place].push(id)
 }

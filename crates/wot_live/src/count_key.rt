@@ -7,10 +7,11 @@ ghost use Rattle.wot_types.specs.Keyring.{certs_at, key_certs};
 ghost use Rattle.wot_live.specs.Counts.{AreCountedAt, key_counts};
 
 use crate::counts::Counts;
+use crate::key_counts::KeyCounts;
 use std::sync::ledger::Ledger;
 use wot_levels::{Asked, verdict_in};
 use wot_table::{Keyblock, LentState};
-use wot_types::{Count, KeyId, List, Mem, Rows, Steps};
+use wot_types::{KeyId, Mem, Rows, Steps};
 
 /// The candidates for each user ID of a key.
 pub fn counts_in<L: Ledger>(
@@ -19,14 +20,15 @@ pub fn counts_in<L: Ledger>(
     rows: &Rows,
     steps: &mut Steps<L>,
     asked: &mut Asked,
-) -> Result<List<Count>, Mem>
+) -> Result<KeyCounts, Mem>
     ensures counts { IfOk result (λ counts. counts ≡ key_counts state.now rows.now keyblock.now.1) }
     ensures ticks { steps.new ≤ steps.old + key_certs keyblock.now.1 }
 {
+    let alloc = state.table().alloc();
     let users = keyblock.key().users;
-    let mut counts = List::with_capacity(state.table().alloc(), users as usize)?;
+    let mut counts = KeyCounts::new(alloc);
     for user in 0..users {
-        counts.push(verdict_in(keyblock, state, rows, user, steps, asked))?;
+        counts = counts.push(alloc, verdict_in(keyblock, state, rows, user, steps, asked))?;
     }
     Ok(counts)
 }
@@ -38,7 +40,7 @@ pub fn counts_at<L: Ledger>(
     id: KeyId,
     steps: &mut Steps<L>,
     asked: &mut Asked,
-) -> Result<List<Count>, Mem>
+) -> Result<KeyCounts, Mem>
     ensures counts { (key : Key) → map.get state.now.keys id ≡ Some key → IfOk result (λ counts. counts ≡ key_counts state.now rows.now key) }
     ensures none { map.get state.now.keys id ≡ None → IfOk result (λ counts. counts ≡ []) }
     ensures ticks { steps.new ≤ steps.old + certs_at state.now.keys id }
@@ -46,7 +48,7 @@ pub fn counts_at<L: Ledger>(
     let table = state.table();
     match table.keyblock(id) {
         Some(keyblock) => counts_in(&keyblock, state, rows, steps, asked),
-        None => Ok(List::new(table.alloc())),
+        None => Ok(KeyCounts::new(table.alloc())),
     }
 }
 

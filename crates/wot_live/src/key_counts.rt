@@ -1,9 +1,11 @@
 //! The counts of one key as they are kept.
 
-ghost use Rattle.std.specs.Prelude.{◌≡◌};
+ghost use Rattle.std.specs.Prelude.{◌≡◌, ◌++◌, ◌∷◌, [], IfOk};
+ghost use Rattle.wot_live.specs.OneOrMany.{listed_counts};
 
+use std::alloc::Global;
 use std::marker::Model;
-use wot_types::{Count, List};
+use wot_types::{Count, List, Mem};
 
 /// That of a key with one user ID, as most keys are, stands where the key's entry does; those of any other are a list.
 #[derive(Debug, Drop)]
@@ -33,18 +35,24 @@ impl Model for KeyCounts {
 }
 
 impl KeyCounts {
-    /// These counts.
-    pub fn of(counts: List<Count>) -> KeyCounts
-        ensures { result ≡ counts }
+    /// No counts, which takes no memory.
+    pub fn new(alloc: Global) -> KeyCounts
+        ensures { result ≡ [] }
     {
-        if counts.len() != 1 {
-            return KeyCounts {
-                counts: OneOrMany::Many(counts),
-            };
-        }
         KeyCounts {
-            counts: OneOrMany::One([counts.as_slice()[0]]),
+            counts: OneOrMany::Many(List::new(alloc)),
         }
+    }
+
+    /// With the count of the next user ID.
+    pub fn push(self, alloc: Global, count: Count) -> Result<KeyCounts, Mem>
+        ensures { IfOk result (λ new. new ≡ self ++ count ∷ []) }
+    {
+        let counts = match self.counts {
+            OneOrMany::One(one) => OneOrMany::Many(listed(alloc, one.as_slice(), count)?),
+            OneOrMany::Many(counts) => pushed(counts, count)?,
+        };
+        Ok(KeyCounts { counts })
     }
 
     pub fn as_slice(&self) -> &[Count]
@@ -55,4 +63,26 @@ impl KeyCounts {
             OneOrMany::Many(counts) => counts.as_slice(),
         }
     }
+}
+
+/// A list of these counts and one more.
+fn listed(alloc: Global, counts: &[Count], count: Count) -> Result<List<Count>, Mem>
+    ensures { IfOk result (λ new. new ≡ counts.now ++ count ∷ []) }
+{
+    let mut all = Vec::new(alloc);
+    all.extend_from_slice(counts)?;
+    all.push(count)?;
+    Ok(List::from_vec(all))
+}
+
+/// These counts and one more, which stands alone where there are none.
+fn pushed(counts: List<Count>, count: Count) -> Result<OneOrMany, Mem>
+    ensures { IfOk result (λ new. listed_counts new ≡ counts ++ count ∷ []) }
+{
+    if counts.is_empty() {
+        return Ok(OneOrMany::One([count]));
+    }
+    let mut counts = counts;
+    counts.push(count)?;
+    Ok(OneOrMany::Many(counts))
 }

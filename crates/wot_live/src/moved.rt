@@ -1,12 +1,13 @@
 //! The keys whose chains changed.
 
 ghost use Rattle.std.specs.Prelude.{◌≡◌, ◌||◌, ◌==◌, ℕ, [], IfOk};
+ghost use Rattle.std.specs.FinMap as map;
 ghost use Rattle.std.specs.Option.{option_copied};
 ghost use Rattle.wot_live.specs.Recounting.{among, is_carried, is_via_of};
 
 use crate::worklist::Worklist;
 use std::alloc::Global;
-use wot_types::{KeyId, Mem, Row};
+use wot_types::{KeyId, Mem, Row, Rows};
 
 /// Keys whose chains are others than before the edit, those of levels that are done and those of the level at hand.
 #[derive(Drop)]
@@ -27,11 +28,11 @@ impl Moved {
         }
     }
 
-    /// Whether the chain of a key with this row changes at a level: the row changed, or the chain above it did.
-    pub fn moves(&self, changed: bool, row: Option<&Row>, level: u8) -> bool
-        ensures { result ≡ (changed || is_carried self.now.before level (option_copied row.entry)) }
+    /// Whether a key's chain changes at a level: its row changed, or the chain above it did. The row is looked up where some chain changed before.
+    pub fn moves(&self, changed: bool, rows: &Rows, id: KeyId, level: u8) -> bool
+        ensures { result ≡ (changed || is_carried self.now.before level (map.get rows.now id)) }
     {
-        changed || self.carries(row, level)
+        changed || self.before.len() != 0 && self.carries(rows.get(id), level)
     }
 
     /// Whether a row is of this level, and was delegated to by a key whose chain changed at a level before.

@@ -1,12 +1,11 @@
 //! One key's row, recounted at a level.
 
-ghost use Rattle.std.specs.Prelude.{◌≡◌, ◌≤◌, ◌+◌, ◌==◌, ℕ, false, not, Some, IfOk, IfSome, if◌then◌else◌};
+ghost use Rattle.std.specs.Prelude.{◌≡◌, ◌≤◌, ◌+◌, ◌==◌, ℕ, false, not, Some, IfOk, if◌then◌else◌};
 ghost use Rattle.std.specs.FinMap as map;
 ghost use Rattle.wot_types.specs.Keyring.{certs_at};
-ghost use Rattle.wot_types.specs.Rows.{with_row};
 ghost use Rattle.wot_types.specs.Touched.{is_same_standing};
 ghost use Rattle.wot_levels.specs.Given.{given_row};
-ghost use Rattle.wot_live.specs.Recounting.{has_level, is_lower, recounted};
+ghost use Rattle.wot_live.specs.Recounting.{recounted};
 
 use crate::same_row::{has_level, is_lower, is_the_row};
 use std::sync::ledger::Ledger;
@@ -21,47 +20,34 @@ pub struct ChangedRow {
     pub changed: bool,
 }
 
+/// With this row in place of the key's. Where it is there already, nothing is put.
 fn put_row(rows: Rows, row: Row) -> Result<ChangedRow, Mem>
-    ensures { IfOk result (λ new. new ≡ record { rows = with_row rows row; changed = not (is_same_standing (map.get rows row.key) (Some row)) }) }
+    ensures row { IfOk result (λ new. map.get new.rows row.key ≡ Some row) }
+    ensures others { IfOk result (λ new. (x : ℕ) → (row.key == x) ≡ false → map.get new.rows x ≡ map.get rows x) }
+    ensures changed { IfOk result (λ new. new.changed ≡ not (is_same_standing (map.get rows row.key) (Some row))) }
 {
-    let changed = !is_the_row(rows.get(row.key), &row);
+    if is_the_row(rows.get(row.key), &row) {
+        return Ok(ChangedRow {
+            rows,
+            changed: false,
+        });
+    }
     Ok(ChangedRow {
         rows: rows.insert(row)?,
-        changed,
+        changed: true,
     })
 }
 
-/// Without a row of this level, where the key has one.
-fn drop_row(rows: Rows, id: KeyId, level: u8) -> ChangedRow
-    ensures rows { result.rows ≡ (if has_level level (map.get rows id) then map.remove rows id else rows) }
-    ensures changed { result.changed ≡ has_level level (map.get rows id) }
+/// Without the row of a key that has its own of the level at hand.
+fn drop_row(rows: Rows, id: KeyId, own: bool) -> ChangedRow
+    ensures rows { result.rows ≡ (if own then map.remove rows id else rows) }
+    ensures changed { result.changed ≡ own }
 {
     let mut rows = rows;
-    if !has_level(rows.get(id), level) {
-        return ChangedRow {
-            rows,
-            changed: false,
-        };
+    if own {
+        rows.remove(id);
     }
-    rows.remove(id);
-    ChangedRow {
-        rows,
-        changed: true,
-    }
-}
-
-/// What a level gave a key takes the place of its row, which isn't of a lower level.
-fn replace_row(rows: Rows, id: KeyId, level: u8, row: Option<Row>) -> Result<ChangedRow, Mem>
-    requires own { IfSome row (λ r. r.key ≡ id) }
-    requires due { is_lower level (map.get rows id) ≡ false }
-    ensures row { IfOk result (λ new. map.get new.rows id ≡ recounted level (map.get rows id) row) }
-    ensures others { IfOk result (λ new. (x : ℕ) → (id == x) ≡ false → map.get new.rows x ≡ map.get rows x) }
-    ensures changed { IfOk result (λ new. new.changed ≡ not (is_same_standing (map.get rows id) (map.get new.rows id))) }
-{
-    match row {
-        Some(row) => put_row(rows, row),
-        None => Ok(drop_row(rows, id, level)),
-    }
+    ChangedRow { rows, changed: own }
 }
 
 /// What a level gives a key takes the place of its row, unless that is of a lower level.
@@ -79,12 +65,16 @@ pub fn recount_row<L: Ledger>(
     ensures ticks { steps.new ≤ steps.old + certs_at state.now.keys id }
     ensures unread { level ≡ 0 → steps.new ≡ steps.old }
 {
-    if is_lower(rows.get(id), level) {
+    let kept = rows.get(id);
+    if is_lower(kept, level) {
         return Ok(ChangedRow {
             rows,
             changed: false,
         });
     }
-    let row = given_row(state, &rows, id, level, steps, asked)?;
-    replace_row(rows, id, level, row)
+    let own = has_level(kept, level);
+    match given_row(state, &rows, id, level, steps, asked)? {
+        Some(row) => put_row(rows, row),
+        None => Ok(drop_row(rows, id, own)),
+    }
 }

@@ -53,7 +53,7 @@ fn recount_key<L: Ledger>(
         moved,
     } = course;
     let new = recount_row(state, rows, id, level, steps, asked)?;
-    let changed = moved.moves(new.changed, new.rows.get(id), level);
+    let changed = moved.moves(new.changed, &new.rows, id, level);
     let course = Course {
         rows: new.rows,
         todo,

@@ -11,7 +11,7 @@ pub loop-user-init : goal.loop-user-init
 loop-user-init g c =
     let key = c.args.keyblock.now.1 in
     record {
-      counts = ap (λ xs. xs ++ map (spot_count c.args.state.now c.args.rows.now) (spots_from 0 key.users)) c.in_ok-counts.ensures;
+      counts = ap (λ xs. xs ++ map (spot_count c.args.state.now c.args.rows.now) (spots_from 0 key.users)) c.new-counts.ensures;
       ticks = let all = spot_certs 0 key.users in omega (arith, all);
     }
 
@@ -36,7 +36,7 @@ loop-user-preserved g c =
     let at = at_place spots i (omega (arith, c.loop-user-test.true, many, users)) in
     record {
       counts =
-          ap (λ xs. xs ++ map f (drop (i + 1) spots)) (c.in_ok-push.ensures.ok ∙ ap (λ y. old ++ y ∷ []) (c.verdict_in.ensures.count at.0 at.1))
+          ap (λ xs. xs ++ map f (drop (i + 1) spots)) (c.in_ok-counts.ensures ∙ ap (λ y. old ++ y ∷ []) (c.verdict_in.ensures.count at.0 at.1))
           ∙ append_assoc old (f at.0 ∷ []) (map f (drop (i + 1) spots))
           ∙ ap (λ xs. old ++ map f xs) (sym at.2) ∙ c.loop-user.invariant.counts;
       ticks =
@@ -46,8 +46,8 @@ loop-user-preserved g c =
           omega (arith, one, step, sofar);
     }
 
-pub returns-in_err-push-clause-ticks : goal.returns-in_err-push-clause-ticks
-returns-in_err-push-clause-ticks g c =
+pub returns-in_err-counts-clause-ticks : goal.returns-in_err-counts-clause-ticks
+returns-in_err-counts-clause-ticks g c =
     let key = c.args.keyblock.now.1 in
     let i = c.loop-user.user in
     let spots = spots_from 0 key.users in

@@ -1,4 +1,4 @@
-use Rattle.std.proofs.Common.{◌≡◌, ◌≢◌, ◌+◌, ◌==◌, ◌||◌, ◌⊎◌, inl, inr, ◌∷◌, [], not, ℕ, Bool, true, false, List, Option, IfOk, refl, sym, subst, ◌∙◌}
+use Rattle.std.proofs.Common.{◌≡◌, ◌≢◌, ◌+◌, ◌==◌, ◌||◌, ◌⊎◌, inl, inr, ◌∷◌, [], not, ℕ, Bool, true, false, List, Option, IfOk, refl, sym, ap, subst, ◌∙◌}
 use Rattle.std.specs.FinMap as map
 use Rattle.std.specs.declared.result.Result.{Result}
 use Rattle.wot_types.specs.declared.mem.Mem.{Mem}
@@ -10,7 +10,7 @@ use Rattle.wot_types.specs.Keyring.{Keyring}
 use Rattle.wot_types.specs.Touched.{is_same_standing}
 use Rattle.wot_levels.specs.Given.{given_row}
 use Rattle.wot_live.specs.declared.planning.Course.{Course}
-use Rattle.wot_live.specs.Agenda.{AgendaMap, AreDue, IsPutOff}
+use Rattle.wot_live.specs.Agenda.{AgendaLists, AreDue, IsPutOff}
 use Rattle.wot_live.specs.Recounting.{IsGrownBy, IsRecounted, among, is_carried, recounted}
 use Rattle.wot_live.proofs.Agendas.{due_after, due_same, within_after}
 use Rattle.wot_live.proofs.Passes.{all_same, changed_step, unchanged_step}
@@ -43,7 +43,7 @@ module _ (t : State) (n id : ℕ) (keys : Keyring) (are : keys ≡ t.keys) (old 
       (changed_step t n id moved old rows todo fresh here others new.todo new.moved.here why (subst (λ keys. IsGrownBy (has_cert_by keys id) todo new.todo) are both.1) marked))
       (both_of r (λ new. new.rows ≡ rows) (λ new. IsGrownBy (has_cert_by keys id) todo new.todo) same grown) in_here
 
-  due : (agenda : AgendaMap) → IfOk r (λ new. IsPutOff (has_cert_by keys id) (n + 1) agenda new.agenda)
+  due : (agenda : AgendaLists) → IfOk r (λ new. IsPutOff (has_cert_by keys id) (n + 1) agenda new.agenda)
       → IfOk r (λ new. (ids : List ℕ) → AreDue t.keys old (n + 1) ids agenda → AreDue t.keys new.rows (n + 1) ids new.agenda)
   due agenda put = both_then r (λ new is more ids due. subst (λ rows. AreDue t.keys rows (n + 1) ids new.agenda) (sym is)
       (due_after t n id old rows here others agenda new.agenda (subst (λ keys. IsPutOff (has_cert_by keys id) (n + 1) agenda new.agenda) are more) ids due)) same put
@@ -53,13 +53,13 @@ returns-then-not-changed-clause-step g c =
     let t = c.args.state.now in
     let new = c.in_ok-new.new.rows in
     let before = c.args.course.moved.before in
-    let told = c.moves-changed.ensures ∙ (λ i. c.in_ok-new.ensures.changed i || is_carried before c.args.level (c.get.ensures.found i)) in
+    let told = c.moves-changed.ensures ∙ ap (λ b. b || is_carried before c.args.level (map.get c.in_ok-new.new.rows c.args.id)) c.in_ok-new.ensures.changed in
     let none = neither _ _ _ told c.if-not-changed.true in
     unchanged_step t c.args.level c.args.id before c.args.course.rows new c.args.course.todo c.args.course.moved.here c.in_ok-new.ensures.row c.in_ok-new.ensures.others none.0 none.1
 
 pub returns-then-not-changed-clause-due : goal.returns-then-not-changed-clause-due
 returns-then-not-changed-clause-due g c = λ ids due.
-    let told = c.moves-changed.ensures ∙ (λ i. c.in_ok-new.ensures.changed i || is_carried c.args.course.moved.before c.args.level (c.get.ensures.found i)) in
+    let told = c.moves-changed.ensures ∙ ap (λ b. b || is_carried c.args.course.moved.before c.args.level (map.get c.in_ok-new.new.rows c.args.id)) c.in_ok-new.ensures.changed in
     let none = neither _ _ _ told c.if-not-changed.true in
     let same = all_same c.args.id c.args.course.rows c.in_ok-new.new.rows c.in_ok-new.ensures.others none.0 in
     due_same c.args.state.now.keys c.args.course.rows c.in_ok-new.new.rows _ ids c.args.course.agenda same due
@@ -69,7 +69,7 @@ returns-clause-step g c =
     let before = c.args.course.moved.before in
     let old = map.get c.args.course.rows c.args.id in
     let new = map.get c.in_ok-new.new.rows c.args.id in
-    let told = c.moves-changed.ensures ∙ (λ i. c.in_ok-new.ensures.changed i || is_carried before c.args.level (c.get.ensures.found i)) in
+    let told = c.moves-changed.ensures ∙ ap (λ b. b || is_carried before c.args.level (map.get c.in_ok-new.new.rows c.args.id)) c.in_ok-new.ensures.changed in
     step c.args.state.now c.args.level c.args.id c.table.result.now c.table.ensures c.args.course.rows c.in_ok-new.new.rows c.in_ok-new.ensures.row c.in_ok-new.ensures.others
     c.add_moved.result c.add_moved.ensures.rows before c.args.course.todo c.args.course.moved.here (changes before c.args.level old new (either _ _ _ told c.if-not-changed.false)) c.add_moved.ensures.todo c.add_moved.ensures.here
 

@@ -32,14 +32,14 @@ returns-clause-due g c =
     let old = c.args.course.agenda in
     IfOk-weaker c.recount_all.result (λ new. (ids : List ℕ) → AreDue keys rows (n + 1) ids c.take-agenda.result.agenda → AreDue keys new.rows (n + 1) ids new.agenda)
     (λ new. (ids : List ℕ) → AreDue keys rows n ids old → AreDue keys new.rows (n + 1) ids new.agenda)
-    (λ new after ids due. after ids (subst (AreDue keys rows (n + 1) ids) (sym c.take-agenda.ensures.agenda) (due_behind keys rows n ids old due))) c.recount_all.ensures.due
+    (λ new after ids due. after ids (due_behind n ids old c.take-agenda.result.agenda c.take-agenda.ensures.agenda keys rows due)) c.recount_all.ensures.due
 
 pub returns-clause-within : goal.returns-clause-within
 returns-clause-within g c =
     let todo = c.args.course.todo in
     let old = c.args.course.agenda in
     IfOk-weaker c.recount_all.result (λ new. IsWithin todo c.take-agenda.result.agenda → IsWithin new.todo new.agenda) (λ new. IsWithin todo old → IsWithin new.todo new.agenda)
-    (λ new after within. after (subst (IsWithin todo) (sym c.take-agenda.ensures.agenda) (within_behind todo c.args.level old within))) c.recount_all.ensures.within
+    (λ new after within. after (within_behind c.args.level todo old c.take-agenda.result.agenda c.take-agenda.ensures.agenda within)) c.recount_all.ensures.within
 
 pub returns-clause-ticks : goal.returns-clause-ticks
 returns-clause-ticks g c = λ set its.
