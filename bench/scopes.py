@@ -1,6 +1,7 @@
 """Counting a whole keyring under regular expressions, beside the form of a domain; and imports that are made to be slow by one."""
 import os
 import random
+import re
 from collections.abc import Callable
 from typing import NamedTuple
 
@@ -33,8 +34,15 @@ WORST = {"`a` and 253 times `.`": "a" + "." * 253 + "$", "`(a|b)*a` and `(a|b)` 
          "`a`, 50 times `(.?.)`, and `c`": "a" + "(.?.)" * 50 + "c$"}
 
 
-# chains of introducers, each of whom delegates to the next
+# chains of introducers, each of whom delegates to the next, and the scope of each along a chain
 CHAINS, LENGTH = 200, 5
+HOST = "b.a.lists.example.org"
+NO_SCOPES = "no scopes"
+CHAINED = {
+    NO_SCOPES: [""] * LENGTH,
+    "each introducer with one domain": [r"<[^>]+[@.]example\.org>$"] * LENGTH,
+    "each with a part of the domain before": [rf"<[^>]+[@.]{re.escape(HOST.split('.', 4 - place)[-1])}>$" for place in range(LENGTH)],
+}
 
 
 def sig(issuer, trusts="", scope=""):
@@ -52,15 +60,15 @@ def keyring(count, scopes):
         yield head(2 + scopes.introducers + place) + user(f"Key {place} <{address}>") + sig(2 + number)
 
 
-def chained(count, scope):
-    """A root, chains of introducers from it on, each with this scope, and keys that the last of each chain certify."""
+def chained(count, scopes):
+    """A root, chains of introducers from it on with these scopes, and keys that the last of each chain certify."""
     yield head(ROOT) + user("Root")
     for number in range(CHAINS * LENGTH):
         delegator = 1 + number if number % LENGTH else ROOT
-        yield head(2 + number) + user(f"Introducer {number} <i{number}@lists.example.org>") + sig(delegator, f"{LENGTH} 120", scope)
+        yield head(2 + number) + user(f"Introducer {number} <i{number}@{HOST}>") + sig(delegator, f"{LENGTH} 120", scopes[number % LENGTH])
     for place in range(count):
         last = 1 + (place % CHAINS + 1) * LENGTH
-        yield head(2 + CHAINS * LENGTH + place) + user(f"Key {place} <k{place}@lists.example.org>") + sig(last)
+        yield head(2 + CHAINS * LENGTH + place) + user(f"Key {place} <k{place}@{HOST}>") + sig(last)
 
 
 def counted(bench, keys, introducers):
@@ -90,8 +98,8 @@ def part(bench):
     seconds = {name: counted(bench, keyring(bench.keys, scopes), scopes.introducers) for name, scopes in SCOPES.items()}
     rows = [(name, shown(took), times(took, seconds[DOMAIN if SCOPES[name].introducers == 1 else MANY_DOMAINS])) for name, took in seconds.items()]
     table(f"`options` in an open session, {bench.keys:,} keys that introducers certify", ("scopes", "counted", "times the domains"), rows)
-    took = {scope: counted(bench, chained(bench.keys, scope), CHAINS * LENGTH) for scope in ("", r"<[^>]+[@.]example\.org>$")}
-    rows = [("no scopes", shown(took[""]), "1.0"), *(("each introducer with a domain", shown(one), times(one, took[""])) for scope, one in took.items() if scope)]
+    took = {name: counted(bench, chained(bench.keys, scopes), CHAINS * LENGTH) for name, scopes in CHAINED.items()}
+    rows = [(name, shown(one), times(one, took[NO_SCOPES])) for name, one in took.items()]
     table(f"The same under {CHAINS} chains of {LENGTH} introducers", ("scopes", "counted", "times those without"), rows)
     for length, count in SLOW.items():
         slow_imports(bench, length, count)
