@@ -1,8 +1,9 @@
 -- A listed key that isn't due at a level keeps its row there.
-use Rattle.std.proofs.Common.{◌≡◌, ◌+◌, ◌≤◌, ◌==◌, ◌&&◌, ◌||◌, ◌⊎◌, inl, inr, ℕ, zero, suc, Bool, true, false, cond, nat_lt, List, [], ◌++◌, Option, Some, None, IfSome, refl, sym, ap, subst, ◌∙◌, arith}
+use Rattle.std.proofs.Common.{◌≡◌, ◌+◌, ◌≤◌, ◌==◌, ◌&&◌, ◌||◌, ◌⊎◌, inl, inr, ℕ, zero, suc, Bool, true, false, cond, nat_lt, List, [], ◌∷◌, ◌++◌, Option, Some, None, IfSome, refl, sym, ap, subst, ◌∙◌, arith}
 use Rattle.std.specs.FinMap as map
 use Rattle.std.proofs.lemmas.Bool.{false≢true, or_cases}
 use Rattle.std.proofs.lemmas.Bool.Decides.{nat_tests}
+use Rattle.std.proofs.lemmas.List.{append-nil, append_assoc}
 use Rattle.std.proofs.lemmas.List.Folds.{list_any-append}
 use Rattle.std.proofs.Math.Bool.{or-true}
 use Rattle.wot_types.specs.declared.row.Row.{Row}
@@ -111,11 +112,29 @@ all_recounted t n moved rows todo fresh agenda new more after below due within p
 
 -- ---- the keys of one level
 
--- keys in place of those that were taken off
-pub set_again : (old taken new : AgendaLists) (n : ℕ) (ids : List ℕ) → HasAt old n [] taken → HasAt taken n ids new → HasAt old n ids new
-set_again old taken new n ids off on m =
-    on m ∙ ap (cond (n == m) ids) (off m)
-    ∙ elim (n == m) as (λ b. cond b ids (cond b [] (due_at old m)) ≡ cond b ids (due_at old m)) [ true ↦ refl | false ↦ refl ]
+-- a list that took the place of another's
+pub set_again : (old with_first new : AgendaLists) (n : ℕ) (first ids : List ℕ) → HasAt old n first with_first → HasAt with_first n ids new → HasAt old n ids new
+set_again old with_first new n first ids before on m =
+    on m ∙ ap (cond (n == m) ids) (before m)
+    ∙ elim (n == m) as (λ b. cond b ids (cond b first (due_at old m)) ≡ cond b ids (due_at old m)) [ true ↦ refl | false ↦ refl ]
+
+pub none_added : (agenda : AgendaLists) (n : ℕ) → HasAt agenda n (due_at agenda n ++ []) agenda
+none_added agenda n m = elim (n == m) as (λ b. n == m ≡ b → due_at agenda m ≡ cond b (due_at agenda n ++ []) (due_at agenda m)) [
+  | true ↦ λ same. ap (due_at agenda) (sym (is_key n m same)) ∙ sym (append-nil (due_at agenda n))
+  | false ↦ λ _. refl
+] refl
+
+pub one_added : (agenda some new : AgendaLists) (n : ℕ) (first : List ℕ) (id : ℕ) → HasAt agenda n (due_at agenda n ++ first) some → HasAt some n (due_at some n ++ id ∷ []) new
+    → HasAt agenda n (due_at agenda n ++ (first ++ id ∷ [])) new
+one_added agenda some new n first id before on =
+    set_again agenda some new n (due_at agenda n ++ first) (due_at agenda n ++ (first ++ id ∷ [])) before
+    (subst (λ xs. HasAt some n xs new) (ap (λ xs. xs ++ id ∷ []) here ∙ append_assoc (due_at agenda n) first (id ∷ [])) on)
+  where
+    itself : (n == n) ≡ true
+    itself = grind (arith, nat_tests)
+
+    here : due_at some n ≡ due_at agenda n ++ first
+    here = before n ∙ ap (λ b. cond b (due_at agenda n ++ first) (due_at agenda n)) itself
 
 pub put_off_again : (agenda new : AgendaLists) (n : ℕ) (ids : List ℕ) → HasAt agenda n (due_at agenda n ++ ids) new → IsPutOff (among ids) n agenda new
 put_off_again agenda new n ids at = record {

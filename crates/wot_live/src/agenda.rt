@@ -57,16 +57,6 @@ impl Agenda {
         }
     }
 
-    /// In place of the keys of a level.
-    fn set(self, alloc: Global, level: u16, ids: List<KeyId>) -> Result<Agenda, Mem>
-        ensures { IfOk result (HasAt self level ids) }
-    {
-        let Agenda { lists } = self;
-        let mut lists = with_place(lists, alloc, level as usize)?;
-        put_at(&mut lists, level as usize, ids);
-        Ok(Agenda { lists })
-    }
-
     /// Puts a key on it at a level.
     pub fn add(self, alloc: Global, level: u16, id: KeyId) -> Result<Agenda, Mem>
         ensures { IfOk result (HasAt self level (due_at self level ++ id ∷ [])) }
@@ -81,8 +71,11 @@ impl Agenda {
     pub fn add_all(self, alloc: Global, level: u16, more: &[KeyId]) -> Result<Agenda, Mem>
         ensures { IfOk result (IsPutOff (among more.now) level self) }
     {
-        let Due { agenda, ids } = self.take(alloc, level);
-        agenda.set(alloc, level, with_all(ids, more)?)
+        let mut agenda = self;
+        for id in more {
+            agenda = agenda.add(alloc, level, *id)?;
+        }
+        Ok(agenda)
     }
 
     /// Puts a key on it at this level, unless that is below the first that is still to come.
@@ -115,14 +108,6 @@ impl Agenda {
     }
 }
 
-fn with_all(ids: List<KeyId>, more: &[KeyId]) -> Result<List<KeyId>, Mem>
-    ensures { IfOk result (λ new. new ≡ ids ++ more.now) }
-{
-    let mut ids = ids.into_vec();
-    ids.extend_from_slice(more)?;
-    Ok(List::from_vec(ids))
-}
-
 /// With a list at a place, and at each before it.
 fn with_place(lists: Vec<List<KeyId>>, alloc: Global, place: usize) -> Result<Vec<List<KeyId>>, Mem>
     ensures there { IfOk result (λ new. place < length new.items) }
@@ -144,14 +129,6 @@ fn take_at(lists: &mut Vec<List<KeyId>>, alloc: Global, place: usize) -> List<Ke
         Some(ids) => mem::replace(ids, List::new(alloc)),
         None => List::new(alloc),
     }
-}
-
-/// In place of the list at a place.
-fn put_at(lists: &mut Vec<List<KeyId>>, place: usize, ids: List<KeyId>)
-    requires there { place < length lists.old.items }
-    ensures { HasAt lists.old.items place ids lists.new.items }
-{
-    lists[place] = ids;
 }
 
 /// Adds a key to the list at a place.

@@ -1,16 +1,25 @@
-use Rattle.std.proofs.Common.{◌++◌, ap, subst, ◌∙◌}
-use Rattle.std.proofs.lemmas.Result.{IfOk-weaker}
-use Rattle.wot_live.specs.Agenda.{HasAt, IsPutOff, due_at}
-use Rattle.wot_live.specs.Recounting.{among}
-use Rattle.wot_live.proofs.Agendas.{put_off_again, set_again}
+use Rattle.std.proofs.Common.{◌++◌, take, sym, subst, arith}
+use Rattle.wot_levels.proofs.Weights.{next_of, take_all}
+use Rattle.wot_live.specs.Agenda.{HasAt, due_at}
+use Rattle.wot_live.proofs.Agendas.{none_added, one_added, put_off_again}
 use Rattle.wot_live.proofs.agenda.Agenda.add_all.Goals as goal
+
+pub loop-id-init : goal.loop-id-init
+loop-id-init c = none_added c.args.self c.args.level
+
+pub loop-id-preserved : goal.loop-id-preserved
+loop-id-preserved c =
+    let more = c.args.more.now in
+    let n = c.args.level in
+    let i = c.loop-id.id-index in
+    let x = c.id-item.result in
+    let next = next_of more i x (omega (arith, c.loop-id-test.true)) c.id-item.is in
+    subst (λ xs. HasAt c.args.self n (due_at c.args.self n ++ xs) c.in_ok-agenda.agenda) (sym next)
+    (one_added c.args.self c.loop-id.agenda c.in_ok-agenda.agenda n (take i more) x c.loop-id.invariant c.in_ok-agenda.ensures)
 
 pub returns : goal.returns
 returns c =
-    let old = c.args.self in
-    let taken = c.take-agenda.result.agenda in
-    let n = c.args.level in
     let more = c.args.more.now in
-    let here = c.in_ok-with_all.ensures ∙ ap (λ xs. xs ++ more) c.take-agenda.ensures.ids in
-    IfOk-weaker c.set.result (HasAt taken n c.in_ok-with_all.field-0) (IsPutOff (among more) n old)
-    (λ new on. put_off_again old new n more (set_again old taken new n (due_at old n ++ more) c.take-agenda.ensures.agenda (subst (λ xs. HasAt taken n xs new) here on))) c.set.ensures
+    let n = c.args.level in
+    put_off_again c.args.self c.loop-id.agenda n more
+    (subst (λ xs. HasAt c.args.self n (due_at c.args.self n ++ xs) c.loop-id.agenda) (take_all more c.loop-id.id-index (omega (arith, c.loop-id-test.false))) c.loop-id.invariant)
