@@ -1,8 +1,8 @@
 -- The certification that decides among those of one issuer: the last that is not disregarded.
-use Rattle.std.proofs.Common.{◌≡◌, ◌+◌, ◌<◌, ◌≤◌, ◌==◌, ◌&&◌, not, ℕ, Bool, true, false, cond, List, [], ◌∷◌, ◌++◌, filter, take, drop, length, get_or, ◌-◌, Option, Some, option_and_then, refl, sym, ap, subst, ◌∙◌, arith}
+use Rattle.std.proofs.Common.{◌≡◌, ◌==◌, ◌&&◌, not, ℕ, Bool, true, false, cond, List, [], ◌∷◌, ◌++◌, filter, Option, Some, option_and_then, refl, ap, ◌∙◌, arith}
 use Rattle.std.specs.List.{AllByRecursion}
 use Rattle.std.proofs.lemmas.Bool.Decides.{nat_tests}
-use Rattle.std.proofs.lemmas.List.{append-nil, take_more, take-append-drop}
+use Rattle.std.proofs.lemmas.List.{append-nil}
 use Rattle.std.proofs.lemmas.List.Elements.{filter-append}
 use Rattle.wot_types.specs.declared.placed.Placed.{Placed}
 use Rattle.wot_types.specs.Selection.{counts_for, in_force, is_disregarded, is_earlier, later_cert, latest_cert, usable}
@@ -21,7 +21,7 @@ before_last : (ps : List Placed) (q : Placed) → IsRising (ps ++ q ∷ []) → 
 before_last [] q h = tt
 before_last (p ∷ ps) q h = (last_of (λ x. is_before p x ≡ true) ps q h.0, before_last ps q h.1)
 
-all_front : (P : Placed → Type 0) (ps qs : List Placed) → AllByRecursion P (ps ++ qs) → AllByRecursion P ps
+pub all_front : (P : Placed → Type 0) (ps qs : List Placed) → AllByRecursion P (ps ++ qs) → AllByRecursion P ps
 all_front P [] qs h = tt
 all_front P (p ∷ ps) qs h = (h.0, all_front P ps qs h.1)
 
@@ -73,31 +73,3 @@ pub usable_last : (now level : ℕ) (fpr : Option (List ℕ)) (issuer : ℕ) (ps
 usable_last now level fpr issuer ps q rising by kept =
     ap (option_and_then (in_force now))
     (latest_last level fpr issuer ps q (before_last ps q rising) (all_front (λ p. p.cert.issuer ≡ issuer) ps (q ∷ []) by) (last_of (λ p. p.cert.issuer ≡ issuer) ps q by) kept)
-
-rising_take : (run : List Placed) (n : ℕ) → IsRising run → IsRising (take n run)
-rising_take run n h = rising_front (take n run) (drop n run) (subst IsRising (sym (take-append-drop n run)) h)
-
-by_take : (issuer : ℕ) (run : List Placed) (n : ℕ) → IsBy issuer run → IsBy issuer (take n run)
-by_take issuer run n h = all_front (λ p. p.cert.issuer ≡ issuer) (take n run) (drop n run) (subst (IsBy issuer) (sym (take-append-drop n run)) h)
-
--- up to a place: its last one and those in front
-split_at : (run : List Placed) (end : ℕ) (q : Placed) → 0 < end → end ≤ length run → q ≡ get_or run (end - 1) q → take end run ≡ take (end - 1) run ++ q ∷ []
-split_at run end q some within is =
-    let one : end ≡ end - 1 + 1 = omega (arith, some) in
-    let here : end - 1 < length run = omega (arith, some, within) in
-    ap (λ k. take k run) one ∙ take_more run (end - 1) q here ∙ ap (λ x. take (end - 1) run ++ x ∷ []) (sym is)
-
--- a last one that is disregarded changes nothing
-pub usable_before : (now level : ℕ) (fpr : Option (List ℕ)) (run : List Placed) (end : ℕ) (q : Placed) → 0 < end → end ≤ length run → q ≡ get_or run (end - 1) q → is_disregarded level fpr q.cert ≡ true
-    → (issuer : ℕ) → usable now level fpr issuer (take (end - 1) run) ≡ usable now level fpr issuer (take end run)
-usable_before now level fpr run end q some within is h issuer =
-    sym (ap (usable now level fpr issuer) (split_at run end q some within is) ∙ disregarded_last now level fpr issuer (take (end - 1) run) q h)
-
--- the last that isn't disregarded decides
-pub usable_at : (now level : ℕ) (fpr : Option (List ℕ)) (run : List Placed) (end : ℕ) (q : Placed) → IsRising run → 0 < end → end ≤ length run → q ≡ get_or run (end - 1) q
-    → is_disregarded level fpr q.cert ≡ false → ((issuer : ℕ) → usable now level fpr issuer (take end run) ≡ usable now level fpr issuer run)
-    → (issuer : ℕ) → IsBy issuer run → usable now level fpr issuer run ≡ in_force now q
-usable_at now level fpr run end q rising some within is kept same issuer by =
-    let split = split_at run end q some within is in
-    sym (same issuer) ∙ ap (usable now level fpr issuer) split
-    ∙ usable_last now level fpr issuer (take (end - 1) run) q (subst IsRising split (rising_take run end rising)) (subst (IsBy issuer) split (by_take issuer run end by)) kept

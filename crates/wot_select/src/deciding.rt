@@ -1,9 +1,8 @@
 //! The one certification of an issuer on a user ID that decides.
 
-ghost use Rattle.std.specs.Prelude.{◌≡◌, ◌≤◌, ◌<◌, ℕ, None, length, slice_get};
-ghost use Rattle.std.specs.Option.{MatchOption, option_copied};
+ghost use Rattle.std.specs.Prelude.{◌≡◌, ℕ};
+ghost use Rattle.std.specs.Option.{option_copied};
 ghost use Rattle.wot_types.specs.Arrangement.{IsRising};
-ghost use Rattle.wot_types.specs.Limits.{most_certs};
 ghost use Rattle.wot_types.specs.Selection.{is_below_level, is_disregarded, is_in_force, is_other_fpr, names_another, usable};
 ghost use Rattle.wot_select.specs.Run.{IsBy};
 
@@ -49,27 +48,29 @@ fn is_in_force(now: u32, placed: &PackedPlaced) -> bool
     placed.class() != REVOCATION && !expired(placed.expires(), now)
 }
 
-/// The place in a run of one issuer of the certification that decides, and None where there is none or it isn't in force.
+/// Of a run of one issuer's certifications the one that decides, and None where there is none or it isn't in force.
 /// Classes 0x11 to 0x13 below 0x10 + `level` are disregarded: above level 3 all three are. So is a certification that names a fingerprint
 /// other than `issuer`, that of the keyring's key of that key ID; without such a key none is disregarded for its fingerprint.
-pub fn usable(run: &[PackedPlaced], now: u32, level: u8, issuer: Option<&Fpr>) -> Option<u32>
-    requires short { length run.now ≤ most_certs }
+pub fn usable<'a>(
+    run: &'a [PackedPlaced],
+    now: u32,
+    level: u8,
+    issuer: Option<&Fpr>,
+) -> Option<&'a PackedPlaced>
     requires rising { IsRising run.now }
-    ensures { (id : ℕ) → IsBy id run.now → MatchOption result (usable now level (option_copied issuer.entry) id run.now ≡ None)
-        (λ i. (i < length run.now) × (usable now level (option_copied issuer.entry) id run.now ≡ slice_get run.now i)) }
+    ensures { (id : ℕ) → IsBy id run.now → option_copied result ≡ usable now level (option_copied issuer.entry) id run.now }
 {
-    let mut end = run.len() as u32;
-    while 0 < end {
-        end -= 1;
-        let placed = &run[end as usize];
+    let mut rest = run;
+    while let Some((placed, before)) = rest.split_last() {
         if !is_disregarded(level, issuer, placed) {
             // An older one is never fallen back to.
             return if is_in_force(now, placed) {
-                Some(end)
+                Some(placed)
             } else {
                 None
             };
         }
+        rest = before;
     }
     None
 }
