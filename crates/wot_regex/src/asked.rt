@@ -160,6 +160,8 @@ impl Asked {
     }
 
     /// Whether a scope is an expression that matches somewhere in the text. One that is no expression admits none.
+    // Not inlined: an expression that is read takes kilobytes of the stack, which each call of its caller would touch.
+    #[inline(never)]
     pub fn admits(&mut self, scope: &Text, text: &Text) -> bool
         ensures value { result ≡ admits (Some scope.now) text.now }
         ensures means { IsTrue result ↔ Admits scope.now text.now }
@@ -199,6 +201,8 @@ impl Asked {
         Some(found)
     }
 
+    // Not inlined, since it reads an expression, and most asks find theirs.
+    #[inline(never)]
     fn keep(&mut self, scope: &[u8]) -> Result<(), Mem> {
         let kept = Box::new(self.alloc, Kept::new(self.alloc, scope)?)?;
         let size = kept.size();

@@ -9,6 +9,8 @@ use crate::matching::matches;
 use wot_types::Text;
 
 /// Whether a scope is an expression that matches somewhere in the text. One that is no expression admits none.
+// Not inlined, since it reads an expression.
+#[inline(never)]
 pub fn admits(scope: &Text, text: &Text) -> bool
     ensures value { result ≡ admits (Some scope.now) text.now }
     ensures means { IsTrue result ↔ Admits scope.now text.now }
