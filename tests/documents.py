@@ -213,7 +213,7 @@ def promises():
 
 
 def edits():
-    """Each edit that a row of the page of proofs names must be there, and each that is there is named, or all edits of its crate are."""
+    """The edits that must fail are those that the rows of the page of proofs name, each by itself or all of a crate."""
     there = sorted((path.stem, path.parent.parent.name) for path in TOP.glob("crates/*/must-fail/*.edit"))
     cells = re.findall(r"^\| (?!Promise \|).*\|([^|]*)\|$", (TOP / "docs" / "PROOFS.md").read_text(encoding="utf-8"), re.M)
     whole = {crate for cell in cells for crate in re.findall(r"all edits of `(\w+)`", cell)}
