@@ -2,7 +2,7 @@
 """Looks at the documents: links lead somewhere, a block of shell that an output follows prints it, the man page names what the manual does and
 has the number of the newest change, the picture and the table of the rooms are those of crates.txt, no room stands on a higher one, the list of
 definitions is the one that docs/definitions.py makes, each script of the tests is run and told of, the definitions and files that are named stand
-where it is said, and each promise names calls, clauses and tests that are there.
+where it is said, each promise names calls, clauses and tests that are there, and the edits that must fail are those that the page of proofs names.
 
 The man pages are also read by mandoc or by man, where there is one.
 """
@@ -212,6 +212,18 @@ def promises():
     return f"{count} promises", wrong
 
 
+def edits():
+    """The edits that must fail are those that the rows of the page of proofs name, each by itself or all of a crate."""
+    there = sorted((path.stem, path.parent.parent.name) for path in TOP.glob("crates/*/must-fail/*.edit"))
+    cells = re.findall(r"^\| (?!Promise \|).*\|([^|]*)\|$", (TOP / "docs" / "PROOFS.md").read_text(encoding="utf-8"), re.M)
+    whole = {crate for cell in cells for crate in re.findall(r"all edits of `(\w+)`", cell)}
+    named = {name for cell in cells for name in re.findall(r"(?<! of )`(\w+)`", cell)}
+    wrong = [f"no edit {name} in crates/*/must-fail" for name in sorted(named - {name for name, _ in there})]
+    wrong += [f"no edits of {crate}" for crate in sorted(whole - {crate for _, crate in there})]
+    wrong += [f"{name} of {crate} is in no row" for name, crate in there if name not in named and crate not in whole]
+    return f"{len(there)} edits", [f"docs/PROOFS.md: {fault}" for fault in wrong]
+
+
 def scripts():
     """The gate runs each script of the tests, and their table has a row for each; so has that of the libraries."""
     parts = (TOP / "tests" / "README.md").read_text(encoding="utf-8").split("## The second reading")
@@ -243,7 +255,7 @@ def man_is_read():
 
 if __name__ == "__main__":
     found = [check() for check in (
-        dead_links, sessions, first_session, crates, definitions, index, places, promises, scripts, man_page, number, man_is_read,
+        dead_links, sessions, first_session, crates, definitions, index, places, promises, edits, scripts, man_page, number, man_is_read,
     )]
     wrong = [line for _, lines in found for line in lines]
     if wrong:
