@@ -18,7 +18,7 @@ OUTCOMES = (b"NEWSIG", b"GOODSIG", b"BADSIG", b"EXPSIG", b"EXPKEYSIG", b"REVKEYS
 BAD = "reind"
 # gpg's words for people, as they are translated
 LABELS = {**wot.LABELS, "n": "[  never ]"}
-# others that ask the store at once are waited for so many seconds, and a session that stays is not
+# others that ask the store at once are waited for so many seconds, and a session that stays longer isn't
 WAIT = 2.0
 # of so many keys each is asked for by itself, and of more all are
 FEW = 4

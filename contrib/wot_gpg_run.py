@@ -411,7 +411,7 @@ def answer(about):
     """Runs gpg with the words of this call; `about` is what is told of the program itself."""
     words = sys.argv[1:]
     if words == ["--help"]:
-        print(f"{NAME}: {about}", end="")
+        print(f"usage: {NAME} [WORD OF gpg]...\n\n{about}", end="")
         return 0
     gpg = next_gpg()
     try:

@@ -330,7 +330,13 @@ def streams(ask):
     yield "10 MB among status lines", data[100:-100] in opened.stdout, True
     yield "status", [ask.run(*words).returncode for words in (("--version",), ("--frob",), ("--verify", "none"), ("--status-fd", "99", "--verify", "none"))], [0, 2, 2, 2]
     yield "its version", ask.said("--version"), ask.said("--version", program=REAL)
-    yield "its help", "gpg-wot: Stands for gpg" in ask.said("--help")[0], True
+    for name, first in (("gpg-wot", "Stands for gpg wherever"), ("git-gpg-wot", "gpg-wot, under the name that git is told")):
+        out, told, code = ask.said("--help", program=name)
+        yield f"the help of {name}", (out.startswith(f"usage: {name} [WORD OF gpg]...\n\n{first}"), told, code), (True, "", 0)
+    yield "and a help among other words, which is gpg's", ask.said("--help", "--batch"), ask.said("--help", "--batch", program=REAL)
+    variables = set(re.findall("^  ([A-Z_]+) ", ask.said("--help")[0], re.M))
+    page = (CONTRIB.parent / "docs" / "gpg-wot.1").read_text(encoding="utf-8")
+    yield "the variables of its page", variables, set(re.findall(r"^\.B ([A-Z_]+)$", page.partition(".SH ENVIRONMENT")[2], re.M))
     yield "no gpg", [ask.said("--version", GPG_WOT_GPG=path)[2] for path in ("/nowhere", "/bin/true")], [2, 2]
     yield "a descriptor that gpg would read otherwise", ask.said("--status-fd=+2", "--verify", "none")[::2], ("", 2)
     (ask.at.tools / "gpg").symlink_to(CONTRIB / "gpg-wot")
