@@ -282,6 +282,8 @@ def recipients(ask):
         with ask.asking(store):
             for name in (carol, "<Carol@EXAMPLE.org>", carol[-16:], "=carol <carol@example.org>", "carol")[:None if store == "store" else 2]:
                 yield f"{store}: {name}", encrypted("-r", name), (0, [], True) if store == "store" else (2, [f"10 {name}"], False)
+            done = ask.run("--encrypt", "-r", "carol@example.org", "-r", bob, given=b"text")
+            yield f"{store}: it is told once", len(re.findall(b"^wot: " + SAID[store].encode(), done.stderr, re.M)), 0 if store == "store" else 1
     yield "valid in gpg alone", encrypted("-r", alice), (2, [f"10 {alice}"], False)
     done = ask.run("--batch", "--status-fd", "2", "--encrypt", "-r", alice, given=b"text")
     lines = [re.sub(r" \w{40}\b", "", line) for line in statuses(done.stderr.decode())]
@@ -678,8 +680,18 @@ def mail(ask, program):
 
 
 def mutt(ask):
-    """mutt."""
+    """mutt; and its commands for encryption as the recipe has them, with what mutt puts into them."""
     yield from mail(ask, "mutt")
+    _, alice, bob, carol, _ = primaries()
+    (ask.at.here / "letter").write_bytes(b"a letter\n")
+    recipe = (CONTRIB.parent / "docs" / "RECIPES.md").read_text(encoding="utf-8")
+    commands = dict(re.findall(r'^set pgp_encrypt_(only|sign)_command="(.*)"$', recipe, re.M))
+    for name, command in sorted(commands.items()):
+        for to, wanted in (([carol], (0, True)), ([bob, carol], (0, True)), ([alice], (2, False)), ([carol, alice], (2, False))):
+            filled = command.replace("%?a?-u %a?", f"-u {bob}").replace("%r", " ".join(to)).replace("%f", "letter")
+            done = ask.run("-c", filled, program="sh")
+            yield f"{name} to {len(to)}: {done.stderr.decode()}", (done.returncode, done.stdout.startswith(b"-----BEGIN PGP MESSAGE")), wanted
+    yield "both", sorted(commands), ["only", "sign"]
 
 
 def neomutt(ask):
