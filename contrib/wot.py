@@ -933,7 +933,7 @@ def let_go():
 def main():
     parser = arguments(
         "Prints the letter and the fingerprint of each key that has a user ID of an address.",
-        "Exit status: 0 if there is such a key, 1 if there is none, or the signer's is none, 2 if the store can't be asked, or is past its next check.")
+        "Exit status: 0 if there is such a key, or that of --signer is one; 1 if not, 2 if the store can't be asked, or is past its next check.")
     parser.add_argument("--signer", metavar="FINGERPRINT", help="of this key alone, as of who signed a letter: - where it has no such user ID, or is disabled")
     parser.add_argument("--stale", action="store_true", help="also where the store is past its next check")
     parser.add_argument("address")
