@@ -134,6 +134,11 @@ def warnings():
             gpg("--check-trustdb")
             done = at.run("wot-sync", *words)
             yield f"the numbers of its trust database {text}", (done.returncode, done.stderr), (0, told)
+        gpg("--check-trustdb")
+        alone = primaries()[3]
+        conf.write_text(f"trusted-key {alone}\n", encoding="utf-8")
+        told = f"wot-sync: gpg trusts {alone} ultimately, and not by its ownertrust, as by trusted-key in gpg.conf: here it is no root\n"
+        yield "a trusted key of gpg.conf", [(done.returncode, done.stderr) for done in (at.run("wot-sync"), at.run("wot-sync", "--ownertrust", "both"))], [(0, told), (0, "")]
         conf.unlink()
         gpg("--check-trustdb")
 
