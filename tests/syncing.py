@@ -365,7 +365,7 @@ def old_roots(at):
     at.status("wot-sync")
     (at.here / "none").write_text(f"{me}:6:\n{alice}:5:\n{me}:5:\n", encoding="utf-8")
     (at.here / "disabled").write_text(f"{me}:134:\n", encoding="utf-8")
-    still = f"wot-nightly: the store still answers by the root {named}, which gpg no longer trusts ultimately"
+    still = f"wot-nightly: the store still answers by the root {named}, which is no longer ultimately trusted"
     with at.failing_gpg(LISTS, "exit 2"):
         yield "a root that gpg has too", told(), (2, "", [])
         yield "a root that is disabled there", told("--", "--ownertrust", "disabled"), (2, "", [])
@@ -382,7 +382,7 @@ def old_roots(at):
     own(ULTIMATE, FULL, UNDEFINED, UNDEFINED)
     at.status("wot-sync")
     with at.failing_gpg("--export-ownertrust", "exit 2"):
-        yield "no ownertrust", told(), (2, "", [f"wot-nightly: the store answers by the root {named}; whether gpg still trusts it ultimately can't be said"])
+        yield "no ownertrust", told(), (2, "", [f"wot-nightly: the store answers by the root {named}; whether that is ultimately trusted still can't be said"])
     run("date 4000000000\n", where=at.here / "store")
     late = "of a date that is still to come, 2096-10-02 07:06:40 UTC"
     with at.failing_gpg(LISTS, "exit 2"):
