@@ -552,9 +552,9 @@ EMACS = """\
 
 
 def module_python(module):
-    """A Python that has this module of Debian's, or nothing."""
+    """A Python that has this module of Debian's, or nothing. It is asked elsewhere, as a script of the tests has the name of one."""
     found = [path for path in (sys.executable, "/usr/bin/python3") if os.access(path, os.X_OK)]
-    return next((path for path in found if subprocess.run([path, "-c", f"import {module}"], capture_output=True, check=False).returncode == 0), None)
+    return next((path for path in found if subprocess.run([path, "-c", f"import {module}"], cwd=os.sep, capture_output=True, check=False).returncode == 0), None)
 
 
 def signed_by_both(ask):
