@@ -67,7 +67,7 @@ _wot() {
     :*)
       _wot_words 'trust disable enable delete date options import ownertrust list sigs export why suppose critical at check compact quit'
       case ${COMP_WORDS[0]##*/} in
-        wot-in) _wot_words '--help --store' ;;
+        wot-in) _wot_words '--help --store --workers' ;;
         # a made key may be ultimately trusted, so none is offered where a store is
         *) _wot_words --workers; [ -e wot.0 ] || _wot_words sample ;;
       esac ;;

@@ -19,6 +19,7 @@ As a program, `wot.py ADDRESS` prints the letter and the fingerprint of each key
 """
 import contextlib
 import fcntl
+import io
 import os
 import re
 import sys
@@ -388,6 +389,9 @@ class Wot:
         try:
             found = self.listing(fingerprint)
         except NoSuchKey:
+            # it may be in one of today
+            if not stale:
+                self.require_current(self.listing().head)
             return "-"
         self.require_current(found.head, stale)
         key = next(iter(found))
@@ -841,46 +845,120 @@ def arguments(description, epilog):
 
 def end_with(name, main):  # pylint: disable=redefined-outer-name
     """Ends a program with the status that its main returns, or with 2 where it fails; the fault goes to standard error."""
+    open_streams()
     try:
         # what the terminal has no letter for is an escape, and no fault
         sys.stdout.reconfigure(errors="backslashreplace")
-        status = main()
-        sys.stdout.flush()
+        status = run_whole(main)
     except BrokenPipeError:
-        # who read the output has gone; so that the end of this program does not try to write the rest
-        os.dup2(os.open(os.devnull, os.O_WRONLY), sys.stdout.fileno())
+        # who read the output has gone
         status = 2
     except KeyboardInterrupt:
         # as a shell tells of a program that was interrupted
         status = 130
     except (WotError, OSError) as fault:
-        file = getattr(fault, "filename", None)
-        print(f"{name}: {fault if file is None else f'{file}: {fault.strerror}'}", file=sys.stderr)
+        tell(f"{name}: {words_of(fault)}")
         status = 2
     except Exception:  # pylint: disable=broad-except
         # an error of this program must not look like an answer
         import traceback  # pylint: disable=import-outside-toplevel
-        traceback.print_exc()
+        tell(traceback.format_exc().rstrip("\n"))
         status = 2
+    let_go()
     sys.exit(status)
+
+
+def open_streams():
+    """Puts something in the place of standard streams that are closed, so that no file which is opened gets their numbers; writing to that output fails.
+
+    Standard output has a buffer even where Python was told that it should have none: without one what is written in part would count as written.
+    """
+    for number in range(3):
+        try:
+            os.fstat(number)
+        except OSError:
+            os.open(os.devnull, os.O_RDWR if number == 2 else os.O_RDONLY)
+    sys.stdin = sys.stdin or open(0, encoding="utf-8", closefd=False)
+    sys.stderr = sys.stderr or open(2, "w", encoding="utf-8", closefd=False)
+    if sys.stdout is None or isinstance(sys.stdout.buffer, io.RawIOBase):
+        sys.stdout = open(1, "w", encoding=sys.stdout.encoding if sys.stdout else "utf-8", closefd=False)
+
+
+def run_whole(main):  # pylint: disable=redefined-outer-name
+    """The status of a main, when all that it printed is written."""
+    try:
+        status = main()
+    except SystemExit as end:
+        # of a help, or a wrong usage
+        status = end.code
+    with writing():
+        sys.stdout.flush()
+    return status
+
+
+@contextlib.contextmanager
+def writing():
+    """What can't be written here was meant for standard output."""
+    try:
+        yield
+    except BrokenPipeError:
+        raise
+    except OSError as fault:
+        raise WotError(f"standard output: {fault.strerror}") from fault
+
+
+def words_of(fault):
+    """What is said of a fault; the system's without its number."""
+    if not isinstance(fault, OSError):
+        return str(fault)
+    words = fault.strerror or str(fault)
+    return words if fault.filename is None else f"{fault.filename}: {words}"
+
+
+def tell(text):
+    """A line on standard error; who can't be told is shown the status alone."""
+    with contextlib.suppress(OSError):
+        print(text, file=sys.stderr)
+
+
+def let_go():
+    """Leaves nothing that Python could fail to write when it ends, as it would then end with a status of its own."""
+    for stream in (sys.stdout, sys.stderr):
+        try:
+            stream.flush()
+        except OSError:
+            os.dup2(os.open(os.devnull, os.O_WRONLY), stream.fileno())
 
 
 def main():
     parser = arguments(
         "Prints the letter and the fingerprint of each key that has a user ID of an address.",
-        "Exit status: 0 if there is such a key, 1 if there is none, 2 if the store can't be asked, or is past its next check.")
+        "Exit status: 0 if there is such a key, or that of --signer is one; 1 if not, 2 if the store can't be asked, or is past its next check.")
     parser.add_argument("--signer", metavar="FINGERPRINT", help="of this key alone, as of who signed a letter: - where it has no such user ID, or is disabled")
     parser.add_argument("--stale", action="store_true", help="also where the store is past its next check")
     parser.add_argument("address")
     given = parser.parse_args()
+    signer = given.signer and digits_of(given.signer)
+    if given.signer is not None and len(signer or "") < 40:
+        parser.error(f"--signer {shown(given.signer)}: a fingerprint has 40 or 64 hexadecimal digits")
     with Wot(given.store, program(), max_age=given.max_age) as store:
-        if given.signer is not None:
-            letters = {given.signer: store.letter_of(given.signer, given.address, given.stale)}
-        else:
+        if signer is None:
             letters = store.letters(given.address, given.stale)
+            some = bool(letters)
+        else:
+            letters = {signer: store.letter_of(signer, given.address, given.stale)}
+            some = has_address(store, signer, given.address)
     for fingerprint, letter in letters.items():
         print(letter, fingerprint)
-    return 0 if letters else 1
+    return 0 if some else 1
+
+
+def has_address(store, fingerprint, address):
+    """Whether the store has a key of this fingerprint with a user ID of an address."""
+    try:
+        return next(iter(store.listing(fingerprint))).letter_of(address) is not None
+    except NoSuchKey:
+        return False
 
 
 if __name__ == "__main__":

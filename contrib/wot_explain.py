@@ -8,7 +8,6 @@ import contextlib
 import os
 import re
 import stat
-import sys
 
 import wot
 from wot import day, moment, next_check  # noqa: F401 # pylint: disable=unused-import
@@ -444,5 +443,5 @@ def warn_if_stale(name, keyring, max_age):
     """One line for people where the letters may be others now; whether there is one."""
     reason = keyring.staleness(max_age)
     if reason is not None:
-        print(f"{name}: {reason}", file=sys.stderr)
+        wot.tell(f"{name}: {reason}")
     return reason is not None

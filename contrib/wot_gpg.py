@@ -18,7 +18,7 @@ OUTCOMES = (b"NEWSIG", b"GOODSIG", b"BADSIG", b"EXPSIG", b"EXPKEYSIG", b"REVKEYS
 BAD = "reind"
 # gpg's words for people, as they are translated
 LABELS = {**wot.LABELS, "n": "[  never ]"}
-# others that ask the store at once are waited for so many seconds, and a session that stays is not
+# for a store that another run holds so many seconds are waited
 WAIT = 2.0
 # of so many keys each is asked for by itself, and of more all are
 FEW = 4
@@ -187,9 +187,12 @@ class Letters:
         except wot.NoSuchKey:
             self.keys[fingerprint] = None
         except (wot.WotError, OSError, ValueError) as fault:
-            # it is told once, and what was answered before is as old as the rest
-            self.is_whole, self.is_told, self.keys = True, False, {}
+            self.give_up()
             self.tell(reason(fault))
+
+    def give_up(self):
+        """The store can't be asked: that is told once, and what was answered before is as old as the rest."""
+        self.is_whole, self.is_told, self.keys = True, False, {}
 
     def read(self, lines):
         key = None

@@ -47,6 +47,7 @@ class Recipients:
     def __init__(self, gpg, call, tell):
         self.gpg, self.call, self.tell = gpg, call, tell
         self.options = call.all("recipient", "hidden-recipient")
+        self.letters = Letters(tell)
 
     def found(self):
         groups = self.groups() if any(FINGERPRINT.fullmatch(option.value) is None for option in self.options) else {}
@@ -54,14 +55,13 @@ class Recipients:
         addresses = {name: address_named(name) for _, name in named}
         meant = self.to_encrypt_to({address for address in addresses.values() if address})
         keys = {name: self.key_of(meant.get(addresses[name], name)) for _, name in named if addresses[name] is None or addresses[name] in meant}
-        letters = Letters(self.tell)
-        return [self.recipient(option, name, keys.get(name), letters, addresses[name]) for option, name in named]
+        return [self.recipient(option, name, keys.get(name), addresses[name]) for option, name in named]
 
-    def recipient(self, option, name, key, letters, address):
+    def recipient(self, option, name, key, address):
         if key is None:
             return Recipient(option, name, [], False)
-        told = letters.of(key.fingerprint)
-        if letters.missing(key.fingerprint):
+        told = self.letters.of(key.fingerprint)
+        if self.letters.missing(key.fingerprint):
             self.tell(f"{key.fingerprint} is not in the store")
         letter = "-" if told is None else told.letter if address or is_of_key(name) else told.letter_of_part(name)
         if told is None or told.is_disabled or letter not in wot.VALID:
@@ -85,6 +85,8 @@ class Recipients:
                 self.tell(f"{address}: no key of this address can be encrypted to and is valid")
             return {address: keys[0] for address, keys in found.items() if keys}
         except (wot.WotError, OSError, ValueError) as fault:
+            # nor is it asked, and waited for, once more
+            self.letters.give_up()
             self.tell(reason(fault))
             return {}
 
@@ -411,7 +413,7 @@ def answer(about):
     """Runs gpg with the words of this call; `about` is what is told of the program itself."""
     words = sys.argv[1:]
     if words == ["--help"]:
-        print(f"{NAME}: {about}", end="")
+        print(f"usage: {NAME} [WORD OF gpg]...\n\n{about}", end="")
         return 0
     gpg = next_gpg()
     try:

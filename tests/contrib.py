@@ -471,7 +471,8 @@ def sync():
         yield from stopped_syncs(at)
         yield from refused_syncs(at, wanted)
         yield "options", (at.status("wot-sync", "--options", "pgp 1 3 1 2"), at.letters()["Bob"]), (0, "-")
-        yield "which differ from gpg's", "give --options" in at.run("wot-sync", "--options", "pgp 1 3 1 2").stderr, True
+        told = "wot-sync: gpg has trust-model pgp, completes-needed 1, marginals-needed 3, max-cert-depth 5, and the letters here are by pgp 1 3 1: give --options as they are in gpg, 'pgp 1 3 5 2'\n"
+        yield "which differ from gpg's", at.run("wot-sync", "--options", "pgp 1 3 1 2").stderr, told
         (at.here / "keys.gpg").write_bytes(subprocess.run(["gpg", "--export", me, alice], capture_output=True, check=True).stdout)
         (at.here / "trusts").write_text(f"# mine\n{alice}:6:\n", encoding="utf-8")
         yield "a file of keys", at.status("wot-sync", "--keyring", "keys.gpg", "--root", me, "other"), 0

@@ -18,7 +18,7 @@ import sys
 import threading
 import time
 
-from contrib import NoGnuPG, checked, gpg, make_keyring, place, primaries, raised, session, synced, wot, wot_explain
+from contrib import PROGRAMS, NoGnuPG, checked, gpg, make_keyring, place, primaries, raised, session, synced, wot, wot_explain
 from reference.program import PROGRAM, by, fingerprint, folder, imported, key, key_id, run, trust
 
 NOW = str(int(time.time()))
@@ -94,6 +94,8 @@ def stale():
             with wot.Wot(at.here, PROGRAM, max_age=3) as store:
                 calls = [functools.partial(store.letter_of, b, address), *(functools.partial(call, address) for call in (store.letters, store.letter, store.encrypt_to))]
                 yield f"{name}: the module", [raised(call)[0] for call in calls], ["Stale"] * 4
+                absent = functools.partial(store.letter_of, fingerprint("F"), address)
+                yield f"{name}: a key that may be in one of today", (raised(absent)[0], absent(stale=True)), ("Stale", "-")
                 yield f"{name}: asked all the same", [call(stale=True) for call in calls], ["f", {b: "f"}, "f", [b]]
     with store_of(OLD + f"date {NOW}\n" + imported(key("B", "A"))) as at:
         yield "of today", (at.run("wot-list").stderr, at.run("wot.py", "--max-age", "1", address).stdout), ("", f"f {b}\n")
@@ -107,8 +109,15 @@ def signers():
         with wot.Wot(at.here, PROGRAM) as store:
             yield "who signed", [store.letter_of(fingerprint(name), "BOB@example.org") for name in "BCDAF"], ["f", "-", "-", "-", "-"]
             yield "any key", store.letter("bob@example.org"), "f"
-        asked = at.run("wot.py", "--signer", fingerprint("C"), "bob@example.org")
-        yield "as a program", (asked.stdout, asked.returncode), (f"- {fingerprint('C')}\n", 0)
+        for name, wanted in (("B", ("f", 0)), ("C", ("-", 0)), ("D", ("-", 0)), ("A", ("-", 1)), ("F", ("-", 1))):
+            asked = at.run("wot.py", "--signer", fingerprint(name), "bob@example.org")
+            yield f"as a program, {name}", (asked.stdout, asked.returncode), (f"{wanted[0]} {fingerprint(name)}\n", wanted[1])
+        spaced = "0x" + " ".join(re.findall("....", fingerprint("B"))).lower()
+        yield "as gpg prints it", at.run("wot.py", "--signer", spaced, "bob@example.org").stdout, f"f {fingerprint('B')}\n"
+        for name in ("", "Bob", key_id("B")):
+            asked = at.run("wot.py", "--signer", name, "bob@example.org")
+            yield f"no fingerprint: {name}", (asked.returncode, asked.stdout, asked.stderr.splitlines()[-1]), (
+                2, "", f"wot.py: error: --signer {name}: a fingerprint has 40 or 64 hexadecimal digits")
     keys = [key(name, "A", text="Bob <bob@example.org>").replace("scSC", "scESC") for name in ("11", "22", "33", "44")]
     keys[1], keys[3] = keys[1].replace(":1000:", ":3000:", 1), keys[3].replace(by("A"), "")
     with store_of(trust("A", "u") + trust("22", "-") + trust("44", "u") + imported(key("A"), *keys)) as at, wot.Wot(at.here, PROGRAM) as store:
@@ -222,8 +231,16 @@ def supposing():
         yield "one that changes nothing", at.run("wot-suppose", "dan@example.org", "full").stdout.splitlines(), [
             "if the ownertrust of Dan <dan@example.org>, now marginal, were full:", "no letter would change"]
         yield "other options", at.run("wot-suppose", "--options", "classic 1 3 5 2").stdout, BY_OPTIONS
-        yield "options out of their range", at.run("wot-suppose", "--options", "pgp 1 1 5 2").stderr, (
-            "wot-suppose: options pgp 1 1 5 2: word 4 is none of its kind, or out of its range\n")
+        for options, told in (
+            ("pgp 1 1 5 2", "its word 3 is to be marginals-needed, 2 to 4294967295"), ("tofu 1 3 5 2", "its word 1 is to be trust-model, pgp or classic"),
+            ("pgp 1 3 5", "its word 5 is to be min-cert-level, 1 to 3"), ("pgp 1 3 5 2 2", "it is to have 5 words"), ("", "its word 1 is to be trust-model, pgp or classic"),
+        ):
+            done = at.run("wot-suppose", "--options", options)
+            yield f"options out of their range: {options}", (done.returncode, done.stdout, done.stderr), (2, "", f"wot-suppose: --options {options}: {told}\n")
+        yield "options on two lines", at.run("wot-suppose", "--options", "classic 1\n3 5 2").stdout, BY_OPTIONS
+        for name in ("1969-12-31", "2106-02-08"):
+            yield f"no day of a store's: {name}", at.run("wot-suppose", "--date", name).stderr, f"wot-suppose: {name}: no day from 1970-01-01 to 2106-02-07\n"
+        yield "the last day", at.run("wot-suppose", "--date", "2106-02-07").stdout.splitlines()[0], "at 2106-02-07 06:28:15 UTC:"
         done = at.run("wot-suppose", "example.org", "full")
         listed = ", ".join(fingerprint(name) for name in ("11", "22", "AA", "BB", "CC"))
         yield "a name of several", (done.returncode, done.stderr), (1, f"wot-suppose: more than one key has the name example.org: {listed} and 3 more\n")
@@ -356,6 +373,32 @@ def kept():
             del os.environ["XDG_CACHE_HOME"]
 
 
+def unwritten():
+    """What can't be written is told by the program's name and ends with 2, and so does a program whose standard output is closed; no traceback, and no status of Python's."""
+    with store_of(session("levels")) as at:
+        def called(redirection, *words, **names):
+            done = at.run("sh", "-c", f'exec "$@" {redirection}', "sh", *words, **names)
+            return done.returncode, done.stderr
+        asks = [["wot-list"], ["wot-why", "hana@example.org"], ["wot-critical", "Hana"], ["wot-history", "Hana"], ["wot-suppose", "Hana", "full"], ["wot-report", "-"], ["wot.py", "hana@example.org"]]
+        for redirection, told in (("> /dev/full", "No space left on device"), (">&-", "Bad file descriptor")):
+            for name in PROGRAMS:
+                # gpg too takes a closed standard output for one that leads nowhere
+                if "gpg" in name and redirection == ">&-":
+                    continue
+                said = " can't be written" if name in ("deb", "wot-sync") else f": {told}"
+                yield f"a help {redirection}: {name}", called(redirection, name, "--help"), (2, f"{name}: standard output{said}\n")
+            for words in asks:
+                for unbuffered in ("", "1"):
+                    yield f"an answer {redirection}: {words} {unbuffered}", called(redirection, *words, PYTHONUNBUFFERED=unbuffered), (2, f"{words[0]}: standard output: {told}\n")
+        for redirection in ("2>&-", "2> /dev/full"):
+            yield f"no name {redirection}", (called(redirection, "wot-list", "nobody"), called(redirection, "wot-list", "--store", "none"), called(redirection, "wot-list", "--frob")), ((1, ""), (2, ""), (2, ""))
+        run(imported(*(key(f"{number:02X}", text=f"{'x' * 3000} <a@example.org>") for number in range(0x30, 0x90))), where=at.here)
+        for words in (["wot-list"], ["wot.py", "a@example.org"], ["wot-why", "a@example.org"], ["wot-report", "-"]):
+            done = at.run("sh", "-c", '{ "$@"; echo "$?" >&2; } | head -n 1 > /dev/null', "sh", *words)
+            yield f"nobody reads on: {words}", done.stderr in ("0\n", "2\n"), True
+        yield "a long listing", done.stderr, "2\n"
+
+
 class Told:
     """A store that tells one explanation."""
 
@@ -456,6 +499,20 @@ def verdicts():
         yield "another name", said("--by", "bob@example.org", "file", "sig"), (1, "the signer's key has no user ID of bob@example.org: it is full")
         yield "no such file", at.run("wot-verify", "nofile").stderr, "wot-verify: nofile: No such file or directory\n"
         yield "no such keyring", (at.status("wot-verify", "--keyring", "ring", "file", "sig"), (at.here / "ring").exists()), (2, False)
+        for words in (("file", "sig"), ("sig", "file")):
+            done = at.run("wot-verify", "--output", "out", *words)
+            told = "wot-verify: error: --output is of a file that holds its signature itself, and of no SIGNATURE beside it"
+            yield f"an output of {words}", (done.returncode, done.stdout, done.stderr.splitlines()[-1]), (2, "", told)
+        signed(alice, "file.sig")
+        done = at.run("wot-verify", "--output", "out", "file.sig")
+        yield "an output of a signature alone", (done.returncode, done.stdout, done.stderr), (2, "", "wot-verify: file.sig is a signature alone, and holds nothing for --output\n")
+        (at.here / "hidden.sig").write_bytes(b"\xca\x03PGP" + (at.here / "file.sig").read_bytes())
+        (at.here / "hidden").write_bytes(b"content\n")
+        yield "of one behind a marker", said("--output", "out", "hidden.sig"), (1, "the file doesn't hold what was signed")
+        yield "none is made", (at.here / "out").exists(), False
+        for name in ("file.sig", "hidden.sig", "hidden"):
+            (at.here / name).unlink()
+        yield from unread_keyrings(at)
         with at.failing_gpg("--verify", 'case "$*" in *--no-auto-check-trustdb*) exec REAL "$@" ;; esac; exit 9'):
             yield "gpg's trust database is left alone", said("file", "sig"), (0, "")
         signed(carol, "carols")
@@ -470,6 +527,34 @@ def verdicts():
         run(f"delete {alice}\n", where=at.here / "store")
         yield "not in the store", said("file", "sig"), (1, "the signer's key is not in the store")
         yield from ended_keys(at, signed, said)
+
+
+# what gpg does, and then a status line where it is to be told them
+THEN_TOLD = 'REAL "$@"; code=$?; for word; do [ "$before" != --status-fd ] || to=$word; before=$word; done; echo "[GNUPG:] {} 33554445" >> /proc/self/fd/$to; exit $code'
+
+
+def unread_keyrings(at):
+    """Where gpg can't read a keyring, whether a signature is good can't be said."""
+    home = pathlib.Path(os.environ["GNUPGHOME"])
+    whole = (home / "pubring.kbx").read_bytes()
+    keys = subprocess.run(["gpg", "--export"], capture_output=True, check=True).stdout
+
+    def said(*words):
+        done = at.run("wot-verify", *words, "file", "sig")
+        return done.returncode, done.stdout, done.stderr.startswith("wot-verify: the keyring can't be read\n")
+    for name, content in (
+        ("cut", whole[:500]), ("of another kind", b"x" * 100), ("damaged at its begin", b"\0" + keys[1:]), ("damaged within", keys[:300] + b"\xff" * 40 + keys[340:]),
+    ):
+        (at.here / "damaged").write_bytes(content)
+        yield f"a keyring that is {name}", said("--keyring", "damaged"), (2, "", True)
+    (home / "gpg.conf").write_text("no-keyring\n", encoding="utf-8")
+    yield "no keyring", said(), (2, "", True)
+    (home / "gpg.conf").unlink()
+    for line in ("FAILURE keydb_search", "ERROR keydb_search", "ERROR add_keyblock_resource"):
+        with at.failing_gpg("--verify", THEN_TOLD.format(line)):
+            yield line, said(), (2, "", True)
+    with at.failing_gpg("--verify", THEN_TOLD.format("FAILURE gpg-exit")):
+        yield "another failure", said()[0], 0
 
 
 def ended_keys(at, signed, said):
@@ -489,7 +574,7 @@ def ended_keys(at, signed, said):
 
 
 def alone():
-    checks, left = [outputs, stale, signers, held, names, supposing, before, kept, later_forms, interrupted], []
+    checks, left = [outputs, stale, signers, held, names, supposing, before, kept, unwritten, later_forms, interrupted], []
     if not WITHOUT_RIGHTS or shutil.which("setpriv"):
         checks.append(denied)
     else:

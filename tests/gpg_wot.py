@@ -282,6 +282,8 @@ def recipients(ask):
         with ask.asking(store):
             for name in (carol, "<Carol@EXAMPLE.org>", carol[-16:], "=carol <carol@example.org>", "carol")[:None if store == "store" else 2]:
                 yield f"{store}: {name}", encrypted("-r", name), (0, [], True) if store == "store" else (2, [f"10 {name}"], False)
+            done = ask.run("--encrypt", "-r", "carol@example.org", "-r", bob, given=b"text")
+            yield f"{store}: it is told once", len(re.findall(b"^wot: " + SAID[store].encode(), done.stderr, re.M)), 0 if store == "store" else 1
     yield "valid in gpg alone", encrypted("-r", alice), (2, [f"10 {alice}"], False)
     done = ask.run("--batch", "--status-fd", "2", "--encrypt", "-r", alice, given=b"text")
     lines = [re.sub(r" \w{40}\b", "", line) for line in statuses(done.stderr.decode())]
@@ -330,7 +332,13 @@ def streams(ask):
     yield "10 MB among status lines", data[100:-100] in opened.stdout, True
     yield "status", [ask.run(*words).returncode for words in (("--version",), ("--frob",), ("--verify", "none"), ("--status-fd", "99", "--verify", "none"))], [0, 2, 2, 2]
     yield "its version", ask.said("--version"), ask.said("--version", program=REAL)
-    yield "its help", "gpg-wot: Stands for gpg" in ask.said("--help")[0], True
+    for name, first in (("gpg-wot", "Stands for gpg wherever"), ("git-gpg-wot", "gpg-wot, under the name that git is told")):
+        out, told, code = ask.said("--help", program=name)
+        yield f"the help of {name}", (out.startswith(f"usage: {name} [WORD OF gpg]...\n\n{first}"), told, code), (True, "", 0)
+    yield "and a help among other words, which is gpg's", ask.said("--help", "--batch"), ask.said("--help", "--batch", program=REAL)
+    variables = set(re.findall("^  ([A-Z_]+) ", ask.said("--help")[0], re.M))
+    page = (CONTRIB.parent / "docs" / "gpg-wot.1").read_text(encoding="utf-8")
+    yield "the variables of its page", variables, set(re.findall(r"^\.B ([A-Z_]+)$", page.partition(".SH ENVIRONMENT")[2], re.M))
     yield "no gpg", [ask.said("--version", GPG_WOT_GPG=path)[2] for path in ("/nowhere", "/bin/true")], [2, 2]
     yield "a descriptor that gpg would read otherwise", ask.said("--status-fd=+2", "--verify", "none")[::2], ("", 2)
     (ask.at.tools / "gpg").symlink_to(CONTRIB / "gpg-wot")
@@ -544,9 +552,9 @@ EMACS = """\
 
 
 def module_python(module):
-    """A Python that has this module of Debian's, or nothing."""
+    """A Python that has this module of Debian's, or nothing. It is asked elsewhere, as a script of the tests has the name of one."""
     found = [path for path in (sys.executable, "/usr/bin/python3") if os.access(path, os.X_OK)]
-    return next((path for path in found if subprocess.run([path, "-c", f"import {module}"], capture_output=True, check=False).returncode == 0), None)
+    return next((path for path in found if subprocess.run([path, "-c", f"import {module}"], cwd=os.sep, capture_output=True, check=False).returncode == 0), None)
 
 
 def signed_by_both(ask):
@@ -672,8 +680,18 @@ def mail(ask, program):
 
 
 def mutt(ask):
-    """mutt."""
+    """mutt; and its commands for encryption as the recipe has them, with what mutt puts into them."""
     yield from mail(ask, "mutt")
+    _, alice, bob, carol, _ = primaries()
+    (ask.at.here / "letter").write_bytes(b"a letter\n")
+    recipe = (CONTRIB.parent / "docs" / "RECIPES.md").read_text(encoding="utf-8")
+    commands = dict(re.findall(r'^set pgp_encrypt_(only|sign)_command="(.*)"$', recipe, re.M))
+    for name, command in sorted(commands.items()):
+        for to, wanted in (([carol], (0, True)), ([bob, carol], (0, True)), ([alice], (2, False)), ([carol, alice], (2, False))):
+            filled = command.replace("%?a?-u %a?", f"-u {bob}").replace("%r", " ".join(to)).replace("%f", "letter")
+            done = ask.run("-c", filled, program="sh")
+            yield f"{name} to {len(to)}: {done.stderr.decode()}", (done.returncode, done.stdout.startswith(b"-----BEGIN PGP MESSAGE")), wanted
+    yield "both", sorted(commands), ["only", "sign"]
 
 
 def neomutt(ask):

@@ -137,7 +137,8 @@ def lacking(text):
 
 def has_module(module):
     try:
-        return subprocess.run(["/usr/bin/python3", "-c", f"import {module}"], capture_output=True, check=False).returncode == 0
+        # elsewhere, as a script of the tests has the name of one
+        return subprocess.run(["/usr/bin/python3", "-c", f"import {module}"], cwd=os.sep, capture_output=True, check=False).returncode == 0
     except OSError:
         return False
 

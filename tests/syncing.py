@@ -70,7 +70,10 @@ def early():
             (("--root", " ".join(re.findall("....", bob)).lower()), f"{bob} is not ultimately trusted"),
             (("--root", bob[:20]), f"--root {bob[:20]}: a fingerprint has 40 or 64 hexadecimal digits"),
             (("--root", "alice@example.org"), "--root alice@example.org: no fingerprint"),
-            (("--options", "pgp 1 3 x 2"), "wot options pgp 1 3 x 2: err bad-argument 4"),
+            (("--options", "pgp 1 3 x 2"), "--options pgp 1 3 x 2: err bad-argument 4; give --options as they are in gpg: trust-model (pgp or classic), completes-needed, "
+             "marginals-needed, max-cert-depth and min-cert-level"),
+            (("--options", "tofu 1 3 5 2"), "--options tofu 1 3 5 2: err bad-argument 1; give --options as they are in gpg: trust-model (pgp or classic), completes-needed, "
+             "marginals-needed, max-cert-depth and min-cert-level"),
             (("--check", "65"), "wot export failed"),
             (("--mode", "055"), "--mode 055: three octal digits, the first of them 7"),
             (("--keyring", "nowhere"), f"{at.here}/nowhere: can't be read"),
@@ -118,7 +121,26 @@ def warnings():
             conf.write_text(f"trust-model {model}\n", encoding="utf-8")
             done = at.run("wot-sync")
             yield f"the model {model}", (done.returncode, f"gpg's trust-model is {model}, and the letters here are those of pgp" in done.stderr), (0, told)
+        for text, words, in_gpg, here, given in (
+            ("marginals-needed 4\nmin-cert-level 3\n", (), "pgp, completes-needed 1, marginals-needed 4, max-cert-depth 5", "pgp 1 3 5", "pgp 1 4 5 2"),
+            ("trust-model classic\ncompletes-needed 2\n", ("--options", "classic 1 3 5 3"), "classic, completes-needed 2, marginals-needed 3, max-cert-depth 5", "classic 1 3 5", "classic 2 3 5 3"),
+            ("max-cert-depth 4\n", ("--options", "classic 1 3 4 2"), None, None, None),
+            ("trust-model pgp\nmax-cert-depth 4\n", ("--options", "pgp 1 3 4 2"), None, None, None),
+        ):
+            conf.write_text(text, encoding="utf-8")
+            told = f"wot-sync: gpg has trust-model {in_gpg}, and the letters here are by {here}: give --options as they are in gpg, '{given}'\n" if given else ""
+            done = at.run("wot-sync", *words)
+            yield f"the numbers of gpg.conf {text}", (done.returncode, done.stderr), (0, told)
+            gpg("--check-trustdb")
+            done = at.run("wot-sync", *words)
+            yield f"the numbers of its trust database {text}", (done.returncode, done.stderr), (0, told)
+        gpg("--check-trustdb")
+        alone = primaries()[3]
+        conf.write_text(f"trusted-key {alone}\n", encoding="utf-8")
+        told = f"wot-sync: gpg trusts {alone} ultimately, and not by its ownertrust, as by trusted-key in gpg.conf: here it is no root\n"
+        yield "a trusted key of gpg.conf", [(done.returncode, done.stderr) for done in (at.run("wot-sync"), at.run("wot-sync", "--ownertrust", "both"))], [(0, told), (0, "")]
         conf.unlink()
+        gpg("--check-trustdb")
 
 
 def edits():
@@ -250,6 +272,9 @@ def importing():
             ("nothing", b"", "is empty"),
             ("blank lines", b"\n \n", "is empty"),
             ("a text", b"root:x:0:0:root:/root:/bin/sh\n", "has no key; "),
+            ("a listing that lacks its last newline", good[:-1], "ends within a line: it was cut"),
+            ("a listing that was cut", good[:-20], "ends within a line: it was cut"),
+            ("a listing that was cut at its first key", good[:good.find(b"\nfpr:")], "ends within a line: it was cut"),
             ("a bad listing", good + b"pub:\n", f"listing {good.count(10) + 1} ShortRecord: pub:"),
             ("a line that would end the block", good + b".\n", "a line of the block would end it"),
         ):
@@ -280,6 +305,10 @@ def going_in():
         listed = run("list\n", where=at.here / "store").stdout.decode()
         yield "a command", at.run("wot-in", "list").stdout, listed
         yield "its words and its status", [at.status("wot-in", *words) for words in (("list", a), ("list", "x"), ("check", "--workers", "2"), ("trust", a, "-"))], [0, 1, 0, 2]
+        counted = [at.run("wot-in", *words).stdout for words in (("check",), ("--workers", "2", "check"), ("--workers=2", "check"), ("check", "--workers", "2"))]
+        yield "workers", (counted, counted[0].startswith("tally:")), (counted[:1] * 4, True)
+        yield "workers of a session", at.run("wot-in", "--workers", "2", given="list\n").stdout, listed
+        yield "no workers", [at.status("wot-in", *words) for words in (("--workers", "0", "list"), ("--workers", "x"), ("--workers", "2", "list", "--workers", "2"))], [2, 2, 2]
         yield "a block", at.run("wot-in", "import", given=key("B", "A")).stdout, "ok keys 1 kept 1 passed 0\n"
         yield "a session", at.run("wot-in", given=f"trust {a} o\nexport\n").stdout, "ok\nok\n"
         yield "the program by a path from here", at.run("wot-in", "export", WOT=os.path.relpath(at.tools / "wot", at.here)).stdout, "ok\n"
@@ -312,6 +341,7 @@ def nights():
         with at.failing_gpg(LISTS, f"REAL \"$@\" | sed '/^fpr:*{bob}:/a uat:-::::1::AB::1 152:'"):
             yield "a photo", night()[1][0], f"[  new   ] -> [ unknown] [photo, 152 bytes] {bob}"
         yield "that is gone", night()[1][0], f"[ unknown] -> [  gone  ] 1 152 {bob}"
+        yield from old_roots(at)
         run("date 500\n" + imported(key("A", expires=1000)), where=at.here / "store")
         with at.failing_gpg(LISTS, "exit 2"):
             status, lines, told = night()
@@ -321,6 +351,48 @@ def nights():
         yield "past the next check", (status, lines[0]), (0, f"the former store was {late}: what was asked since may have had another answer")
         yield "its edits", "wot export there" in told, True
         yield "nobody who is new falls", carol in at.run("wot-in", "list").stdout, True
+
+
+def old_roots(at):
+    """What is told of the store that stays where a sync failed: by which roots it answers that are gpg's no longer, and that its date is still to come."""
+    me, alice = primaries()[:2]
+    named = f"Me <me@example.org> {me}"
+
+    def told(*words):
+        done = at.run("wot-nightly", "--store", "store", *words)
+        lines = [line for line in done.stderr.splitlines() if line.startswith("wot-nightly: ")]
+        return done.returncode, done.stdout, lines
+    at.status("wot-sync")
+    (at.here / "none").write_text(f"{me}:6:\n{alice}:5:\n{me}:5:\n", encoding="utf-8")
+    (at.here / "disabled").write_text(f"{me}:134:\n", encoding="utf-8")
+    still = f"wot-nightly: the store still answers by the root {named}, which is no longer ultimately trusted"
+    with at.failing_gpg(LISTS, "exit 2"):
+        yield "a root that gpg has too", told(), (2, "", [])
+        yield "a root that is disabled there", told("--", "--ownertrust", "disabled"), (2, "", [])
+        yield "an ownertrust text without it", told("--", "--root", me, "--ownertrust", "none"), (2, "", [still])
+        own(FULL, ULTIMATE, UNDEFINED, UNDEFINED)
+        yield "a root that gpg has no more", told(), (2, "", [still])
+        run(f"trust {alice} u\n", where=at.here / "store")
+        yield "of two", told(), (2, "", [still])
+        own(FULL, FULL, UNDEFINED, UNDEFINED)
+        both = sorted([still, still.replace(named, f"Alice <alice@example.org> {alice}")])
+        yield "both", sorted(told()[2]), both
+    status, out, lines = told()
+    yield "since gpg has no root", (status, out, sorted(lines)), (2, "", both)
+    own(ULTIMATE, FULL, UNDEFINED, UNDEFINED)
+    at.status("wot-sync")
+    with at.failing_gpg("--export-ownertrust", "exit 2"):
+        yield "no ownertrust", told(), (2, "", [f"wot-nightly: the store answers by the root {named}; whether that is ultimately trusted still can't be said"])
+    run("date 4000000000\n", where=at.here / "store")
+    late = "of a date that is still to come, 2096-10-02 07:06:40 UTC"
+    with at.failing_gpg(LISTS, "exit 2"):
+        done = told()
+    yield "a date to come, and gpg fails", done[2][-1:], [f"wot-nightly: the store is {late}: its letters may be others by now"]
+    yield "a date to come", told()[1].splitlines()[0], f"the former store was {late}: what was asked since may have had another answer"
+    (at.here / "store").unlink()
+    with at.failing_gpg(LISTS, "exit 2"):
+        yield "no store", told(), (2, "", [])
+    at.status("wot-nightly", "--store", "store")
 
 
 def completed():
