@@ -15,6 +15,8 @@ from reference.gpg_keys import DAY, START, NoGnuPG, gpg, later, letters, primari
 from reference.program import folder, run
 
 ULTIMATE, FULL, NEVER, UNDEFINED = 6, 5, 3, 2
+# an attribute, and the text that a listing has of it: how many images, and how many bytes
+IMAGE, IMAGE_TEXT = packets.image(71), "1 89"
 
 
 @contextlib.contextmanager
@@ -53,8 +55,9 @@ def own(**trusts):
 
 
 def letter(listing, number):
-    """The letter of the one user ID of a key, by its place in the keyring."""
-    return next(found for text, found in letters(listing).items() if text.startswith(f"Key {number} "))
+    """The letter of the one user ID of a key, by the key's place in the keyring, or of an attribute, by its text."""
+    begin = number if isinstance(number, str) else f"Key {number} "
+    return next(found for text, found in letters(listing).items() if text.startswith(begin))
 
 
 def printed():
@@ -71,12 +74,14 @@ def asked_gnupg(number, date=None):
 
 
 def asked_program(number, date=None):
-    """The program's letter at a date, or now, where it reads what gpg prints now."""
+    """The program's letter at a date, or now, where it reads what gpg prints now, or why it refuses that."""
     lines = ["ownertrust", *gpg("--export-ownertrust").splitlines(), ".", f"date {gpg_keys.clock if date is None else date}"]
     done = run("\n".join([*lines, "import", *printed().split("\n"), ".", "list", ""]).encode(errors="surrogateescape"))
-    if done.returncode:
+    if done.returncode not in (0, 1):
         sys.exit(f"differences: the program ended with {done.returncode}, and told {done.stdout[:300]}")
-    return letter(done.stdout.decode(), number)
+    told = done.stdout.decode()
+    refusals = [line.split()[-1] for line in told.splitlines() if line.startswith("err ")]
+    return refusals[0] if refusals else letter(told, number)
 
 
 def expiring_key():
@@ -136,14 +141,48 @@ def scope_beyond_ascii():
     return [(asked_gnupg(2), asked_program(2))]
 
 
-def key_from_the_future():
-    """A key that is made after the date."""
-    (a,) = make()
+def domain_with_a_sign():
+    """A trust signature for a domain with a sign before which gpg puts a backslash, and which it then takes for the end of a word."""
+    a, b, c = make(3)
+    trust_sign(a, b, 2, 1, "example.org>")
+    sign(b, c)
+    own(key0=ULTIMATE)
+    return [(asked_gnupg(2), asked_program(2))]
+
+
+def made_around_a_date():
+    """Two keys that are made after the date that is answered, one of which an older key certified, and the other of which certified an older one."""
+    a, b = make(2)
     later(DAY)
-    (b,) = make()
+    c, d = make(2)
+    sign(a, c)
+    sign(d, b)
+    own(key0=ULTIMATE, key3=ULTIMATE)
+    return START + DAY // 2
+
+
+def key_from_the_future():
+    """A key that is made after the date, and one that such a key certified."""
+    date = made_around_a_date()
+    return [(asked_gnupg(number, date), asked_program(number, date)) for number in (2, 1)]
+
+
+def listing_of_the_past():
+    """The same, where the program reads what gpg prints at that date."""
+    gpg_keys.clock = made_around_a_date()
+    return [(asked_gnupg(number), asked_program(number)) for number in (2, 1)]
+
+
+def certification_from_the_future():
+    """A certification that is made after the date, on an older key, where the program reads what gpg prints now, and what it prints at that date."""
+    a, b = make(2)
+    later(DAY)
     sign(a, b)
     own(key0=ULTIMATE)
-    return [(asked_gnupg(1, START + DAY // 2), asked_program(1, START + DAY // 2))]
+    date = START + DAY // 2
+    found = [(asked_gnupg(1, date), asked_program(1, date))]
+    gpg_keys.clock = date
+    return [*found, (asked_gnupg(1), asked_program(1))]
 
 
 def signed_twice(edit):
@@ -284,17 +323,18 @@ def chain_in_the_first_alone():
     return chain("lists.example.org", "example.org")
 
 
-def hand_made(texts, made):
-    """Both letters of the last key of some, which are made packet by packet; the first is ultimately trusted."""
+def hand_made(users, made, dates=(None,)):
+    """Both letters of the last key of some, which are made packet by packet, at each date, or now; the first is ultimately trusted."""
     if packets.Ed25519PrivateKey is None:
         raise NoGnuPG("no cryptography for Python")
-    keys = [packets.Key(b"%d" % number, text) for number, text in enumerate(texts)]
+    keys = [packets.Key(b"%d" % number, user) for number, user in enumerate(users)]
     with tempfile.NamedTemporaryFile() as file:
         file.write(b"".join(key.block(*made(keys, key)) for key in keys))
         file.flush()
         gpg("--import", file.name)
     gpg("--import-ownertrust", given=f"{keys[0].fingerprint.hex().upper()}:{ULTIMATE}:\n")
-    return [(asked_gnupg(len(keys) - 1), asked_program(len(keys) - 1))]
+    last = IMAGE_TEXT if users[-1] == IMAGE else len(keys) - 1
+    return [(asked_gnupg(last, date), asked_program(last, date)) for date in dates]
 
 
 def fingerprint_of_no_key():
@@ -318,16 +358,34 @@ def own_fingerprint():
     return hand_made(["Key 0 <a>", "Key 1 <b>"], made)
 
 
-def scoped(expression, *texts):
+def revoked(more, dates=(None,)):
+    """A certification with this, and a later revocation of it, which gpg doesn't make where it can't be revoked."""
+    def made(keys, key):
+        return [key.signature(keys[0], more=more), key.signature(keys[0], 0x30, packets.MADE + 1)] if key is keys[1] else []
+    return hand_made(["Key 0 <a>", "Key 1 <b>"], made, dates)
+
+
+def revocation_of_what_cannot_be_revoked():
+    """A certification that can't be revoked and that expires, and a later revocation of it."""
+    expiry = START + DAY
+    return revoked(packets.NON_REVOCABLE + packets.expiring(expiry - packets.MADE), (expiry - 1, expiry))
+
+
+def revocation():
+    """A certification, and a later revocation of it."""
+    return revoked(b"")
+
+
+def scoped(expression, *users):
     """Both letters of these user IDs, each certified by an introducer with this scope."""
     def made(keys, key):
         if key is keys[1]:
             return [key.signature(keys[0], more=packets.trust_signature(1, 120, expression))]
         return [key.signature(keys[1])] if key is keys[2] else []
     found = []
-    for text in texts:
+    for user in users:
         with home():
-            found += hand_made(["Key 0 <a>", "Key 1 <b>", f"Key 2 {text}"], made)
+            found += hand_made(["Key 0 <a>", "Key 1 <b>", user if user == IMAGE else f"Key 2 {user}"], made)
     return found
 
 
@@ -335,13 +393,63 @@ def expressions():
     """Regular expressions that gpg does not write, each with a user ID that matches it and one that doesn't."""
     return [
         *scoped(r"@(a|b)\.org>", "<c@b.org>", "<c@c.org>"), *scoped(r"\.example\.com$", "c@lists.example.com", "<c@lists.example.com>"),
-        *scoped(".*", "<c@example.org>"), *scoped("^key 2", "<c@example.org>"), *scoped("(x", "(x <c@example.org>"),
+        *scoped(".*", "<c@example.org>"), *scoped("^key 2", "<c@example.org>"), *scoped(r"<[^>]+[@.].*\.org>$", "<c@example.org>"),
+        *scoped("(x", "(x <c@example.org>"),
     ]
 
 
 def unescaped_dot():
     """A domain whose dot is not escaped."""
     return scoped("<[^>]+[@.]example.org>$", "<c@example.org>", "<c@exampleXorg>", "<c@example.net>")
+
+
+def dots_beyond_ascii():
+    """A letter of two bytes in place of one dot, and of two."""
+    return [*scoped(r"<[^>]+[@.]zo.\.example>$", "<c@zoë.example>"), *scoped(r"<[^>]+[@.]zo..\.example>$", "<c@zoë.example>")]
+
+
+def case_beyond_ascii():
+    """A letter beyond ASCII in the other case."""
+    return scoped(r"<[^>]+[@.]zoë\.example>$", "<c@ZOË.example>")
+
+
+def unescaped_beyond_ascii():
+    """A letter beyond ASCII whose bytes are not escaped."""
+    return scoped(r"<[^>]+[@.]zoë\.example>$", "<c@zoë.example>")
+
+
+def escaped_signs():
+    """Backslashes by which GnuPG means the start or the end of a word, or a digit, each with what it admits there, and what it admits here."""
+    return [
+        *scoped(r"<[^>]+[@.]\<example\.org>$", "<c@example.org>", "<c@<example.org>"),
+        *scoped(r"<[^>]+[@.]example\.org\>>$", "<c@example.org>", "<c@example.org>>"),
+        *scoped(r"<[^>]+[@.]example\d\.org>$", "<c@example1.org>", "<c@exampled.org>"),
+    ]
+
+
+def long_of(size):
+    """An expression of so many bytes, and a user ID that has them."""
+    return scoped("x" * size, "x" * size + " <c@example.org>")
+
+
+def long_expression():
+    """An expression of 256 bytes."""
+    return long_of(256)
+
+
+def longest_expression():
+    """An expression of 255 bytes."""
+    return long_of(255)
+
+
+def attribute():
+    """An attribute, and scopes that are words of the text of one of both."""
+    return [*scoped("jpeg image of size 71", IMAGE), *scoped("1 89", IMAGE)]
+
+
+def attribute_in_a_domain():
+    """An attribute, and a scope in gpg's form."""
+    return scoped(r"<[^>]+[@.]example\.org>$", IMAGE)
 
 
 # what is compared, and what GnuPG and the program answer, each at one date or at some
@@ -351,14 +459,21 @@ DIFFERENT = {
     last_delegation: [("m", "f")],
     scope_that_stays: [("-", "f")],
     scope_beyond_ascii: [("-", "f")],
-    key_from_the_future: [("-", "f")],
+    domain_with_a_sign: [("f", "-")],
+    key_from_the_future: [("-", "f"), ("-", "f")],
     next_check: [("no", "yes")],
     ownertrust_field: [("f", "-")],
     deleted_key: [("gone", "f"), ("gone", "f")],
     certification_that_cannot_be_revoked: [("f", "f"), ("f", "-")],
     chain_beyond: [("f", "-")],
     fingerprint_of_no_key: [("f", "-")],
-    expressions: [("-", "f"), ("-", "-"), ("-", "f"), ("-", "-"), ("-", "f"), ("-", "f"), ("f", "-")],
+    revocation_of_what_cannot_be_revoked: [("f", "-"), ("-", "-")],
+    expressions: [("-", "f"), ("-", "-"), ("-", "f"), ("-", "-"), ("-", "f"), ("-", "f"), ("-", "f"), ("f", "-")],
+    dots_beyond_ascii: [("f", "-"), ("-", "f")],
+    case_beyond_ascii: [("f", "-")],
+    escaped_signs: [("f", "-"), ("-", "f"), ("f", "-"), ("-", "f"), ("f", "-"), ("-", "f")],
+    long_expression: [("f", "LimitReached")],
+    attribute: [("f", "-"), ("-", "f")],
 }
 SAME = {
     expiring_certification: [("f", "f"), ("-", "-")],
@@ -367,11 +482,17 @@ SAME = {
     never_lifted: [("f", "f")],
     expired_owner: [("-", "-")],
     revoked_owner: [("-", "-")],
+    listing_of_the_past: [("-", "-"), ("-", "-")],
+    certification_from_the_future: [("f", "f"), ("f", "f")],
     chain_within: [("f", "f")],
     chain_in_the_first_alone: [("-", "-")],
     own_fingerprint: [("f", "f")],
     fingerprint_of_another: [("-", "-")],
+    revocation: [("-", "-")],
     unescaped_dot: [("f", "f"), ("f", "f"), ("-", "-")],
+    unescaped_beyond_ascii: [("f", "f")],
+    longest_expression: [("f", "f")],
+    attribute_in_a_domain: [("-", "-")],
 }
 
 if __name__ == "__main__":

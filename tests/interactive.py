@@ -1,7 +1,7 @@
 #!/usr/bin/env python3
 """Drives the built program through pipes as a person does: writes one line, waits for its reply, writes the next.
 
-On a terminal a session says first that it reads commands, and nothing else does.
+On a terminal `wot` without any word says first that it reads commands, and nothing else does, also no session with an option.
 """
 import os
 import pty
@@ -22,6 +22,13 @@ TURNS = [
     ("\n", f"{A}:6:\nok\n"),
 ]
 HINT = b"wot: reads commands from standard input; see wot(1)\n"
+# the words of a run, and what standard output and error get, where its standard input is a terminal
+ON_A_TERMINAL = [
+    ((), (b"ok\n", HINT)),
+    (("--workers", "2"), (b"ok\n", b"")),
+    (("export",), (b"ok\n", b"")),
+    (("-x",), (b"", USAGE.encode())),
+]
 
 
 def on_a_terminal(*words):
@@ -61,7 +68,7 @@ with folder() as store:
     found = (child.wait(timeout=10), child.stderr.read())
 if found != (1, b""):
     sys.exit(f"interactive: the status and standard error are {found} in place of 1 and nothing")
-for words, wanted in (((), (b"ok\n", HINT)), (("export",), (b"ok\n", b"")), (("-x",), (b"", USAGE.encode()))):
+for words, wanted in ON_A_TERMINAL:
     told = on_a_terminal(*words)
     if told != wanted:
         sys.exit(f"interactive: on a terminal, with the words {words}, came {told!r} in place of {wanted!r}")

@@ -1,5 +1,5 @@
 """Keys and certifications that are made packet by packet (RFC 9580), also as gpg doesn't make them: a certification may name any fingerprint as its
-issuer's, and a trust signature may have any regular expression.
+issuer's, a trust signature may have any regular expression, and a certification that can't be revoked may have a revocation.
 
 It needs Python's `cryptography`.
 """
@@ -27,7 +27,8 @@ def number(value):
 
 
 def subpacket(kind, body):
-    return bytes([len(body) + 1, kind]) + body
+    size = len(body) + 1
+    return (bytes([size]) if size < 192 else bytes([192 + (size - 192 >> 8), size - 192 & 255])) + bytes([kind]) + body
 
 
 def trust_signature(depth, amount, expression):
@@ -35,8 +36,21 @@ def trust_signature(depth, amount, expression):
     return subpacket(5, bytes([depth, amount])) + subpacket(6, expression.encode() + b"\0")
 
 
+def expiring(seconds):
+    """What makes a certification expire so long after its date."""
+    return subpacket(3, struct.pack(">I", seconds))
+
+
+def image(size):
+    """An attribute with one image of so many bytes, all zero."""
+    return subpacket(1, struct.pack("<HBB", 16, 1, 1) + bytes(12 + size))
+
+
+NON_REVOCABLE = subpacket(7, b"\0")
+
+
 class Key:
-    """A key with one user ID, made of a seed."""
+    """A key with one user ID, made of a seed. The user ID is a text, or the bytes of an attribute."""
 
     def __init__(self, seed, user):
         self.secret = Ed25519PrivateKey.from_private_bytes(hashlib.sha256(seed).digest())
@@ -44,7 +58,7 @@ class Key:
         self.body = struct.pack(">BIB", 4, MADE, 22) + ED25519 + number(point)
         self.hashed = b"\x99" + struct.pack(">H", len(self.body)) + self.body
         self.fingerprint = hashlib.sha1(self.hashed).digest()
-        self.user = user.encode()
+        self.tag, self.mark, self.user = (13, b"\xb4", user.encode()) if isinstance(user, str) else (17, b"\xd1", user)
 
     def signature(self, by, kind=0x10, made=MADE, named=None, more=b""):
         """The signature on the user ID by a key, which names its own fingerprint or another's."""
@@ -52,7 +66,7 @@ class Key:
         if by is self:
             parts += subpacket(27, b"\3")
         head = struct.pack(">BBBBH", 4, kind, 22, 8, len(parts)) + parts
-        trailer = b"\xb4" + struct.pack(">I", len(self.user)) + self.user + head + b"\4\xff" + struct.pack(">I", len(head))
+        trailer = self.mark + struct.pack(">I", len(self.user)) + self.user + head + b"\4\xff" + struct.pack(">I", len(head))
         digest = hashlib.sha256(self.hashed + trailer).digest()
         issuer = subpacket(16, by.fingerprint[-8:])
         signed = by.secret.sign(digest)
@@ -60,4 +74,4 @@ class Key:
 
     def block(self, *signatures):
         """The key, its user ID, the signature by itself and others."""
-        return packet(6, self.body) + packet(13, self.user) + self.signature(self, 0x13) + b"".join(signatures)
+        return packet(6, self.body) + packet(self.tag, self.user) + self.signature(self, 0x13) + b"".join(signatures)
