@@ -101,7 +101,8 @@ impl Uncounted {
     }
 
     /// The engine of this state, by the rows and counts of the state before the edits. The keys that these named are recounted, and
-    /// with them only those whose certifiers' rows change; all others are as they were.
+    /// with them only those certified by a key whose chain changes: its row, or the row of whoever delegated to it, and so on up. All
+    /// others are as they were.
     pub fn count<L: Ledger>(self, steps: &mut Steps<L>) -> Result<Engine, Mem>
         requires due { HasLeft (uncounted_state self) self.todo }
         ensures state { IfOk result (λ new. new ≡ uncounted_state self) }

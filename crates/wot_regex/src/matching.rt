@@ -94,7 +94,6 @@ pub fn reach_at(nodes: &[Node], cells: &[Reach], place: Place) -> Reach
 }
 
 #[inline(always)]
-#[inline(always)]
 fn gather_one(node: Node, cell: Reach, place: Place, stack: &mut Stack) -> Reach
     requires { length stack.old < DEPTH }
     ensures cell { result ≡ noted node cell stack.old }

@@ -26,7 +26,7 @@ pub enum RecordError {
     Memory,
 }
 
-// Reads the edit of a payload, which, up to 256 megabytes, is gone before the edit is made.
+// Reads the edit of a payload, which has up to 536,870,912 bytes and is gone before the edit is made.
 fn read_edit(alloc: Global, payload: Text) -> Result<Edit, RecordError>
     ensures spells { IfOk result (λ edit. IsPayload payload edit) }
     ensures none { (s : State) → IfErr result (MakesNone s payload) }

@@ -2,7 +2,7 @@
 
 ghost use Rattle.std.specs.Prelude.{◌≤◌};
 
-/// So many workers, each in a thread of its own where one can be started, and the gate that each passes.
+/// So many workers, each in a thread of its own where one can be started, and the gate that those of some phases pass.
 #[derive(Drop)]
 pub struct Workers<'a, R, G> {
     /// What starts threads.
