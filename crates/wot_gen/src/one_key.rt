@@ -9,7 +9,7 @@ use crate::certs::certs;
 use crate::dates::{MADE, expires};
 use crate::names::{fpr, text, text_len};
 use std::alloc::Global;
-use wot_types::{Key, Mem, Text, User, UserKind, Users};
+use wot_types::{Caps, Key, Mem, User, UserHash, UserKind, Users};
 
 /// The user IDs of key `i`: one.
 fn users(alloc: Global, seed: u64, i: u32) -> Result<Users, Mem>
@@ -19,7 +19,7 @@ fn users(alloc: Global, seed: u64, i: u32) -> Result<Users, Mem>
     users.push(User {
         kind: UserKind::Uid,
         text: text(alloc, i)?,
-        hash: Text::from_vec(Vec::new(alloc)),
+        hash: UserHash::from_bytes(alloc, b"")?,
         made: MADE,
         expires: 0,
         revoked: false,
@@ -41,7 +41,7 @@ pub fn key(alloc: Global, seed: u64, i: u32, n: u32) -> Result<Key, Mem>
         made: MADE,
         expires: expires(i),
         revoked: i % 97 == 96,
-        caps: Text::from_bytes(alloc, b"scSC")?,
+        caps: Caps::from_bytes(alloc, b"scSC")?,
         users: users(alloc, seed, i)?,
     })
 }

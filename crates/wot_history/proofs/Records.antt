@@ -1,9 +1,9 @@
 -- The first records of a journal.
-use Rattle.std.proofs.Common.{◌≡◌, ℕ, ◌+◌, ◌<◌, List, Option, refl, sym, ◌∙◌, ap, subst}
+use Rattle.std.proofs.Common.{◌≡◌, ℕ, ◌+◌, ◌<◌, List, Option, Err, refl, sym, ◌∙◌, ap, subst}
 use Rattle.wot_types.specs.State.{State}
 use Rattle.wot_site.specs.Disk.{disk_of}
-use Rattle.wot_site.specs.Seen.{Honestly, Seen}
-use Rattle.wot_site.specs.Site.{Stays}
+use Rattle.wot_site.specs.Seen.{Faults, Honestly, Seen}
+use Rattle.wot_site.specs.Site.{DiskRose, FailsOnlyBy, Stays}
 use Rattle.wot_site.proofs.Honest.{honest_then}
 use Rattle.wot_site.specs.declared.side.Side.{Side}
 use Rattle.wot_journal.specs.Record.{IsClosed}
@@ -64,3 +64,9 @@ record_unread side start base done at s count few (ReplayError.Short q) a b c ca
     (honest_then (Came side start base done at s) (IsTruncatedAt side at) (StopsAt side start base count (Short at)) a b c came (truncated q refl) (λ x y z came found. came_short side start base done at s x y came count few z found))
 record_unread side start base done at s count few ReplayError.Memory a b c came stays short truncated =
     honest_then (Came side start base done at s) Stays (StopsAt side start base count Memory) a b c came stays (λ x y z came same. record { stays = same ∙ came.stays; answer = tt })
+
+-- what is answered there has the cause of the record's fault
+pub unread_cause : {T U : Type 0} (e : ReplayError) (old mid new : Faults) → mid ≡ old → FailsOnlyBy {T = T} ReplayError.DiskFault mid new (Err e) → FailsOnlyBy {T = U} DiskFault old new (Err (unread_record e))
+unread_cause ReplayError.DiskFault old mid new same cause = record { rose = λ _. subst (λ (f : Faults). DiskRose f new) same (cause.rose refl); quiet = λ no. absurd (no refl) }
+unread_cause (ReplayError.Short q) old mid new same cause = record { rose = λ is. absurd (cc is); quiet = λ _. cause.quiet (λ is. absurd (cc is)) ∙ same }
+unread_cause ReplayError.Memory old mid new same cause = record { rose = λ is. absurd (cc is); quiet = λ _. cause.quiet (λ is. absurd (cc is)) ∙ same }

@@ -12,6 +12,7 @@ pub mod SoundKeys
 pub mod TrustLemmas
 pub mod CertLemmas
 pub mod PlaceLemmas
+pub mod RisingLemmas
 pub mod DigitLemmas
 pub mod HashLemmas
 pub mod OtherLemmas

@@ -1,22 +1,25 @@
 //! The keys of the blocks that have ended.
 
-ghost use Rattle.std.specs.Prelude.{◌≡◌, ◌≢◌, ℕ, IfOk, OnOk};
+ghost use Rattle.std.specs.Prelude.{◌≡◌, IfOk, OnOk};
 ghost use Rattle.std.specs.FinMap as map;
-ghost use Rattle.wot_listing.specs.Places.{key_at};
 
+use crate::placed_keys::PlacedKeys;
+use crate::rising_keys::RisingKeys;
 use std::alloc::Global;
-use std::collections::BTreeMap;
 use std::marker::Model;
-use wot_types::{Key, KeyId, Keys, List, Mem};
+use wot_types::{Key, KeyId, Keys, Mem};
 
 /// Keys by key ID, in rising order.
-///
-/// The keys stand in the order in which they came, and a map has their places: a map of the keys themselves would leave
-/// half of its room empty where key IDs rise, as in a sorted listing.
 #[derive(Debug, Drop)]
 pub struct BlockKeys {
-    places: BTreeMap<KeyId, usize>,
-    keys: Vec<Option<Key>>,
+    kept: KeptKeys,
+}
+
+/// As long as key IDs rise, as in a listing that is sorted by them, none has to be looked for.
+#[derive(Debug, Drop)]
+enum KeptKeys {
+    Rising(RisingKeys),
+    Placed(PlacedKeys),
 }
 
 impl Model for BlockKeys {
@@ -25,15 +28,13 @@ impl Model for BlockKeys {
     ghost use Rattle.std.specs.Coded.{coded_ℕ};
     ghost use Rattle.wot_types.specs.declared.key.Key.{Key};
     ghost use Rattle.wot_types.specs.contracts.key.Key as key_struct;
-    ghost use Rattle.wot_listing.specs.Places.{IsPlaced, keys_at};
+    ghost use Rattle.wot_listing.specs.KeptKeys.{keys_of_kept};
 
     ghost Value = { map.FinMap nat_cmp Key };
 
     ghost coded = { map.code coded_ℕ key_struct.the_row.coded };
 
-    ghost view = { λ k. keys_at (map.from_entries k.places.entries) k.keys.items };
-
-    ghost invariant = { λ k. IsPlaced (map.from_entries k.places.entries) k.keys.items };
+    ghost view = { λ k. keys_of_kept k.kept };
 }
 
 impl BlockKeys {
@@ -42,8 +43,7 @@ impl BlockKeys {
         ensures { result ≡ map.empty }
     {
         BlockKeys {
-            places: BTreeMap::new(alloc),
-            keys: Vec::new(alloc),
+            kept: KeptKeys::Rising(RisingKeys::new(alloc)),
         }
     }
 
@@ -51,41 +51,37 @@ impl BlockKeys {
     pub fn contains(&self, id: KeyId) -> bool
         ensures { result ≡ map.contains_key self.now id }
     {
-        self.places.contains_key(&id)
+        match &self.kept {
+            KeptKeys::Rising(rising) => rising.contains(id),
+            KeptKeys::Placed(placed) => placed.contains(id),
+        }
     }
 
     /// Sets the key of a key ID.
     pub fn insert(&mut self, id: KeyId, key: Key) -> Result<(), Mem>
         ensures { OnOk result (self.new ≡ map.insert self.old id key) }
     {
-        let place = self.keys.len();
-        self.keys.push(Some(key))?;
-        self.places.insert(id, place)?;
-        Ok(())
+        match &mut self.kept {
+            KeptKeys::Rising(rising) => {
+                if rising.are_below(id) {
+                    return rising.push(id, key);
+                }
+                let mut placed = rising.take_placed()?;
+                placed.insert(id, key)?;
+                self.kept = KeptKeys::Placed(placed);
+                Ok(())
+            }
+            KeptKeys::Placed(placed) => placed.insert(id, key),
+        }
     }
 
     /// The keys in rising order of key ID.
     pub fn into_keys(self, alloc: Global) -> Result<Keys, Mem>
         ensures { IfOk result (λ keys. keys ≡ map.values self) }
     {
-        let BlockKeys { places, mut keys } = self;
-        let mut all = List::with_capacity(alloc, places.len())?;
-        for (_, place) in places {
-            if let Some(key) = take_at(&mut keys, place) {
-                all.push(key)?;
-            }
+        match self.kept {
+            KeptKeys::Rising(rising) => rising.into_keys(alloc),
+            KeptKeys::Placed(placed) => placed.into_keys(alloc),
         }
-        Ok(all)
-    }
-}
-
-/// Takes out the key at a place, if one is there.
-fn take_at(keys: &mut Vec<Option<Key>>, place: usize) -> Option<Key>
-    ensures found { result ≡ key_at keys.old.items place }
-    ensures others { (other : ℕ) → other ≢ place → key_at keys.new.items other ≡ key_at keys.old.items other }
-{
-    match keys.get_mut(place) {
-        Some(key) => key.take(),
-        None => None,
     }
 }

@@ -74,6 +74,9 @@ fn scope_in(alloc: Global, line: &Fields<'_>) -> Result<Option<Scope>, LineError
     ensures { Answers result (first_failing ((is_bad_quote 9 line.now, ListingWhat.BadQuote)
         ∷ (nat_lt longest_scope (length (text_at 9 line.now)), ListingWhat.LimitReached Limit.Scope) ∷ [])) (λ scope. scope ≡ scope_of (text_at 9 line.now)) }
 {
+    if line.get_or_empty(9).is_empty() {
+        return Ok(None);
+    }
     let text = text_in(alloc, line, 9)?;
     if text.as_bytes().len() > MOST_SCOPE {
         return Err(LineError::Failed(ListingWhat::LimitReached(Limit::Scope)));

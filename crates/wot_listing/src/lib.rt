@@ -11,7 +11,9 @@ mod ended_users; // the user IDs of a block that a line has ended
 mod error; // what stops the reader
 mod key_block; // the block that is being read
 mod listing; // the reader
+mod placed_keys; // keys in any order
 mod primary; // `pub`
+mod rising_keys; // keys whose key IDs rise
 mod so_far; // what is kept of the lines so far
 mod user; // `uid` and `uat`
 mod values; // the values of a record's fields

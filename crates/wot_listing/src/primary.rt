@@ -9,7 +9,7 @@ use crate::error::LineError;
 use crate::values::{capabilities_in, dates_in, is_marked_revoked, key_id_in, number_in};
 use std::alloc::Global;
 use wot_fields::Fields;
-use wot_types::{KeyId, ListingWhat, Text};
+use wot_types::{Caps, KeyId, ListingWhat};
 
 /// The values of a `pub` record, as they are kept until its block ends.
 #[derive(Debug, Drop)]
@@ -20,7 +20,7 @@ pub struct Primary {
     pub made: u32,
     pub expires: u32,
     pub revoked: bool,
-    pub caps: Text,
+    pub caps: Caps,
 }
 
 /// Reads a `pub` record.

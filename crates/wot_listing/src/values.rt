@@ -17,7 +17,8 @@ use hex::FromHex;
 use std::alloc::Global;
 use wot_fields::{Fields, date_or_0, field, number, number_or_0, unquote};
 use wot_types::{
-    Fpr, KeyId, ListingWhat, Mem, RecordKind, Text, UserKind, is_capability, is_hash_byte,
+    Caps, Fpr, KeyId, ListingWhat, Mem, RecordKind, Text, UserHash, UserKind, is_capability,
+    is_hash_byte,
 };
 
 /// The type of a record, by its first field: no other field is looked for.
@@ -141,10 +142,13 @@ fn read_key_id(f: &[u8]) -> Option<KeyId>
     Some(KeyId(u64::from_be_bytes(bytes)))
 }
 
-/// Most are of version 4 keys.
+/// Most are of version 4 keys, and most fields without one are empty.
 fn read_fingerprint(f: &[u8]) -> Option<Fpr>
     ensures { result ≡ fingerprint f.now }
 {
+    if f.is_empty() {
+        return None;
+    }
     match hex_bytes::<20>(f) {
         Some(bytes) => Fpr::from_bytes(&bytes),
         None => Fpr::from_hex(f),
@@ -171,26 +175,44 @@ pub fn is_local(line: &Fields<'_>) -> bool
     matches!(line.get_or_empty(11), [_, _, b'l', ..])
 }
 
-/// The letters of field 12, without `D`.
-pub fn capabilities_in(alloc: Global, line: &Fields<'_>) -> Result<Text, Mem>
-    ensures { IfOk result (λ text. text ≡ records.capabilities_at line.now) }
+/// The letters of field 12, without `D`. Most have nothing else, and are copied whole.
+pub fn capabilities_in(alloc: Global, line: &Fields<'_>) -> Result<Caps, Mem>
+    ensures { IfOk result (λ caps. caps ≡ records.capabilities_at line.now) }
 {
-    let caps = line
-        .get_or_empty(12)
+    let field = line.get_or_empty(12);
+    if are_capabilities(field) {
+        Caps::from_bytes(alloc, field)
+    } else {
+        capability_bytes(alloc, field)
+    }
+}
+
+/// Whether a field holds letters of capabilities alone.
+fn are_capabilities(f: &[u8]) -> bool
+    ensures { result ≡ list_all records.is_capability f.now }
+{
+    f.iter().all(|b| is_capability(*b))
+}
+
+/// The letters of capabilities in a field.
+fn capability_bytes(alloc: Global, f: &[u8]) -> Result<Caps, Mem>
+    ensures { IfOk result (λ caps. caps ≡ filter records.is_capability f.now) }
+{
+    let caps: Vec<u8> = f
         .iter()
         .copied()
         .filter(|b| is_capability(*b))
         .collect(alloc)?;
-    Ok(Text::from_vec(caps))
+    Caps::from_bytes(alloc, &caps)
 }
 
 /// The letters and digits of field 8. Most have nothing else, and are copied whole.
-pub fn hash_in(alloc: Global, line: &Fields<'_>) -> Result<Text, Mem>
-    ensures { IfOk result (λ text. text ≡ records.hash_at line.now) }
+pub fn hash_in(alloc: Global, line: &Fields<'_>) -> Result<UserHash, Mem>
+    ensures { IfOk result (λ hash. hash ≡ records.hash_at line.now) }
 {
     let field = line.get_or_empty(8);
     if is_hash(field) {
-        Text::from_bytes(alloc, field)
+        UserHash::from_bytes(alloc, field)
     } else {
         hash_bytes(alloc, field)
     }
@@ -204,15 +226,15 @@ fn is_hash(f: &[u8]) -> bool
 }
 
 /// The letters and digits of a field.
-fn hash_bytes(alloc: Global, f: &[u8]) -> Result<Text, Mem>
-    ensures { IfOk result (λ text. text ≡ filter records.is_hash_byte f.now) }
+fn hash_bytes(alloc: Global, f: &[u8]) -> Result<UserHash, Mem>
+    ensures { IfOk result (λ hash. hash ≡ filter records.is_hash_byte f.now) }
 {
-    let hash = f
+    let hash: Vec<u8> = f
         .iter()
         .copied()
         .filter(|b| is_hash_byte(*b))
         .collect(alloc)?;
-    Ok(Text::from_vec(hash))
+    UserHash::from_bytes(alloc, &hash)
 }
 
 /// Whether field 2 begins with `!`: a signature that was checked and is good.

@@ -34,10 +34,11 @@ impl Mark {
         ensures { IfOk result (λ mark. mark ≡ mark_of user.now) }
     {
         let text = user.text.as_bytes();
-        let hash = user.hash.as_bytes();
-        let room = text.len().saturating_add(hash.len()).saturating_add(5);
-        let mut bytes = Vec::with_capacity(alloc, room)?;
-        bytes.extend_from_slice(&number_of(user).to_be_bytes())?;
+        let mut room = [0u8; 40];
+        let hash = user.hash.as_bytes(&mut room);
+        let size = text.len().saturating_add(hash.len()).saturating_add(5);
+        let mut bytes = Vec::with_capacity(alloc, size)?;
+        bytes.extend_from_slice(&number_of(user, hash).to_be_bytes())?;
         bytes.extend_from_slice(text)?;
         bytes.push(kind_byte(user.kind))?;
         bytes.extend_from_slice(hash)?;
@@ -45,11 +46,13 @@ impl Mark {
     }
 }
 
+/// The bytes of its hash are given, so that they are spelled out but once.
 #[tactic(auto, unfolding(crate::specs::Marks::number_of))]
-fn number_of(user: &User) -> u32
+fn number_of(user: &User, hash: &[u8]) -> u32
+    requires { hash.now ≡ user.now.hash }
     ensures { result ≡ number_of user.now }
 {
-    with_bytes(with_bytes(0, user.text.as_bytes()), user.hash.as_bytes())
+    with_bytes(with_bytes(0, user.text.as_bytes()), hash)
 }
 
 fn with_bytes(number: u32, bytes: &[u8]) -> u32

@@ -12,7 +12,7 @@ use crate::fields::{
 use crate::names::{cert_name, kind_text, letter_text, model_text, trust_text};
 use wot_fields::{Sink, push_number};
 use wot_table::{KeyHead, UserHead};
-use wot_types::{Fpr, KeyId, Letter, Options, Ownertrust, PackedPlaced, Text};
+use wot_types::{Caps, Fpr, KeyId, Letter, Options, Ownertrust, PackedPlaced};
 
 /// `tru::MODEL:DATE:NEXT:MARGINALS:COMPLETES:DEPTH`
 pub fn push_tru<W: Sink>(
@@ -76,7 +76,7 @@ fn push_dates<W: Sink>(text: &mut W, made: u32, expires: u32) -> Result<(), W::E
 }
 
 /// How far a key is trusted and what it can do: `OWNERTRUST:::CAPS:`
-fn push_use<W: Sink>(text: &mut W, kept: Ownertrust, caps: &Text) -> Result<(), W::Error>
+fn push_use<W: Sink>(text: &mut W, kept: Ownertrust, caps: &Caps) -> Result<(), W::Error>
     ensures same { W.name text.new ≡ W.name text.old }
     ensures adds { OnOk result (W.adds text.old (ended_field (trust_text kept.trust) ++ codes "::" ++ ended_field (capabilities_text kept.disabled caps.now)) text.new) }
 {
@@ -86,7 +86,7 @@ fn push_use<W: Sink>(text: &mut W, kept: Ownertrust, caps: &Text) -> Result<(), 
 }
 
 /// The capabilities, with `D` where the key is disabled.
-fn push_capabilities<W: Sink>(text: &mut W, caps: &Text, disabled: bool) -> Result<(), W::Error>
+fn push_capabilities<W: Sink>(text: &mut W, caps: &Caps, disabled: bool) -> Result<(), W::Error>
     ensures same { W.name text.new ≡ W.name text.old }
     ensures adds { OnOk result (W.adds text.old (ended_field (capabilities_text disabled caps.now)) text.new) }
 {
@@ -114,7 +114,7 @@ pub fn push_user<W: Sink>(text: &mut W, letter: Letter, user: &UserHead<'_>) -> 
     push_field(text, letter_text(letter))?;
     text.push_bytes(b":::")?;
     push_dates(text, user.made, user.expires)?;
-    push_field(text, user.hash.as_bytes())?;
+    push_field(text, user.hash.as_bytes(&mut [0; 40]))?;
     text.push(b':')?;
     push_quoted_field(text, user.text)?;
     text.push(b'\n')?;

@@ -54,7 +54,8 @@ fn are_certs(id: KeyId, certs: &[PackedCert]) -> bool
 fn is_user(id: KeyId, user: &User) -> bool
     ensures { result ≡ is_user id user.now }
 {
-    is_hash(user.hash.as_bytes()) && are_certs(id, user.certs.as_slice())
+    let mut room = [0u8; 40];
+    is_hash(user.hash.as_bytes(&mut room)) && are_certs(id, user.certs.as_slice())
 }
 
 fn are_users(id: KeyId, users: &[User]) -> bool

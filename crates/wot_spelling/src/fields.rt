@@ -9,7 +9,7 @@ ghost use Rattle.wot_spelling.specs.Fields.{key_with, user_with};
 
 use crate::numbers::number_4;
 use crate::writer::Writer;
-use wot_types::{Fpr, Mem, Text, UserKind};
+use wot_types::{Caps, Fpr, Mem, Text, UserHash, UserKind};
 
 /// All of a key but its user IDs.
 #[derive(Clone, Copy, Debug)]
@@ -20,7 +20,7 @@ pub struct KeyFields<'a> {
     pub made: u32,
     pub expires: u32,
     pub revoked: bool,
-    pub caps: &'a Text,
+    pub caps: &'a Caps,
 }
 
 /// All of a user ID but its certifications.
@@ -28,7 +28,7 @@ pub struct KeyFields<'a> {
 pub struct UserFields<'a> {
     pub kind: UserKind,
     pub text: &'a Text,
-    pub hash: &'a Text,
+    pub hash: &'a UserHash,
     pub made: u32,
     pub expires: u32,
     pub revoked: bool,
@@ -43,7 +43,7 @@ impl Writer {
     {
         self.fpr(fields.fpr)?;
         self.bytes(&key_numbers(fields))?;
-        self.text(fields.caps)?;
+        self.text(fields.caps.as_bytes())?;
         Ok(())
     }
 
@@ -55,8 +55,9 @@ impl Writer {
         ensures fits { (certs : List CertSeen) → ListFits (CertFits WithFpr) certs → OnOk result (UserFits WithFpr (user_with fields.now certs)) }
     {
         self.user_kind(fields.kind)?;
-        self.text(fields.text)?;
-        self.text(fields.hash)?;
+        self.text(fields.text.as_bytes())?;
+        let mut room = [0u8; 40];
+        self.text(fields.hash.as_bytes(&mut room))?;
         self.bytes(&user_numbers(fields))?;
         Ok(())
     }

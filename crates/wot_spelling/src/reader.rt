@@ -8,7 +8,8 @@ use crate::writer::Writer;
 use std::alloc::Global;
 use std::marker::Model;
 use wot_types::{
-    Form, Format, Fpr, KeyId, List, Mem, Options, Ownertrust, Scope, Text, Trust, UserKind,
+    Caps, Form, Format, Fpr, KeyId, List, Mem, Options, Ownertrust, Scope, Text, Trust, UserHash,
+    UserKind,
 };
 
 /// A row without a scope, the shortest part that stands in a list, takes so many bytes.
@@ -143,13 +144,36 @@ impl<'a> Reader<'a> {
         Ok(flag)
     }
 
+    /// The bytes of a text where they lie.
     #[tactic(auto, unfolding(crate::specs::Reading::text_at))]
+    fn text_bytes(&mut self) -> Result<&'a [u8], NoValue>
+        ensures { GivesSeen (λ b. b.now) (text_at self.old) result self.new }
+    {
+        let length = self.number_4()?;
+        self.bytes(length as usize)
+    }
+
     pub fn text(&mut self, alloc: Global) -> Result<Text, NoValue>
         ensures { Gives (text_at self.old) result self.new }
     {
-        let length = self.number_4()?;
-        let bytes = self.bytes(length as usize)?;
+        let bytes = self.text_bytes()?;
         Ok(Text::from_bytes(alloc, bytes)?)
+    }
+
+    /// The text of a key's capabilities.
+    pub fn caps(&mut self, alloc: Global) -> Result<Caps, NoValue>
+        ensures { Gives (text_at self.old) result self.new }
+    {
+        let bytes = self.text_bytes()?;
+        Ok(Caps::from_bytes(alloc, bytes)?)
+    }
+
+    /// The text of a user ID's hash.
+    pub fn hash(&mut self, alloc: Global) -> Result<UserHash, NoValue>
+        ensures { Gives (text_at self.old) result self.new }
+    {
+        let bytes = self.text_bytes()?;
+        Ok(UserHash::from_bytes(alloc, bytes)?)
     }
 
     #[tactic(auto, unfolding(crate::specs::Reading::scope_at))]

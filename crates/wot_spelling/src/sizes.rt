@@ -69,7 +69,7 @@ fn user_size(user: &User) -> u64
     ensures { result ≡ capped (user_size user.now) }
 {
     USER.saturating_add(user.text.as_bytes().len() as u64)
-        .saturating_add(user.hash.as_bytes().len() as u64)
+        .saturating_add(user.hash.len() as u64)
         .saturating_add(certs_size(user.certs.as_slice()))
 }
 

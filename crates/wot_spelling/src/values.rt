@@ -64,7 +64,7 @@ impl Writer {
     {
         self.bytes(&cert_numbers(placed))?;
         if let Some(scope) = placed.scope() {
-            self.text(scope.as_text())?;
+            self.text(scope.as_text().as_bytes())?;
         }
         self.issuer_fpr(&placed.issuer_fpr())
     }
@@ -103,7 +103,7 @@ impl Part for User {
     fn read(alloc: Global, form: Form, reader: &mut Reader<'_>) -> Result<User, NoValue> {
         let kind = reader.user_kind()?;
         let text = reader.text(alloc)?;
-        let hash = reader.text(alloc)?;
+        let hash = reader.hash(alloc)?;
         let made = reader.number_4()?;
         let expires = reader.number_4()?;
         let revoked = reader.flag()?;
@@ -150,7 +150,7 @@ impl Part for Key {
         let made = reader.number_4()?;
         let expires = reader.number_4()?;
         let revoked = reader.flag()?;
-        let caps = reader.text(alloc)?;
+        let caps = reader.caps(alloc)?;
         let users = reader.list::<User>(alloc, form)?;
         Ok(Key {
             fpr,

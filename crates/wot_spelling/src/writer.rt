@@ -10,7 +10,7 @@ use crate::numbers::{number_4, number_8};
 use crate::reader::Part;
 use std::alloc::Global;
 use std::marker::Model;
-use wot_types::{Fpr, KeyId, List, Mem, Options, Ownertrust, Scope, Text, Trust, UserKind};
+use wot_types::{Fpr, KeyId, List, Mem, Options, Ownertrust, Scope, Trust, UserKind};
 
 /// The bytes that are written.
 #[derive(Drop)]
@@ -101,13 +101,12 @@ impl Writer {
     }
 
     #[tactic(auto, unfolding(wot_types::specs::Spelling::text_bytes))]
-    pub fn text(&mut self, text: &Text) -> Result<(), Mem>
+    pub fn text(&mut self, text: &[u8]) -> Result<(), Mem>
         requires { FitsItsLength text.now }
         ensures { OnOk result (self.new ≡ self.old ++ text_bytes text.now) }
     {
-        let bytes = text.as_bytes();
-        self.number_4(bytes.len() as u32)?;
-        self.out.extend_from_slice(bytes)?;
+        self.number_4(text.len() as u32)?;
+        self.out.extend_from_slice(text)?;
         Ok(())
     }
 
@@ -135,7 +134,7 @@ impl Writer {
             None => self.flag(false),
             Some(scope) => {
                 self.flag(true)?;
-                self.text(scope.as_text())
+                self.text(scope.as_text().as_bytes())
             }
         }
     }

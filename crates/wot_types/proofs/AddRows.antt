@@ -7,6 +7,7 @@ use Rattle.std.specs.List.{list_any}
 use Rattle.std.proofs.lemmas.List.Elements.{All-nil, All-cons, All-head, All-tail}
 use Rattle.wot_types.specs.declared.row.Row.{Row}
 use Rattle.wot_types.specs.Candidates.{RowMap}
+use Rattle.wot_types.specs.IdFilter.{Passes}
 use Rattle.wot_types.specs.Rows.{IsKeptRow, has_scope, with_row, with_rows}
 use Rattle.wot_types.proofs.FinMaps.{All-insert, no_entries}
 use Rattle.wot_types.proofs.Maps.{in_turn}
@@ -37,14 +38,17 @@ neither_second : (a b : Bool) → (a || b) ≡ false → b ≡ false
 neither_second true b h = cc
 neither_second false b h = h
 
-scopes_told : (scoped : Bool) (rows : List Row) → (scoped ≡ false → list_any has_scope rows ≡ false) → All (λ row. IsKeptRow scoped (keyed row)) rows
-scopes_told scoped [] none = All-nil (λ row. IsKeptRow scoped (keyed row))
-scopes_told scoped (row ∷ rows) none =
-    All-cons (λ row. IsKeptRow scoped (keyed row)) row rows (refl, λ is. neither_first (has_scope row) (list_any has_scope rows) (none is))
-    (scopes_told scoped rows (λ is. neither_second (has_scope row) (list_any has_scope rows) (none is)))
+kept_rows : (scoped : Bool) (filter : List Bool) (rows : List Row) → (scoped ≡ false → list_any has_scope rows ≡ false) → All (λ row. Passes filter row.key) rows
+    → All (λ row. IsKeptRow scoped filter (keyed row)) rows
+kept_rows scoped filter [] none pass = All-nil (λ row. IsKeptRow scoped filter (keyed row))
+kept_rows scoped filter (row ∷ rows) none pass =
+    All-cons (λ row. IsKeptRow scoped filter (keyed row)) row rows
+    (refl, λ is. neither_first (has_scope row) (list_any has_scope rows) (none is), All-head (λ row. Passes filter row.key) row rows pass)
+    (kept_rows scoped filter rows (λ is. neither_second (has_scope row) (list_any has_scope rows) (none is)) (All-tail (λ row. Passes filter row.key) row rows pass))
 
--- each stands under its own key, and none has a scope where none of them had one
-pub kept_alone : (scoped : Bool) (rows : List Row) → scoped ≡ list_any has_scope rows → All (IsKeptRow scoped) (entries (with_rows empty rows))
-kept_alone scoped rows told =
-    let none = subst (All (IsKeptRow scoped)) (sym (no_entries (empty {R = nat_cmp}) (len-empty nat_cmp Row))) (All-nil (IsKeptRow scoped)) in
-    kept_after (IsKeptRow scoped) rows empty none (scopes_told scoped rows (λ is. sym told ∙ is))
+-- each stands under its own key, none has a scope where none of them had one, and the filter lets each pass
+pub kept_alone : (scoped : Bool) (filter : List Bool) (rows : List Row) → scoped ≡ list_any has_scope rows → All (λ row. Passes filter row.key) rows
+    → All (IsKeptRow scoped filter) (entries (with_rows empty rows))
+kept_alone scoped filter rows told pass =
+    let none = subst (All (IsKeptRow scoped filter)) (sym (no_entries (empty {R = nat_cmp}) (len-empty nat_cmp Row))) (All-nil (IsKeptRow scoped filter)) in
+    kept_after (IsKeptRow scoped filter) rows empty none (kept_rows scoped filter rows (λ is. sym told ∙ is) pass)

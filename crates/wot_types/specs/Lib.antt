@@ -7,6 +7,8 @@ pub mod Quotes
 pub mod Fingerprint
 pub mod FprBytes
 pub mod PackedCert
+pub mod CapsLetters
+pub mod KeptHash
 pub mod Trust
 pub mod Ownertrust
 pub mod OwnertrustText
@@ -60,6 +62,7 @@ pub mod Outcome
 pub mod Session
 pub mod Soonest
 pub mod Next
+pub mod IdFilter
 pub mod Rows
 pub mod LineByLine
 pub mod Indexes

@@ -6,7 +6,7 @@ use Rattle.wot_store.proofs.Replaying.{Came, came_more}
 use Rattle.wot_store.proofs.SoundReplays.{sound_made}
 use Rattle.wot_history.specs.declared.error.HistoryError.TheVariants.{Lost}
 use Rattle.wot_history.specs.Reading.{StopsAt, unmade_record}
-use Rattle.wot_history.proofs.Records.{came_bad, came_lost, record_unread}
+use Rattle.wot_history.proofs.Records.{came_bad, came_lost, record_unread, unread_cause}
 use Rattle.wot_history.proofs.replay.replay_first.Goals as goal
 
 pub loop-done-preserved : goal.loop-done-preserved
@@ -49,3 +49,6 @@ returns-in-Err-clause-stops g c =
     rw c.unread_record.ensures
     (record_unread c.args.side c.args.start c.args.base l.done l.at l.draft c.args.count (omega (arith, c.loop-done-test.true)) e _ _ _ l.invariant.came c.in-Err.ensures.stays
     (λ q is. c.in-Err.ensures.short q (ap (λ e. Err e) is)) (λ q is. c.in-Err.ensures.truncated q (ap (λ e. Err e) is)))
+
+pub returns-in-Err-clause-cause : goal.returns-in-Err-clause-cause
+returns-in-Err-clause-cause g c = rw c.unread_record.ensures (unread_cause c.in-Err.e _ _ _ c.loop-done.invariant.quiet c.in-Err.ensures.cause)

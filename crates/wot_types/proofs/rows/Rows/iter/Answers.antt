@@ -14,4 +14,4 @@ returns-clause-rows c =
 pub returns-clause-own : goal.returns-clause-own
 returns-clause-own c =
     subst (λ m. All IsOwnRow (map.entries m)) c.self.view_is
-    (All-weaker (IsKeptRow c.self.inside.scoped) IsOwnRow (λ entry kept. kept.0) (map.entries (map.from_entries c.self.inside.kept.entries)) c.self.invariant)
+    (All-weaker (IsKeptRow c.self.inside.scoped c.self.inside.filter) IsOwnRow (λ entry kept. kept.0) (map.entries (map.from_entries c.self.inside.kept.entries)) c.self.invariant)

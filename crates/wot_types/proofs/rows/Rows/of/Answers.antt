@@ -8,6 +8,7 @@ use Rattle.std.proofs.lemmas.Iterator.{YieldsList-from_map}
 use Rattle.std.proofs.lemmas.Iterator.Adapters.{YieldsList-from_vec, fact_from_collect}
 use Rattle.std.proofs.lemmas.Iterator.Consumers.{YieldsList-at}
 use Rattle.std.proofs.lemmas.Result.{IfOk-at_ok}
+use Rattle.wot_types.specs.IdFilter.{Passes}
 use Rattle.wot_types.specs.Rows.{IsKeptRow, has_scope}
 use Rattle.wot_types.proofs.AddRows.{keyed, kept_alone, rows_alone}
 use Rattle.wot_types.proofs.Maps.{collected}
@@ -21,4 +22,6 @@ returns c =
     collected nat_cmp_total nat_cmp-IsAntisymmetric (map keyed rows) c.in_ok-collect.field-0 made ∙ sym (rows_alone rows)
 
 pub invariant_of-result : goal.invariant_of-result
-invariant_of-result c = subst (λ m. All (IsKeptRow c.are_scoped-scoped.result) (finmap.entries m)) (sym (returns c)) (kept_alone c.are_scoped-scoped.result c.args.rows (c.are_scoped-scoped.ensures ∙ ap (list_any has_scope) c.as_slice.ensures))
+invariant_of-result c = subst (λ m. All (IsKeptRow c.are_scoped-scoped.result c.in_ok-filter.filter) (finmap.entries m)) (sym (returns c))
+    (kept_alone c.are_scoped-scoped.result c.in_ok-filter.filter c.args.rows (c.are_scoped-scoped.ensures ∙ ap (list_any has_scope) c.as_slice.ensures)
+    (subst (All (λ row. Passes c.in_ok-filter.filter row.key)) (c.deref.ensures.value ∙ c.into_vec-left.ensures) (IfOk-at_ok _ c.in_ok-filter.was c.filter_of.ensures)))

@@ -4,7 +4,7 @@ use Rattle.std.specs.FinMap.{contains_key, from_entries}
 use Rattle.std.proofs.lemmas.Cmp.{nat_cmp_total}
 use Rattle.wot_types.proofs.Maps.{get_entries}
 use Rattle.wot_listing.proofs.PlaceLemmas.{contains_at}
-use Rattle.wot_listing.proofs.block_keys.BlockKeys.contains.Goals as goal
+use Rattle.wot_listing.proofs.placed_keys.PlacedKeys.contains.Goals as goal
 
 pub returns : goal.returns
 returns c =

@@ -2,7 +2,7 @@ use Rattle.std.proofs.Common.{Some, None, sym, subst, ◌∙◌}
 use Rattle.std.specs.FinMap.{values}
 use Rattle.std.proofs.lemmas.List.{append-nil}
 use Rattle.wot_listing.proofs.PlaceLemmas.{IsTaking, all_taken, none_taken, one_taken}
-use Rattle.wot_listing.proofs.block_keys.BlockKeys.into_keys.Goals as goal
+use Rattle.wot_listing.proofs.placed_keys.PlacedKeys.into_keys.Goals as goal
 
 pub loop-place-init : goal.loop-place-init
 loop-place-init c =

@@ -4,7 +4,7 @@ use Rattle.std.proofs.lemmas.Cmp.{nat_cmp_total}
 use Rattle.wot_types.proofs.Maps.{inserted}
 use Rattle.wot_listing.specs.Places.{IsPlaced, Places, keys_at}
 use Rattle.wot_listing.proofs.PlaceLemmas.{keys_at_end, placed_at_end, placed_beside}
-use Rattle.wot_listing.proofs.block_keys.BlockKeys.insert.Goals as goal
+use Rattle.wot_listing.proofs.placed_keys.PlacedKeys.insert.Goals as goal
 
 -- the key ID has the place at the end
 places_are : (c : goal.In_ok-insert) → ◌≡◌ {A = Places} (from_entries c.insert.new.self.entries)
