@@ -4,7 +4,6 @@ pub mod ColonLemmas
 pub mod FieldStartLemmas
 pub mod DateExamples
 pub mod DateLemmas
-pub mod HexDigits
 pub mod NumberLemmas
 pub mod QuoteLaws
 pub mod QuoteLemmas

@@ -3,7 +3,7 @@
 
 mod colons; // where the colons of a line stand
 mod dates; // seconds since 1970, and civil dates
-mod digits; // numbers and bytes as a field prints them
+mod digits; // numbers as a field prints them
 mod fields; // a line split at its colons
 mod lines; // lines that say nothing
 mod numbers; // decimal numbers
@@ -14,7 +14,7 @@ mod sink; // where a text goes while it is printed
 mod unquoting; // the text that a quoted field spells
 
 pub use dates::{date, date_or_0};
-pub use digits::{push_hex, push_number};
+pub use digits::push_number;
 pub use fields::{Fields, field};
 pub use lines::{is_blank, is_comment};
 pub use numbers::{long, number, number_or_0};

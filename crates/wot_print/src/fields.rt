@@ -6,8 +6,8 @@ ghost use Rattle.hex.specs.Hex.{encode_upper};
 ghost use Rattle.wot_types.specs.Printing.{ended_field, expiry_field, key_id_text, number_field, scope_text};
 ghost use Rattle.wot_types.specs.Quotes.{printed_text};
 
-use wot_fields::{Sink, push_hex, push_number, push_quoted};
-use wot_types::{KeyId, Scope, Text};
+use wot_fields::{Sink, push_number, push_quoted};
+use wot_types::{Fpr, KeyId, Scope, Text};
 
 pub fn push_field<W: Sink>(text: &mut W, field: &[u8]) -> Result<(), W::Error>
     ensures same { W.name text.new ≡ W.name text.old }
@@ -46,14 +46,12 @@ pub fn push_expiry<W: Sink>(text: &mut W, expires: u32) -> Result<(), W::Error>
     }
 }
 
-/// Bytes in hexadecimal.
-pub fn push_hex_field<W: Sink>(text: &mut W, bytes: &[u8]) -> Result<(), W::Error>
+/// A fingerprint in hexadecimal.
+pub fn push_fpr_field<W: Sink>(text: &mut W, fpr: &Fpr) -> Result<(), W::Error>
     ensures same { W.name text.new ≡ W.name text.old }
-    ensures adds { OnOk result (W.adds text.old (ended_field (encode_upper bytes.now)) text.new) }
+    ensures adds { OnOk result (W.adds text.old (ended_field (encode_upper fpr.now)) text.new) }
 {
-    push_hex(text, bytes)?;
-    text.push(b':')?;
-    Ok(())
+    push_field(text, fpr.as_digits(&mut [0; 64]))
 }
 
 pub fn push_key_id_field<W: Sink>(text: &mut W, id: KeyId) -> Result<(), W::Error>
@@ -70,7 +68,7 @@ pub fn push_key_id<W: Sink>(text: &mut W, id: KeyId) -> Result<(), W::Error>
     ensures same { W.name text.new ≡ W.name text.old }
     ensures adds { OnOk result (W.adds text.old (key_id_text id) text.new) }
 {
-    push_hex(text, id.0.to_be_bytes().as_slice())
+    text.push_bytes(&id.digits())
 }
 
 pub fn push_quoted_field<W: Sink>(text: &mut W, field: &Text) -> Result<(), W::Error>

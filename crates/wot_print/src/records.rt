@@ -6,7 +6,7 @@ ghost use Rattle.wot_types.specs.Trust.{trust_text};
 ghost use Rattle.wot_print.specs.Shown.{shown_key, shown_user};
 
 use crate::fields::{
-    push_expiry, push_field, push_hex_field, push_key_id_field, push_number_field,
+    push_expiry, push_field, push_fpr_field, push_key_id_field, push_number_field,
     push_quoted_field, push_scope,
 };
 use crate::names::{cert_name, kind_text, letter_text, model_text, trust_text};
@@ -100,7 +100,7 @@ pub fn push_fpr<W: Sink>(text: &mut W, fpr: &Fpr) -> Result<(), W::Error>
     ensures adds { OnOk result (W.adds text.old (fpr_line fpr.now) text.new) }
 {
     text.push_bytes(b"fpr:::::::::")?;
-    push_hex_field(text, fpr.as_bytes())?;
+    push_fpr_field(text, fpr)?;
     text.push(b'\n')?;
     Ok(())
 }
@@ -148,7 +148,7 @@ fn push_issuer_fpr<W: Sink>(text: &mut W, named: &Option<Fpr>) -> Result<(), W::
         None => text.push_bytes(b""),
         Some(fpr) => {
             text.push(b':')?;
-            push_hex_field(text, fpr.as_bytes())
+            push_fpr_field(text, fpr)
         }
     }
 }

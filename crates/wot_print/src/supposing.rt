@@ -5,7 +5,7 @@ ghost use Rattle.std.specs.List.{flat_map};
 ghost use Rattle.wot_types.specs.SupposingText.{change_line, changes_text, loss_line, losses_text};
 
 use crate::answers::end_with_count;
-use crate::fields::{push_count_field, push_field, push_hex_field, push_key_id_field};
+use crate::fields::{push_count_field, push_field, push_fpr_field, push_key_id_field};
 use crate::names::letter_text;
 use std::alloc::Global;
 use wot_fields::{Printed, Sink};
@@ -65,7 +65,7 @@ fn push_loss(text: &mut Printed, loss: &Loss) -> Result<(), Mem>
     ensures { OnOk result (text.new ≡ text.old ++ loss_line loss.now) }
 {
     text.push_bytes(b"critical:")?;
-    push_hex_field(text, loss.fpr.as_bytes())?;
+    push_fpr_field(text, &loss.fpr)?;
     push_field(text, letter_text(loss.letter))?;
     text.push(b'\n')?;
     Ok(())

@@ -1,5 +1,5 @@
 -- The letters of a key's capabilities as they are kept.
-use Rattle.std.specs.Prelude.{◌≤◌, ℕ, List, length, take}
+use Rattle.std.specs.Prelude.{◌≤◌, ℕ, List, take}
 use Rattle.wot_types.specs.declared.caps.Letters.{Letters}
 use Rattle.wot_types.specs.declared.caps.Letters.TheVariants.{Few, Many}
 

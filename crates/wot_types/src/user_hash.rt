@@ -1,11 +1,12 @@
 //! The hashes of user IDs.
 
-ghost use Rattle.std.specs.Prelude.{◌≡◌, ◌<◌, nat_eq, IfOk, IfSome, length, slice_index};
+ghost use Rattle.std.specs.Prelude.{◌≡◌, nat_eq, IfOk, IfSome, length};
 ghost use Rattle.std.proofs.Common.{rules};
 ghost use Rattle.std.specs.Cmp.Lexicographic.{pointwise};
 ghost use Rattle.std.specs.Cmp.Rules.{comparing};
-ghost use Rattle.hex.specs.Hex.{encode_upper, upper_digits};
+ghost use Rattle.hex.specs.Hex.{encode_upper};
 
+use crate::hex_digits::write_digits;
 use crate::mem::Mem;
 use crate::text::Text;
 use std::alloc::Global;
@@ -76,7 +77,7 @@ impl UserHash {
         match &self.kept {
             KeptHash::Empty => &[],
             KeptHash::Spelled(bytes) => {
-                *room = digits_of(bytes);
+                write_digits(bytes, room);
                 &room[..]
             }
             KeptHash::Other(text) => text.as_bytes(),
@@ -112,7 +113,8 @@ fn spelled_by(digits: &[u8]) -> Option<[u8; 20]>
     for (at, byte) in bytes.iter_mut().enumerate() {
         *byte = value_of(digits[2 * at]) << 4 | value_of(digits[2 * at + 1]);
     }
-    let spelled = digits_of(&bytes);
+    let mut spelled = [0u8; 2 * SIZE];
+    write_digits(&bytes, &mut spelled);
     if digits == &spelled[..] {
         Some(bytes)
     } else {
@@ -127,31 +129,5 @@ fn value_of(digit: u8) -> u8 {
         digit & 15
     } else {
         (digit & 15).wrapping_add(9) & 15
-    }
-}
-
-/// Two digits in upper case for each byte.
-fn digits_of(bytes: &[u8; 20]) -> [u8; 40]
-    requires { length bytes.now ≡ 20 }
-    ensures { result ≡ encode_upper bytes.now }
-{
-    let mut digits = [0u8; 2 * SIZE];
-    for (at, b) in bytes.iter().enumerate() {
-        digits[2 * at] = upper_digit(b / 16);
-        digits[2 * at + 1] = upper_digit(b % 16);
-    }
-    digits
-}
-
-/// The digit of a number below 16, reckoned and not looked up, so that many are made at once.
-#[inline(always)]
-fn upper_digit(value: u8) -> u8
-    requires { value < 16 }
-    ensures { result ≡ slice_index upper_digits value }
-{
-    if value < 10 {
-        b'0' + value
-    } else {
-        b'A' + (value - 10)
     }
 }

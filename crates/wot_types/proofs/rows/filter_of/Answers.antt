@@ -1,4 +1,4 @@
-use Rattle.std.proofs.Common.{All, take, sym, ap, subst}
+use Rattle.std.proofs.Common.{All, take, subst}
 use Rattle.std.proofs.lemmas.List.{take_all}
 use Rattle.std.proofs.lemmas.List.Elements.{All-more, All-weaker}
 use Rattle.wot_types.specs.IdFilter.{Passes}

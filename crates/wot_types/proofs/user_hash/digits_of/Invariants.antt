@@ -1,9 +1,0 @@
-use Rattle.std.proofs.Common.{◌≡◌, ◌*◌, ◌++◌, length, take, drop}
-use Rattle.hex.specs.Hex.{encode_upper}
-use Rattle.wot_types.proofs.user_hash.digits_of.Given as goal
-
-abbrev pub invariant-loop-at : goal.invariant-loop-at
-invariant-loop-at l = record {
-  size : length l.digits ≡ 40;
-  written : take (2 * l.at) l.digits ++ encode_upper (drop l.at l.bytes) ≡ encode_upper l.bytes;
-}
