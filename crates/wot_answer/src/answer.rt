@@ -26,10 +26,10 @@ use crate::query::answer_query;
 use crate::reply::{Answer, refuse, say_nothing};
 use crate::words::{is_quit, line_words, without_return};
 use std::alloc::Global;
+use wot_lines::{entries_line, import_line, ok_line};
 use wot_listing::{Blocks, Listing, ListingError};
 use wot_live::Engine;
 use wot_ownertrust::{OwnertrustText, TextError};
-use wot_print::{entries_line, import_line, ok_line};
 use wot_types::{Edit, Fpr, Mem, Refusal, Words};
 
 /// The answer to a command, and the engine after it.

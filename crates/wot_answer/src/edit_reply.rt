@@ -7,8 +7,9 @@ ghost use Rattle.wot_types.specs.StateAfter.{state_after};
 ghost use Rattle.wot_answer.specs.EditReply.{reply_text};
 
 use std::alloc::Global;
+use wot_lines::{keys_line, ok_line};
 use wot_live::Engine;
-use wot_print::{keys_line, ok_line, tally};
+use wot_print::tally;
 use wot_types::{Edit, Mem};
 
 /// The reply to an edit, if it is accepted.

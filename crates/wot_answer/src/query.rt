@@ -22,8 +22,9 @@ use std::marker::Brand;
 use std::sync::ledger::{Blank, Ledger};
 use wot_commands::refusal;
 use wot_explain::{Why, cut, explain, recount};
+use wot_lines::{OK_LINE, refused};
 use wot_live::Engine;
-use wot_print::{OK_LINE, export, list, refused, why};
+use wot_print::{export, list, why};
 use wot_table::LentState;
 use wot_types::{Fpr, KeyId, Letter, Mem, Query, Refusal, Steps};
 

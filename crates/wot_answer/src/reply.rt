@@ -7,8 +7,8 @@ ghost use Rattle.wot_answer.specs.Answer.{IsReply, is_err};
 use crate::answer::Answered;
 use std::alloc::Global;
 use wot_journal::Built;
+use wot_lines::refused;
 use wot_live::Engine;
-use wot_print::refused;
 use wot_types::{Mem, Query, Refusal};
 
 /// What is done to the store before a reply is told.

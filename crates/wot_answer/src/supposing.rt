@@ -11,8 +11,8 @@ ghost use Rattle.wot_types.specs.SupposingText.{changes_text, losses_text};
 use std::alloc::Global;
 use std::marker::Brand;
 use std::sync::ledger::{Blank, Ledger};
+use wot_lines::{changes, losses};
 use wot_live::Engine;
-use wot_print::{changes, losses};
 use wot_suppose::{critical, suppose};
 use wot_types::{Edit, KeyId, Mem, Steps};
 

@@ -12,7 +12,7 @@ use Rattle.wot_types.specs.Explanation.{direct, explained_rows, explanation}
 use Rattle.wot_types.specs.WhyText.{by_line, cut_line, letter_of, row_line, why_line, why_text}
 use Rattle.wot_explain.specs.Explained.{Explains, counted_row}
 use Rattle.wot_explain.specs.declared.why.Why.{Why}
-use Rattle.wot_print.specs.Shown.{shown_counted, told_text}
+use Rattle.wot_print.specs.ToldText.{shown_counted, told_text}
 
 pub why_is : (s : State) (id user : ℕ) (why : Why) (recounted : Letter) → Explains s id user why → recounted ≡ letter_of (cut s (explanation s id user) id) id user
     → told_text id user why recounted ≡ why_text s id user

@@ -1,7 +1,7 @@
 pub mod Loops
 pub mod Shown
 pub mod Spots
-pub mod Pieces
+pub mod Certified
 pub mod Room
 pub mod Explaining
 pub mod Counting

@@ -8,7 +8,7 @@ use Rattle.wot_types.specs.Printing.{pub_line, user_line}
 use Rattle.wot_table.specs.declared.head.KeyHead.{KeyHead}
 use Rattle.wot_table.specs.declared.head.UserHead.{UserHead}
 use Rattle.wot_table.specs.Heads.{IsKeyHead, IsUserHead}
-use Rattle.wot_print.specs.Shown.{shown_key, shown_user}
+use Rattle.wot_lines.specs.Shown.{shown_key, shown_user}
 
 pub pub_shown : (letter : Letter) (kept : Ownertrust) (id : ℕ) (key : Key) (head : KeyHead) → IsKeyHead key head → pub_line letter kept id (shown_key head) ≡ pub_line letter kept id key
 pub_shown letter kept id key head h =

@@ -1,4 +1,4 @@
-pub mod Shown
+pub mod ToldText
 pub mod Counts
 pub mod KeyLetters
 pub mod OwnertrustWalk

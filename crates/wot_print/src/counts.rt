@@ -13,11 +13,11 @@ ghost use Rattle.wot_table.specs.Heads.{IsKeyHead};
 ghost use Rattle.wot_live.specs.KeyLetters.{AreOfKey};
 ghost use Rattle.wot_print.specs.Counts.{count_fields, counts_line, counts_of};
 
-use crate::fields::push_count_field;
 use std::alloc::Global;
 use std::sync::ledger::Ledger;
 use wot_fields::{Printed, Sink};
 use wot_levels::{Asked, user_in, verdict_in};
+use wot_lines::push_count_field;
 use wot_live::{Engine, Letters, letter_by};
 use wot_table::{KeyHead, Keyblock, LentState};
 use wot_types::{Letter, Mem, Rows, Steps};

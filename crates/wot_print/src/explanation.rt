@@ -9,13 +9,14 @@ ghost use Rattle.wot_types.specs.CutState as cutting;
 ghost use Rattle.wot_types.specs.Explanation.{explanation};
 ghost use Rattle.wot_types.specs.WhyText.{by_line, count_fields, cut_line, letter_of, row_line, why_line, why_text};
 ghost use Rattle.wot_explain.specs.Explained.{Explains};
-ghost use Rattle.wot_print.specs.Shown.{shown_counted, told_text};
+ghost use Rattle.wot_print.specs.ToldText.{shown_counted, told_text};
 
-use crate::fields::{push_field, push_key_id_field, push_number_field, push_scope};
-use crate::names::{letter_text, trust_text};
 use std::alloc::Global;
 use wot_explain::{Counted, Why};
 use wot_fields::{Printed, Sink};
+use wot_lines::{
+    letter_text, push_field, push_key_id_field, push_number_field, push_scope, trust_text,
+};
 use wot_types::{Count, KeyId, Letter, Mem, Row};
 
 /// The explanation of a user ID, whose place counts from 1, and its letter over the cut keyring.

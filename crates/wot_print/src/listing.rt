@@ -18,12 +18,12 @@ ghost use Rattle.wot_print_laws.specs.ListingLines.{listing_lines};
 
 use crate::fits::{cert_fits, key_fits, state_fits, user_fits};
 use crate::ownertrust_walk::OwnertrustWalk;
-use crate::records::{push_cert, push_fpr, push_pub, push_tru, push_user};
 use std::alloc::Global;
 use std::marker::{Brand, Model};
 use std::sync::ledger::{Blank, Ledger};
 use wot_fields::{Printed, Sink};
 use wot_levels::user_in;
+use wot_lines::{push_cert, push_fpr, push_pub, push_tru, push_user};
 use wot_live::{Engine, Letters};
 use wot_print_laws::printed_reads_back;
 use wot_table::{BlockOrder, Keyblock};

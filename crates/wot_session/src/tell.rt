@@ -10,7 +10,8 @@ ghost use Rattle.wot_session.specs.Ready.{text_of};
 use crate::ready::Ready;
 use std::convert::Infallible;
 use wot_fields::Sink;
-use wot_print::{OK_LINE, Printout};
+use wot_lines::OK_LINE;
+use wot_print::Printout;
 use wot_site::{Failed, Site};
 use wot_tell::{Teller, tell_all};
 

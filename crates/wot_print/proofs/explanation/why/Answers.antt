@@ -1,5 +1,5 @@
 use Rattle.std.proofs.Common.{rules, ◌≡◌, ℕ, List, IfOk, subst, ◌∙◌}
-use Rattle.wot_print.specs.Shown.{told_text}
+use Rattle.wot_print.specs.ToldText.{told_text}
 use Rattle.wot_print.proofs.Explaining.{why_is}
 use Rattle.wot_print.proofs.explanation.why.Goals as goal
 

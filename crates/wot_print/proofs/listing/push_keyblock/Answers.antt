@@ -5,7 +5,7 @@ use Rattle.wot_types.specs.Levels.{rows_of}
 use Rattle.wot_types.specs.Ownertrust.{ownertrust_of}
 use Rattle.wot_types.specs.Printing.{fpr_line, pub_line, user_lines}
 use Rattle.wot_types.specs.Selection.{spots_from}
-use Rattle.wot_print.specs.Shown.{shown_key}
+use Rattle.wot_lines.specs.Shown.{shown_key}
 use Rattle.wot_print.proofs.Shown.{pub_shown}
 use Rattle.wot_print.proofs.listing.push_keyblock.Goals as goal
 

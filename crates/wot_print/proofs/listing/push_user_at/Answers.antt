@@ -12,8 +12,8 @@ use Rattle.wot_table.specs.Heads.{IsUserHead}
 use Rattle.wot_levels.proofs.HeadLemmas.{if_there}
 use Rattle.wot_live.proofs.KeyWalks.{letter_found}
 use Rattle.wot_print_laws.specs.Fits.{FitsCert}
-use Rattle.wot_print.specs.Shown.{shown_user}
-use Rattle.wot_print.proofs.Pieces.{with_certs, without_certs}
+use Rattle.wot_lines.specs.Shown.{shown_user}
+use Rattle.wot_print.proofs.Certified.{with_certs, without_certs}
 use Rattle.wot_print.proofs.Room.{room_at}
 use Rattle.wot_print.proofs.Shown.{user_shown}
 use Rattle.wot_print.proofs.Spots.{placed_all, placed_at, placed_lines}
