@@ -1,6 +1,7 @@
 //! Pages as they are read: their contents, and the seals that stand in them.
 
-ghost use Rattle.std.specs.Prelude.{◌≡◌, ◌+◌, ◌*◌, ◌<◌, ◌≤◌, [], ◌∷◌, ◌++◌, length, take, drop, IfOk, OnErr, IsErrOf};
+ghost use Rattle.std.specs.Prelude.{◌≡◌, ◌+◌, ◌*◌, ◌<◌, ◌≤◌, [], ◌∷◌, ◌++◌, length, take, drop, IfOk, OnOk, OnErr, IsErrOf};
+ghost use Rattle.wot_site.specs.Reading.{IsRange, IsShort};
 ghost use Rattle.wot_site.specs.Seen.{Honestly};
 ghost use Rattle.wot_site.specs.Site.{FailsOnlyBy, Stays};
 ghost use Rattle.wot_types.specs.PagePlaces.{content_size, most_side, page_place, page_size};
@@ -9,7 +10,7 @@ ghost use Rattle.wot_pages.specs.Reading.{ReadsSealed};
 use crate::page::{CONTENT, FIRST, PAGE};
 use crate::reading::PagesError;
 use std::alloc::{AllocError, Global};
-use wot_site::{RangeError, Side, Site, read_range};
+use wot_site::{Failed, Side, Site};
 
 /// The contents of pages in order, and their seals.
 #[derive(Drop)]
@@ -66,16 +67,49 @@ pub fn read_sealed<S: Site>(
         Ok(sealed) => sealed,
         Err(AllocError) => return Err(PagesError::Memory),
     };
+    let mut page = [0u8; PAGE];
     for k in 0..pages {
-        let page = match read_range(alloc, site, side, FIRST + PAGE as u64 * k, PAGE) {
-            Ok(page) => page,
-            Err(RangeError::DiskFault) => return Err(PagesError::DiskFault),
-            Err(RangeError::Short) => return Ok(sealed),
-            Err(RangeError::Memory) => return Err(PagesError::Memory),
-        };
+        match read_page(site, side, FIRST + PAGE as u64 * k, &mut page) {
+            Ok(()) => {}
+            Err(PageError::DiskFault) => return Err(PagesError::DiskFault),
+            Err(PageError::Short) => return Ok(sealed),
+        }
         if sealed.push(&page).is_err() {
             return Err(PagesError::Memory);
         }
     }
     Ok(sealed)
+}
+
+/// Why a page could not be read.
+#[derive(Clone, Copy, Debug)]
+enum PageError {
+    DiskFault,
+    /// The side ends before its last byte.
+    Short,
+}
+
+/// Reads the bytes of a page from a place of the side on.
+fn read_page<S: Site>(
+    site: &mut S,
+    side: Side,
+    at: u64,
+    page: &mut [u8; 4096],
+) -> Result<(), PageError>
+    requires { at + page_size ≤ most_side }
+    ensures range { OnOk result (Honestly (S.seen site.old) (S.seen site.new) (IsRange side at page_size page.new)) }
+    ensures long { length page.new ≡ page_size }
+    ensures stays { OnErr result (Honestly (S.seen site.old) (S.seen site.new) Stays) }
+    ensures short { IsErrOf result PageError.Short → Honestly (S.seen site.old) (S.seen site.new) (IsShort side at page_size) }
+    ensures cause { FailsOnlyBy PageError.DiskFault (S.faults site.old) (S.faults site.new) result }
+{
+    let mut filled = 0;
+    while filled < PAGE {
+        match site.read(side, at + filled as u64, &mut page[filled..]) {
+            Ok(0) => return Err(PageError::Short),
+            Ok(n) => filled += n,
+            Err(Failed) => return Err(PageError::DiskFault),
+        }
+    }
+    Ok(())
 }
