@@ -161,7 +161,8 @@ def table(title, columns, rows):
     """Prints a table."""
     print(f"\n**{title}**\n\n| {' | '.join(columns)} |\n|{'---|' * len(columns)}")
     for row in rows:
-        print(f"| {' | '.join(str(cell) for cell in row)} |")
+        cells = [str(cell).replace("|", r"\|") for cell in row]
+        print(f"| {' | '.join(cells)} |")
     sys.stdout.flush()
 
 
